@@ -9,3 +9,6 @@ pub struct Locutus(pub u32);
 
 // A word's place in a publisher's BIN.
 pub struct BinWord(pub u32);
+
+// The number of a page in its chapter, 0 to 15.
+pub struct Page(pub u8);
