@@ -7,3 +7,4 @@ pub mod Counts
 pub mod Rows
 pub mod Stands
 pub mod Wrote
+pub mod Same

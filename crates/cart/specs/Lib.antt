@@ -1,0 +1,5 @@
+pub mod Machine
+pub mod Run
+pub mod MachineLaws
+pub mod RunLaws
+pub mod Same
