@@ -1,0 +1,2 @@
+-- Laws that the loops of the sums keep.
+pub mod Laws

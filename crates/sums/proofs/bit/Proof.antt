@@ -1,0 +1,21 @@
+-- `sums::bit` meets its contract: its test is the definition's; an even sum has 0 added.
+use mathlib.Core.Path.{_≡_, sym, ap, _∙_}
+use Prim.Native.Nat.{ℕ, _/_}
+use mathlib.Core.Bool.{Bool, cond}
+use lib.Bits.{bitXor, xor-zero-r}
+use lib.Dec.{eqb}
+use Rattle.words.specs.Tests.{tests}
+use Rattle.sums.specs.Crc.{crcBit}
+use Rattle.sums.proofs.bit.Statement.{statement}
+use Rattle.sums.proofs.bit.Tie as tie
+
+returns : tie.Need-returns
+unfolding crcBit
+returns c = search tests
+
+returns-2 : tie.Need-returns-2
+unfolding crcBit
+returns-2 c = search (tests, xor-zero-r)
+
+pub bit-spec : {M : Type 1} → statement M
+bit-spec = tie.close (tie.spec returns returns-2)

@@ -1,0 +1,31 @@
+-- `sums::bits` meets its contract. The invariant: x is what k bits make of c.
+use borrow.Author.Needs.{needs}
+use mathlib.Core.Path.{_≡_, refl, ap, _∙_}
+use Prim.Native.Nat.{ℕ, _-_, _≤_}
+use native.Mathlib.Omega.{arith}
+use Rattle.sums.specs.Crc.{crcBits}
+use Rattle.sums.specs.CrcLaws.{bits-next}
+use Rattle.sums.proofs.bits.Statement.{statement}
+use Rattle.sums.proofs.bits.Tie as tie
+
+abbrev Inv-loop : tie.InvT-loop
+Inv-loop p c x₀ k₀ x k = (k ≤ 8) × (x ≡ crcBits p k c)
+
+abbrev μ-loop : tie.MeasureT-loop
+μ-loop p c x₀ k₀ x k = 8 - k
+
+loop-holds : tie.Need-loop-holds Inv-loop μ-loop
+unfolding crcBits
+loop-holds c = (search needs, refl)
+
+loop-again : tie.Need-loop-again Inv-loop μ-loop
+loop-again c =
+    (search needs, bits-next (c .before .before .before .args .p) (c .before .before .loop .k) (c .before .before .loop .x) (c .before .before .before .args .c) (c .bit .result) (c .before .before .loop .inv .1) (c .bit .ensures))
+
+returns : tie.Need-returns Inv-loop μ-loop
+returns c =
+    let k : c .before .loop .k ≡ 8 = omega arith in
+    c .before .loop .inv .1 ∙ ap (λ (n : ℕ). crcBits (c .before .before .args .p) n (c .before .before .args .c)) k
+
+pub bits-spec : {M : Type 1} → statement M
+bits-spec = tie.close (tie.spec Inv-loop μ-loop loop-holds (λ c κs. search needs) (λ c. search needs) (λ c. search needs) loop-again returns)
