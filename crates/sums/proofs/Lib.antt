@@ -1,2 +1,3 @@
--- Laws that the loops of the sums keep.
+-- Laws that the loops keep, and that each promise allows one answer.
 pub mod Laws
+pub mod Same

@@ -65,20 +65,16 @@ eightAt s i =
 
 drop-eight : (s : List ℕ) (i j : ℕ) → i + 8 ≤ length s → j ≡ i + 8 → drop i s ≡ eightAt s i ++ drop j s
 drop-eight s i j h e =
-    drop-one s i (i + 1) (omega arith) (omega arith)
-    ∙ ap {B = List ℕ} (λ r. getD s i 0 ∷ r)
-    (drop-one s (i + 1) (i + 2) (omega arith) (omega arith)
-    ∙ ap {B = List ℕ} (λ r. getD s (i + 1) 0 ∷ r)
-    (drop-one s (i + 2) (i + 3) (omega arith) (omega arith)
-    ∙ ap {B = List ℕ} (λ r. getD s (i + 2) 0 ∷ r)
-    (drop-one s (i + 3) (i + 4) (omega arith) (omega arith)
-    ∙ ap {B = List ℕ} (λ r. getD s (i + 3) 0 ∷ r)
-    (drop-one s (i + 4) (i + 5) (omega arith) (omega arith)
-    ∙ ap {B = List ℕ} (λ r. getD s (i + 4) 0 ∷ r)
-    (drop-one s (i + 5) (i + 6) (omega arith) (omega arith)
-    ∙ ap {B = List ℕ} (λ r. getD s (i + 5) 0 ∷ r)
-    (drop-one s (i + 6) (i + 7) (omega arith) (omega arith)
-    ∙ ap {B = List ℕ} (λ r. getD s (i + 6) 0 ∷ r) (drop-one s (i + 7) j (omega arith) (omega arith))))))))
+    rw (
+      drop-one s i (i + 1) (omega arith) (omega arith),
+      drop-one s (i + 1) (i + 2) (omega arith) (omega arith),
+      drop-one s (i + 2) (i + 3) (omega arith) (omega arith),
+      drop-one s (i + 3) (i + 4) (omega arith) (omega arith),
+      drop-one s (i + 4) (i + 5) (omega arith) (omega arith),
+      drop-one s (i + 5) (i + 6) (omega arith) (omega arith),
+      drop-one s (i + 6) (i + 7) (omega arith) (omega arith),
+      drop-one s (i + 7) j (omega arith) (omega arith),
+    )
 
 -- eight bytes: what they make of c, and what follows makes of that
 module _ (p : ℕ) (hp : p < 2 ^ 32) (s : List ℕ) (hs : Bytes s) where
@@ -97,7 +93,7 @@ module _ (p : ℕ) (hp : p < 2 ^ 32) (s : List ℕ) (hs : Bytes s) where
 
   eight-lt : (c i : ℕ) → byEight (tablesOf p) c s i < 2 ^ 32
   unfolding byEight
-  eight-lt c i = 
+  eight-lt c i =
       xor-lt 32 _ _ (picked-lt 7 _ _ (lit< tt)) (xor-lt 32 _ _ (picked-lt 6 _ _ (lit< tt)) (xor-lt 32 _ _ (picked-lt 5 _ _ (lit< tt))
       (xor-lt 32 _ _ (picked-lt 4 _ _ (lit< tt)) (xor-lt 32 _ _ (picked-lt 3 _ _ (lit< tt)) (xor-lt 32 _ _ (picked-lt 2 _ _ (lit< tt))
       (xor-lt 32 _ _ (picked-lt 1 _ _ (lit< tt)) (picked-lt 0 _ _ (lit< tt))))))))

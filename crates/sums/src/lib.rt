@@ -8,7 +8,9 @@ ghost use Rattle.sums.specs.Tables.{entryOf, tablesOf, entryAt, byBytes,
 
 // The polynomials.
 pub const DOW: u32 = 0x98;
+
 pub const C324: u32 = 0x82F6_3B78;
+
 pub const IEEE: u32 = 0xEDB8_8320;
 
 // One bit.

@@ -1,22 +1,14 @@
+-- `sums::crc32` meets its contract: it lends CRC32's own tables.
 use borrow.Author.Needs.{needs}
+use denote.Ref.{now}
+use Rattle.sums.specs.TablesLaws.{ieee-by}
 use Rattle.sums.proofs.crc32.Statement.{statement}
 use Rattle.sums.proofs.crc32.Tie as tie
-use Rattle.sums.proofs.crc32.Reads as reads
-use Rattle.sums.proofs.crc32.Lts as lts
-use Rattle.sums.proofs.sum_by.Reads as sum-by-reads
-use Rattle.sums.proofs.tables.Reads as tables-reads
 
--- src/lib.rt:134:13
-tables-requires : tie.Need-tables-requires
-tables-requires c κs = search needs
-
--- src/lib.rt:135:5
-sum-by-requires : tie.Need-sum-by-requires
-sum-by-requires c κs = search needs
-
--- src/lib.rt:131:1
 returns : tie.Need-returns
-returns c = ?
+returns c = rw (c .sum-by .ensures)
+    (ieee-by _ (now (c .before .before .before .before .args .s)) (c .before .before .tables .ensures)
+    (λ i. c .before .before .before .shared-slice-known .given i .fits))
 
 pub crc32-spec : {M : Type 1} → statement M
-crc32-spec = tie.close (tie.spec tables-requires sum-by-requires returns)
+crc32-spec = tie.close (tie.spec (λ c κs. search needs) (λ c κs. search needs) returns)

@@ -1,22 +1,16 @@
+-- `sums::crc324` meets its contract: it lends CRC32/4's own tables.
 use borrow.Author.Needs.{needs}
+use mathlib.Core.Path.{_∙_}
+use denote.Ref.{now}
+use Rattle.sums.specs.TablesLaws.{c324-by}
 use Rattle.sums.proofs.crc324.Statement.{statement}
 use Rattle.sums.proofs.crc324.Tie as tie
-use Rattle.sums.proofs.crc324.Reads as reads
-use Rattle.sums.proofs.crc324.Lts as lts
-use Rattle.sums.proofs.sum_by.Reads as sum-by-reads
-use Rattle.sums.proofs.tables.Reads as tables-reads
 
--- src/lib.rt:127:13
-tables-requires : tie.Need-tables-requires
-tables-requires c κs = search needs
-
--- src/lib.rt:128:5
-sum-by-requires : tie.Need-sum-by-requires
-sum-by-requires c κs = search needs
-
--- src/lib.rt:124:1
 returns : tie.Need-returns
-returns c = ?
+returns c =
+    c .sum-by .ensures
+    ∙ c324-by _ (now (c .before .before .before .before .args .s)) (c .before .before .tables .ensures)
+    (λ i. c .before .before .before .shared-slice-known .given i .fits)
 
 pub crc324-spec : {M : Type 1} → statement M
-crc324-spec = tie.close (tie.spec tables-requires sum-by-requires returns)
+crc324-spec = tie.close (tie.spec (λ c κs. search needs) (λ c κs. search needs) returns)

@@ -38,10 +38,11 @@ loop-less c = search needs
 
 loop-again : tie.Need-loop-again Inv-loop μ-loop
 loop-again c =
-    let i = c .before .before .loop .i in
-    (search needs,
-    filled-more 0 2048 (entryOf (c .before .before .before .args .p)) i (c .bits .result) (c .before .before .loop .t) (c .before .before .loop .inv .1) (search needs)
-    (c .bits .ensures ∙ entry-first (c .before .before .before .args .p) i (search needs)))
+    let i = c .before .before .loop .i in (
+      search needs,
+      filled-more 0 2048 (entryOf (c .before .before .before .args .p)) i (c .bits .result) (c .before .before .loop .t) (c .before .before .loop .inv .1) (search needs)
+          (c .bits .ensures ∙ entry-first (c .before .before .before .args .p) i (search needs)),
+    )
 
 returns : tie.Need-returns Inv-loop μ-loop
 returns c =

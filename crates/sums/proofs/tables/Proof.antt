@@ -56,10 +56,14 @@ loop-again c =
     let i = c .before .loop .i in
     let t = c .before .loop .t in
     let x = getD t (i - 256) 0 in
-    let f : Filled 0 2048 (entryOf (c .before .before .before .args .p)) i t = c .before .loop .inv .1 .1 in
-    (search needs, (search needs,
-    filled-more 0 2048 (entryOf (c .before .before .before .args .p)) i _ t f (search needs)
-    (entry-next (c .before .before .before .args .p) i x (getD t (x % 256) 0) (search needs) (f .each (i - 256) (search needs)) (f .each (x % 256) (omega arith)))))
+    let f : Filled 0 2048 (entryOf (c .before .before .before .args .p)) i t = c .before .loop .inv .1 .1 in (
+      search needs,
+      (
+        search needs,
+        filled-more 0 2048 (entryOf (c .before .before .before .args .p)) i _ t f (search needs)
+            (entry-next (c .before .before .before .args .p) i x (getD t (x % 256) 0) (search needs) (f .each (i - 256) (search needs)) (f .each (x % 256) (omega arith))),
+      ),
+    )
 
 returns : tie.Need-returns Inv-loop μ-loop
 unfolding tablesOf
