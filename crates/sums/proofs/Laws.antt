@@ -1,12 +1,30 @@
--- What one turn of a loop over lent tables does: eight bytes more, or one.
-use Prim.Native.Nat.{ℕ, _+_, _*_, _/_, _<_, _≤_}
-use mathlib.Core.Path.{_≡_, refl, sym, ap, _∙_}
+-- What one turn of each loop does: one entry more of the tables; eight bytes more of a sum, or one.
+use Prim.Native.Nat.{ℕ, _+_, _-_, _*_, _/_, _%_, _<_, _≤_}
+use mathlib.Core.Path.{_≡_, sym, ap, _∙_}
 use mathlib.Core.List.{List}
 use native.Mathlib.Numerals.{add-one}
-use lib.ListN.{length, getD, drop, drop-of-length-le}
+use native.Mathlib.Omega.{arith}
+use lib.ListN.{length, getD, set, drop, drop-of-length-le}
 use lib.Seq.{drop-cons}
 use lib.Bits.{bitXor}
-use Rattle.sums.specs.Tables.{entryAt, byBytes, byEight, byEights}
+use Rattle.words.specs.Tables.{Filled, filled-more}
+use Rattle.sums.specs.Crc.{crcBits}
+use Rattle.sums.specs.Tables.{entryOf, entryAt, byBytes, byEight, byEights}
+use Rattle.sums.specs.TablesLaws.{entry-first, entry-next}
+
+-- the first i entries of the tables of p stand in t
+abbrev pub Tabled : ℕ → ℕ → List ℕ → Type 0
+Tabled p i t = Filled 0 2048 (entryOf p) i t
+
+module _ (p i : ℕ) (t : List ℕ) (h : Tabled p i t) where
+  pub first-next : (v : ℕ) → i < 256 → v ≡ crcBits p 8 i → Tabled p (i + 1) (set t i v)
+  first-next v l e = filled-more 0 2048 (entryOf p) i v t h (omega arith) (e ∙ entry-first p i l)
+
+  pub tables-next : 256 ≤ i → i < 2048 → Tabled p (i + 1) (set t i (bitXor (getD t (i - 256) 0 / 256) (getD t (getD t (i - 256) 0 % 256) 0)))
+  tables-next l m =
+      let x = getD t (i - 256) 0 in
+      filled-more 0 2048 (entryOf p) i _ t h m
+      (entry-next p i x (getD t (x % 256) 0) l (h .each (i - 256) (omega arith)) (h .each (x % 256) (omega arith)))
 
 module _ (t : List ℕ) (c : ℕ) (s : List ℕ) where
   pub eights-next : (n x y : ℕ) → x ≡ byEights t c s n → y ≡ byEight t x s (8 * n) → y ≡ byEights t c s (n + 1)
@@ -16,9 +34,7 @@ module _ (t : List ℕ) (c : ℕ) (s : List ℕ) where
   pub bytes-next : (i x y : ℕ) → i < length s → byBytes t x (drop i s) ≡ byBytes t c s → y ≡ entryAt t 0 x (getD s i 0)
       → byBytes t (bitXor (x / 256) y) (drop (i + 1) s) ≡ byBytes t c s
   unfolding byBytes
-  bytes-next i x y h e f =
-      rw (f, add-one)
-      (sym (ap (byBytes t x) (drop-cons s i 0 h)) ∙ e)
+  bytes-next i x y h e f = rw (f, add-one) (sym (ap (byBytes t x) (drop-cons s i 0 h)) ∙ e)
 
   pub bytes-end : (i x : ℕ) → length s ≤ i → byBytes t x (drop i s) ≡ byBytes t c s → x ≡ byBytes t c s
   unfolding byBytes

@@ -1,9 +1,5 @@
 -- `sums::bit` meets its contract: its test is the definition's; an even sum has 0 added.
-use mathlib.Core.Path.{_≡_, sym, ap, _∙_}
-use Prim.Native.Nat.{ℕ, _/_}
-use mathlib.Core.Bool.{Bool, cond}
-use lib.Bits.{bitXor, xor-zero-r}
-use lib.Dec.{eqb}
+use lib.Bits.{xor-zero-r}
 use Rattle.words.specs.Tests.{tests}
 use Rattle.sums.specs.Crc.{crcBit}
 use Rattle.sums.proofs.bit.Statement.{statement}

@@ -1,7 +1,7 @@
 -- `sums::bits` meets its contract. The invariant: x is what k bits make of c.
 use borrow.Author.Needs.{needs}
-use mathlib.Core.Path.{_≡_, refl, ap, _∙_}
-use Prim.Native.Nat.{ℕ, _-_, _≤_}
+use mathlib.Core.Path.{_≡_, refl}
+use Prim.Native.Nat.{_-_, _≤_}
 use native.Mathlib.Omega.{arith}
 use Rattle.sums.specs.Crc.{crcBits}
 use Rattle.sums.specs.CrcLaws.{bits-next}
@@ -18,14 +18,10 @@ loop-holds : tie.Need-loop-holds Inv-loop μ-loop
 unfolding crcBits
 loop-holds c = (search needs, refl)
 
-loop-again : tie.Need-loop-again Inv-loop μ-loop
-loop-again c =
-    (search needs, bits-next (c .before .before .before .args .p) (c .before .before .loop .k) (c .before .before .loop .x) (c .before .before .before .args .c) (c .bit .result) (c .before .before .loop .inv .1) (c .bit .ensures))
-
 returns : tie.Need-returns Inv-loop μ-loop
 returns c =
     let k : c .before .loop .k ≡ 8 = omega arith in
-    c .before .loop .inv .1 ∙ ap (λ (n : ℕ). crcBits (c .before .before .args .p) n (c .before .before .args .c)) k
+    rw k at (c .before .loop .inv .1)
 
 pub bits-spec : {M : Type 1} → statement M
-bits-spec = tie.close (tie.spec Inv-loop μ-loop loop-holds (λ c κs. search needs) (λ c. search needs) (λ c. search needs) loop-again returns)
+bits-spec = tie.close (tie.spec Inv-loop μ-loop loop-holds (λ c κs. search needs) (λ c. search needs) (λ c. search needs) (λ c. search (needs, bits-next)) returns)

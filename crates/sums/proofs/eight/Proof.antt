@@ -1,6 +1,5 @@
 -- `sums::eight` meets its contract: eight entries, each as `entry` answers it.
 use borrow.Author.Needs.{needs}
-use mathlib.Core.Path.{refl}
 use Rattle.sums.specs.Tables.{entryAt, byEight}
 use Rattle.sums.proofs.eight.Statement.{statement}
 use Rattle.sums.proofs.eight.Tie as tie
