@@ -1,12 +1,22 @@
 -- `sums::eight` meets its contract: eight entries, each as `entry` answers it.
 use borrow.Author.Needs.{needs}
-use Rattle.sums.specs.Tables.{entryAt, byEight}
+use Rattle.sums.specs.Tables.{byEight}
 use Rattle.sums.proofs.eight.Statement.{statement}
 use Rattle.sums.proofs.eight.Tie as tie
 
 returns : tie.Need-returns
-unfolding byEight entryAt
-returns c = cc
+unfolding byEight
+returns c =
+    rw (
+      c .entry8 .ensures,
+      c .before .before .entry7 .ensures,
+      c .before .before .before .before .entry6 .ensures,
+      c .before .before .before .before .before .before .entry5 .ensures,
+      c .before .before .before .before .before .before .before .before .entry4 .ensures,
+      c .before .before .before .before .before .before .before .before .before .before .entry3 .ensures,
+      c .before .before .before .before .before .before .before .before .before .before .before .before .entry2 .ensures,
+      c .before .before .before .before .before .before .before .before .before .before .before .before .before .before .entry .ensures,
+    )
 
 pub eight-spec : {M : Type 1} → statement M
 eight-spec =
