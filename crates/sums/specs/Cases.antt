@@ -5,10 +5,10 @@ use mathlib.Core.List.{List, [], _∷_, map}
 use lib.ListN.{replicate}
 use Rattle.sums.specs.Crc.{crcBit, crcBits, crcByte, crcFrom, dowcrcOf, crc324Of, crc32Of}
 
-abbrev upTo15 : List ℕ
+abbrev pub upTo15 : List ℕ
 upTo15 = 0 ∷ 1 ∷ 2 ∷ 3 ∷ 4 ∷ 5 ∷ 6 ∷ 7 ∷ 8 ∷ 9 ∷ 10 ∷ 11 ∷ 12 ∷ 13 ∷ 14 ∷ 15 ∷ []
 
-abbrev four : List ℕ
+abbrev pub four : List ℕ
 four = 0x4A ∷ 0x5A ∷ 0x6A ∷ 0x7A ∷ []
 
 -- DOWCRC, CRC32/4 and CRC32 of some bytes

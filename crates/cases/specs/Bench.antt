@@ -1,0 +1,47 @@
+-- The bench cases marked (P), of the definitions that the promises use, as one table under one statement (01, Bench cases).
+use Prim.Native.Nat.{ℕ}
+use mathlib.Core.Path.{_≡_, refl}
+use mathlib.Core.Bool.{true}
+use Rattle.sums.specs.Cases.{upTo15, four}
+use Rattle.sums.specs.Crc.{crcBit, crcBits, crcByte, crcFrom, dowcrcOf, crc32Of}
+use Rattle.places.specs.declared.Console.{Console}
+use Rattle.cart.specs.declared.Request.the-variants.{Entry, Nothing}
+use Rattle.cart.specs.Machine.{flipMapping, flipPermissions, locate, storedWord, asks}
+
+abbrev pub at : ℕ → Console
+at a = record { 0 = a }
+
+pub record Bench : Type 0 where
+  -- 1. DOWCRC
+  pub dowcrc-16 : dowcrcOf upTo15 ≡ 0x00
+  pub dowcrc-4 : dowcrcOf four ≡ 0xB8
+  -- 2. CRC32 of the same two
+  pub crc32-16 : crc32Of upTo15 ≡ 0xCECE_E288
+  pub crc32-4 : crc32Of four ≡ 0x9B04_D72C
+  -- 3. flip entry 0x123D at k = 10, and a location
+  pub flip-mapping : flipMapping 0x123D 10 ≡ 0x123A
+  pub flip-permissions : flipPermissions 0x123D 10 ≡ 5
+  pub flip-location : locate 0x123A (at 0x34) .0 ≡ 0x23A34
+  -- 4. a narrow write
+  pub narrow : storedWord true 0x12FF 0xABCD ≡ 0x12CD
+  -- 5. page requests
+  pub asks-83 : asks (at 0x5FFF) 0x5A53 ≡ Entry 83
+  pub asks-elsewhere : asks (at 0x5FFF) 0x6A53 ≡ Nothing
+  pub asks-beside : asks (at 0x5FFE) 0x5A53 ≡ Nothing
+
+pub bench : Bench
+unfolding crcFrom crcByte crcBits crcBit asks
+bench =
+    record {
+      dowcrc-16 = refl;
+      dowcrc-4 = refl;
+      crc32-16 = refl;
+      crc32-4 = refl;
+      flip-mapping = refl;
+      flip-permissions = refl;
+      flip-location = refl;
+      narrow = refl;
+      asks-83 = refl;
+      asks-elsewhere = refl;
+      asks-beside = refl;
+    }
