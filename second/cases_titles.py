@@ -1,0 +1,125 @@
+"""Cases on titles: build, cfg and bus (README.md, Families)."""
+
+from pathlib import Path
+from typing import Iterator
+
+from builder import build, checked_entries, make_image, paragraphs_of, lay_out
+from cases_images import Case
+from generator import Generator, fill_bytes, fill_words
+from load import load
+from machine import Machine
+from plain import PlainCartridge
+from play import play_machine, play_plain
+from records import Record, digest, digest_words
+from titles import BAD_LINES, Title, random_accesses, random_title, spoil
+
+MOST_LENGTH = 634_921
+BUFFER_SEED = 17
+
+
+def ram_lines(count: int) -> str:
+    """Give so many RAM entries, one a paragraph, from $5000 on (READINGS C12)."""
+    return "".join(f"${256 * p:X}-${256 * p + 255:X}=RAM 8|" for p in range(0x50, 0x50 + count))
+
+
+def page_lines(count: int) -> str:
+    """Give so many PAGE entries, from $5000 PAGE 0 on (READINGS B3, B8)."""
+    return "|".join(f"${n:X}-${n + 4095:X}=${5 + n // 16:X}000 PAGE {n % 16:X}" for n in range(count))
+
+
+def cfg_edges() -> Iterator[tuple[str, Title]]:
+    """Read the edges of cfg_edges.txt (READINGS C1 to C19, B1 to B8)."""
+    lines = (Path(__file__).parent / "cfg_edges.txt").read_text().split("\n")
+    for line in lines[1:-1]:
+        label, words, text = line.split(" / ", 2)
+        for sign, meant in (("@64@", ram_lines(64)), ("@65@", ram_lines(65)),
+                            ("@61@", page_lines(61)), ("@pages@", page_lines(16))):
+            text = text.replace(sign, meant)
+        cfg = text.replace("|", "\n").encode().decode("unicode_escape").encode("latin-1")
+        yield label, Title(2 * int(words), 1 + int(words) % 7, [], cfg)
+
+
+def size_edges() -> Iterator[tuple[str, Title]]:
+    """Give the limits of BIN and CFG, and 21 before 22 (01, refusals 21 and 22; READINGS C1)."""
+    good = b"[mapping]\n$0-$FF=$5000\n"
+    for length in (16_383, 16_384, 16_385, 20_000):
+        for end in (b"", b"\x80", b"x"):
+            cfg = good.ljust(length - len(end)) + end
+            yield f"C1 {length} bytes, ends {end!r}", Title(512, 3, [], cfg)
+    for length in (0, 1, 2, 510, 511, 512, 513, 524_287, 524_288, 524_289, 524_290):
+        for cfg in (good, b"\x00", b"x", b""):
+            yield f"21 BIN of {length} bytes, CFG {cfg[:2]!r}", Title(length, 3, [], cfg)
+
+
+def build_record(title: Title, buffer_length: int) -> tuple[int, bytes]:
+    """Build, and record inputs and answers (README.md, build)."""
+    buffer = bytearray(fill_bytes(buffer_length, 0, BUFFER_SEED))
+    answer = build(title.bin_file(), title.cfg, buffer)
+    record = Record().fill(title.bin_file(), 0, title.bin_seed).fill(title.cfg, 0x20)
+    record.number(4, buffer_length, BUFFER_SEED).number(1, answer.number)
+    record.number(4, answer.place, answer.length, answer.needed, digest(buffer))
+    return answer.number, record.finished()
+
+
+def image_length(title: Title) -> int:
+    """Give the length of a title's image, 0 if 21 to 28 refuse it (01, refusal 29)."""
+    return build(title.bin_file(), title.cfg, bytearray()).length
+
+
+def cfg_cases(g: Generator) -> Iterator[Case]:
+    """Give every edge, every bad line in both sections, and random 22, 23 and 24."""
+    for edges in (cfg_edges(), size_edges()):
+        for label, title in edges:
+            yield (label, *build_record(title, image_length(title)))
+    for line in BAD_LINES:
+        for section in ("mapping", "memattr"):
+            cfg = f"[mapping]\n$0-$FF=$7000\n[{section}]\n{line}\n$0-$FF=$7000\n"
+            yield (f"C5 {line}", *build_record(Title(8192, 3, [], cfg.encode()), 2000))
+    for _ in range(400):
+        title = random_title(g, 2)
+        numbers = g.pick([[22], [23], [23], [24], [22, 23], [23, 24], [22, 24], [22, 23, 24]])
+        spoil(g, title, numbers)
+        yield (f"faults {numbers}", *build_record(title, g.pick([0, 100])))
+
+
+def build_cases(g: Generator) -> Iterator[Case]:
+    """Give random titles: good ones, short buffers, one fault, several faults (01, Build order)."""
+    for which in range(1000):
+        title = random_title(g, 14 if which % 40 == 0 else g.pick([1, 2, 3]))
+        numbers = [g.pick([21, 25, 25, 26, 26, 27, 27, 28, 28]) for _ in range(g.pick([0, 0, 1, 1, 2, 3]))]
+        if numbers and g.one_in(6):
+            numbers.append(g.between(22, 24))
+        if numbers:
+            spoil(g, title, numbers)
+        length = image_length(title)
+        spare = g.pick([-length, -1, -g.below(length + 1), 0, 0, 1, 300])
+        yield (f"faults {sorted(numbers)}", *build_record(title, max(length + spare, 0)))
+
+
+def bus_case(g: Generator, title: Title, count: int) -> Case:
+    """Play a built title as the plain cartridge and as the machine (01, The plain cartridge)."""
+    entries = checked_entries(title.bin_file(), title.cfg)
+    layout = lay_out(entries)
+    ends = [4096 * layout[(p >> 4, entry.page)] + 256 * (p % 16) + 256
+            for entry in entries for p in paragraphs_of(entry)]
+    ram_length = g.pick([max(ends), 4096 * len(layout), 4096 * len(layout) + g.below(300)])
+    ram_seed = g.between(1, 9)
+    ram = list(fill_words(ram_length, ram_seed))
+    loaded = load(make_image(title.bin_file(), title.cfg, entries), ram)
+    accesses = random_accesses(g, [entry.chapter for entry in entries], count)
+    answers = play_plain(PlainCartridge(title.bin_file(), entries), accesses)
+    machine = Machine(loaded.tables)
+    if loaded.number or play_machine(machine, ram, accesses) != answers:
+        raise SystemExit("make_vectors: the machine does not play as the plain cartridge")
+    record = Record().fill(title.bin_file(), 0, title.bin_seed).fill(title.cfg, 0x20)
+    record.number(4, ram_length, ram_seed).accesses(accesses, answers).number(4, digest_words(ram))
+    return f"{len(layout)} pages", 0, record.finished()
+
+
+def bus_cases(g: Generator) -> Iterator[Case]:
+    """Give every edge that builds, then random titles (01, The plain cartridge)."""
+    for label, title in cfg_edges():
+        if image_length(title):
+            yield (label, *bus_case(g, title, 60)[1:])
+    for which in range(250):
+        yield bus_case(g, random_title(g, 14 if which % 10 == 0 else 3), 200)

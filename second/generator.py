@@ -1,0 +1,64 @@
+"""The one generator behind every fill and every choice: 32-bit xorshift (README.md, Fills)."""
+
+from functools import lru_cache
+from typing import Sequence, TypeVar
+
+ONES = 0xFFFFFFFF
+T = TypeVar("T")
+
+
+class Generator:
+    """A 32-bit state; seed 0 stays 0 for ever."""
+
+    def __init__(self, seed: int) -> None:
+        self.state = seed
+
+    def step(self) -> int:
+        """Move to the next state and give it: left 13, right 17, left 5."""
+        state = self.state
+        state ^= state << 13 & ONES
+        state ^= state >> 17
+        state ^= state << 5 & ONES
+        self.state = state
+        return state
+
+    def below(self, bound: int) -> int:
+        """Choose a number below the bound."""
+        return (self.step() >> 8) % bound
+
+    def between(self, first: int, last: int) -> int:
+        """Choose a number from first to last."""
+        return first + self.below(last - first + 1)
+
+    def pick(self, choices: Sequence[T]) -> T:
+        """Choose one of the choices."""
+        return choices[self.below(len(choices))]
+
+    def one_in(self, number: int) -> bool:
+        """Say yes once in so many times."""
+        return self.below(number) == 0
+
+    def shuffled(self, things: Sequence[T]) -> list[T]:
+        """Give the things in some order."""
+        rest, order = list(things), []
+        while rest:
+            order.append(rest.pop(self.below(len(rest))))
+        return order
+
+
+@lru_cache(maxsize=32)
+def fill_bytes(length: int, base: int, seed: int) -> bytes:
+    """Give so many bytes: the low 8 bits of each state, XOR the base."""
+    generator = Generator(seed)
+    if seed == 0:
+        return bytes([base]) * length
+    return bytes(generator.step() & 0xFF ^ base for _ in range(length))
+
+
+@lru_cache(maxsize=32)
+def fill_words(length: int, seed: int) -> tuple[int, ...]:
+    """Give so many words: the low 16 bits of each state."""
+    generator = Generator(seed)
+    if seed == 0:
+        return (0,) * length
+    return tuple(generator.step() & 0xFFFF for _ in range(length))

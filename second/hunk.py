@@ -1,0 +1,92 @@
+"""Data hunks: a 24-bit word address and packed data blocks (001, Block Type 0x02)."""
+
+from typing import Optional
+
+MOST_8, MOST_10, MOST_16 = 0x3F, 0xBF - 0x3F, 0xFD - 0xBF
+
+
+def word_at(data: bytes, place: int) -> int:
+    """Read a 16-bit word, low byte first (01, File layout)."""
+    return data[place] | data[place + 1] << 8
+
+
+def block_size(start: int) -> Optional[int]:
+    """Give a data block's size by its start byte, none if reserved (001, Data Hunk)."""
+    if 0x01 <= start <= 0x3F:
+        return 2 + start
+    if 0x40 <= start <= 0xBF:
+        n = start - 0x3F
+        return 2 + ((n + 2) >> 2) + n
+    if 0xC0 <= start <= 0xFD:
+        return 1 + 2 * (start - 0xBF)
+    return None
+
+
+def decles(packets: bytes) -> list[int]:
+    """Unpack packets of one byte of MSBs and up to four bytes of LSBs (001, 10-bit Data Block)."""
+    found = []
+    for first in range(0, len(packets), 5):
+        msbs = packets[first]
+        for which, lsbs in enumerate(packets[first + 1:first + 5]):
+            found.append((msbs >> (6 - 2 * which) & 3) << 8 | lsbs)
+    return found
+
+
+def decode_block(block: bytes) -> list[int]:
+    """Give the words of one whole data block (001, Data Hunk)."""
+    start, body = block[0], block[1:]
+    if start >= 0xC0:
+        return [word_at(body, place) for place in range(0, len(body), 2)]
+    narrow = body[:-2]
+    words = list(narrow) if start < 0x40 else decles(narrow)
+    return words + [word_at(body, len(body) - 2)]
+
+
+def decode(payload: bytes) -> Optional[tuple[int, list[int]]]:
+    """Give address and words, or none if cut or reserved (01, refusal 9; READINGS L10)."""
+    if len(payload) < 3:
+        return None
+    address = payload[0] | payload[1] << 8 | payload[2] << 16
+    words: list[int] = []
+    place = 3
+    while place < len(payload):
+        size = block_size(payload[place])
+        if size is None or place + size > len(payload):
+            return None
+        words += decode_block(payload[place:place + size])
+        place += size
+    return address, words
+
+
+def le16(words: list[int]) -> bytes:
+    """Write words low byte first (01, File layout)."""
+    return b"".join(word.to_bytes(2, "little") for word in words)
+
+
+def block_8(words: list[int]) -> bytes:
+    """Pack 1 to 63 words, all but the last below 256 (001, 8-bit Data Block)."""
+    return bytes([len(words)]) + bytes(words[:-1]) + le16(words[-1:])
+
+
+def block_10(words: list[int], spare: int = 0) -> bytes:
+    """Pack 1 to 128 words, all but the last below 1024 (001, 10-bit Data Block)."""
+    packed = bytearray([len(words) + 0x3F])
+    for first in range(0, len(words) - 1, 4):
+        four = words[first:min(first + 4, len(words) - 1)]
+        msbs = spare & (0xFF >> 2 * len(four))
+        for which, word in enumerate(four):
+            msbs |= (word >> 8) << (6 - 2 * which)
+        packed.append(msbs)
+        packed += bytes(word & 0xFF for word in four)
+    return bytes(packed) + le16(words[-1:])
+
+
+def block_16(words: list[int]) -> bytes:
+    """Pack 1 to 62 words (001, 16-bit Data Block)."""
+    return bytes([len(words) + 0xBF]) + le16(words)
+
+
+def encode_16(address: int, words: list[int]) -> bytes:
+    """Write a hunk in the longest 16-bit data blocks (01, How an image is laid out)."""
+    parts = [words[first:first + MOST_16] for first in range(0, len(words), MOST_16)]
+    return address.to_bytes(3, "little") + b"".join(block_16(part) for part in parts)

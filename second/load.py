@@ -1,0 +1,126 @@
+"""Loading a version 1 image into a lent RAM (01, File layout and refusals 1 to 10)."""
+
+from dataclasses import dataclass, field
+from typing import Iterator, MutableSequence
+
+import hunk
+from checksums import crc32_4, dowcrc
+from refusal import Refused
+from tables import TABLES_SIZE, Tables, read_tables, unsupported
+
+HEADER = 32
+IMAGE_LIMIT = 1_048_576
+LOCUTUS_WORDS = 524_288
+MAGIC = b"\x4C\x54\x4F"
+ENDED, ENCRYPTED, TABLES, DATA_HUNK = 0xFF, 0x00, 0x01, 0x02
+
+
+@dataclass
+class Loaded:
+    """What a load answers; a refusal leaves all but number and place at zero (01)."""
+
+    number: int = 0
+    place: int = 0
+    blocks: int = 0
+    words: int = 0
+    fields: tuple[int, ...] = (0, 0, 0, 0, 0)
+    tables: Tables = field(default_factory=Tables)
+
+
+@dataclass
+class Block:
+    """A block whose header is whole and right and whose payload is all there (01, 5)."""
+
+    start: int
+    kind: int
+    checksum: int
+    payload: bytes
+
+
+def lent(ram: MutableSequence[int]) -> int:
+    """Count the words that count as lent (01, The machine)."""
+    return min(len(ram), LOCUTUS_WORDS)
+
+
+def check_header(image: bytes) -> None:
+    """Ask 1 to 4, in this order (01, Load order)."""
+    if len(image) < HEADER or len(image) > IMAGE_LIMIT:
+        raise Refused(1, 0)
+    if image[0:3] != MAGIC:
+        raise Refused(2, 0)
+    if image[3] != 1:
+        raise Refused(3, 0)
+    if dowcrc(image[0:31]) != image[31]:
+        raise Refused(4, 0)
+
+
+def blocks_of(image: bytes) -> Iterator[Block]:
+    """Step over the blocks up to 0xFF or the end, asking 5 of each (01, refusal 5)."""
+    start = HEADER
+    while start < len(image) and image[start] != ENDED:
+        if len(image) - start < 8 or dowcrc(image[start:start + 3]) != image[start + 3]:
+            raise Refused(5, start)
+        end = start + 8 + hunk.word_at(image, start + 1)
+        if end > len(image):
+            raise Refused(5, start)
+        checksum = int.from_bytes(image[start + 4:start + 8], "little")
+        yield Block(start, image[start], checksum, image[start + 8:end])
+        start = end
+
+
+def check_payload(block: Block) -> None:
+    """Ask 7, then 6 of types 1 and 2 only (01, Load order)."""
+    if block.kind == ENCRYPTED:
+        raise Refused(7, block.start)
+    if block.kind in (TABLES, DATA_HUNK) and crc32_4(block.payload) != block.checksum:
+        raise Refused(6, block.start)
+
+
+def decode_hunk(block: Block, words_lent: int) -> tuple[int, list[int]]:
+    """Give a hunk's address and words, each inside the lent RAM (01, refusal 9)."""
+    decoded = hunk.decode(block.payload)
+    if decoded is None:
+        raise Refused(9, block.start)
+    address, words = decoded
+    if words and address + len(words) > words_lent:
+        raise Refused(9, block.start)
+    return address, words
+
+
+def compatibility(flags: bytes) -> tuple[int, ...]:
+    """Give the five two-bit fields (01, File layout; READINGS S4)."""
+    bits = int.from_bytes(flags, "little")
+    return tuple(bits >> first & 3 for first in (0, 2, 4, 6, 10))
+
+
+def accept(image: bytes, ram: MutableSequence[int]) -> Loaded:
+    """Ask everything, and only then store the hunks in file order (01, Load order)."""
+    check_header(image)
+    found, hunks, blocks = None, [], 0
+    for block in blocks_of(image):
+        check_payload(block)
+        if block.kind == TABLES:
+            if len(block.payload) != TABLES_SIZE or found is not None:
+                raise Refused(8, block.start)
+            found = read_tables(block.payload)
+        if block.kind == DATA_HUNK:
+            hunks.append(decode_hunk(block, lent(ram)))
+        blocks += 1
+    if found is None:
+        raise Refused(8, len(image))
+    flags = image[4:20]
+    if unsupported(flags, found):
+        raise Refused(10, 0)
+    for address, words in hunks:
+        for place, word in enumerate(words):
+            ram[address + place] = word
+    stored = sum(len(words) for _, words in hunks)
+    return Loaded(0, 0, blocks, stored, compatibility(flags), found)
+
+
+def load(image: bytes, ram: MutableSequence[int]) -> Loaded:
+    """Load the image, or answer number and place with the RAM untouched (01)."""
+    try:
+        return accept(image, ram)
+    except Refused as refused:
+        return Loaded(refused.number, refused.place)

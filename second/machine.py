@@ -1,0 +1,78 @@
+"""The machine that answers console accesses (01, The machine)."""
+
+from typing import MutableSequence, Optional
+
+from load import LOCUTUS_WORDS, lent
+from tables import NARROW, PFE, READ, WRITE, Tables
+
+SILENT = ((0x0000, 0x04FF), (0x1000, 0x1FFF), (0x3000, 0x3FFF))
+
+
+def silent(address: int) -> bool:
+    """Tell whether reads of the address are never answered (01, The machine)."""
+    return any(first <= address <= last for first, last in SILENT)
+
+
+def asked_entry(address: int, value: int) -> Optional[int]:
+    """Give the flip entry that a write asks for, if any (01, The machine)."""
+    chapter = address >> 12
+    if address & 0xFFF == 0xFFF and value & 0xFFF0 == chapter << 12 | 0xA50:
+        return 16 * chapter + value % 16
+    return None
+
+
+def flipped(entry: int, k: int) -> tuple[int, int]:
+    """Give mapping and permissions of a chapter's paragraph k (01, The machine)."""
+    return (entry & 0xFFF0) + k, entry & 7
+
+
+def stored(old: int, value: int, narrow: bool) -> int:
+    """Give the word after a write (01, The machine: NARROW)."""
+    return old & 0xFF00 | value & 0x00FF if narrow else value
+
+
+class Machine:
+    """Initial and active mapping and permissions, and the one flip table (01, The machine)."""
+
+    def __init__(self, tables: Tables) -> None:
+        self.initial = tables
+        self.reset()
+
+    def reset(self) -> None:
+        """Copy initial mapping and permissions to active (01, The machine)."""
+        self.mapping = list(self.initial.mapping)
+        self.permissions = list(self.initial.permissions)
+
+    def location(self, address: int) -> int:
+        """Give the Locutus address of a console address (01, The machine)."""
+        return (self.mapping[address >> 8] * 256 + address % 256) % LOCUTUS_WORDS
+
+    def read(self, ram: MutableSequence[int], address: int) -> Optional[int]:
+        """Give the word read, or none for silence (01, The machine)."""
+        location = self.location(address)
+        readable = self.permissions[address >> 8] & READ
+        if readable and location < lent(ram) and not silent(address):
+            return ram[location]
+        return None
+
+    def acts(self, entry: Optional[int]) -> bool:
+        """Tell whether a page request acts (01, The machine)."""
+        return entry is not None and entry >= 32 and self.initial.flips[entry] & PFE != 0
+
+    def write(self, ram: MutableSequence[int], address: int, value: int) -> None:
+        """Flip a page or store a word, never both (01, The machine; READINGS M1, M2)."""
+        entry = asked_entry(address, value)
+        if entry is not None and self.acts(entry):
+            self.flip(entry)
+            return
+        location, permissions = self.location(address), self.permissions[address >> 8]
+        if permissions & WRITE and location < lent(ram):
+            ram[location] = stored(ram[location], value, permissions & NARROW != 0)
+
+    def flip(self, entry: int) -> None:
+        """Give the chapter's paragraphs their new mapping and permissions (01, The machine)."""
+        chapter = entry // 16
+        for k in range(8 if chapter == 4 else 0, 16):
+            mapping, permissions = flipped(self.initial.flips[entry], k)
+            self.mapping[16 * chapter + k] = mapping
+            self.permissions[16 * chapter + k] = permissions

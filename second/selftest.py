@@ -1,0 +1,143 @@
+"""The self-test: 001's vectors, 01's bench cases, and random titles and images against each other."""
+
+import zlib
+from typing import Iterator
+
+import hunk
+from builder import build, checked_entries, make_image
+from card import card
+from checksums import CRC32, CRC32_4, DOWCRC, ONES, bit_by_bit, crc32, crc32_4, dowcrc, run
+from encode import random_draft
+from generator import Generator, fill_bytes, fill_words
+from load import load
+from machine import Machine, asked_entry, flipped, stored
+from plain import PlainCartridge
+from play import play_machine, play_plain
+from titles import random_accesses, random_title
+from writer import write
+
+Check = tuple[str, bool]
+RISING, FOUR = bytes(range(16)), bytes.fromhex("4A5A6A7A")
+VECTORS = [
+    (RISING, 0x00, 0x9BB99201, 0xCECEE288),
+    (FOUR, 0xB8, 0x02CB247E, 0x9B04D72C),
+    (bytes(8), 0x00, 0x00000000, 0x6522DF69),
+    (b"\xFF" * 8, 0x84, 0xC44FF94D, 0x2144DF1C),
+]
+EXAMPLE = """46 92 40 00 40 40 60 01 B8 5F 7A 41 80 40 FF 7F 44 12 04 54 42 BC 40 80 41 80 B9 4F 1F
+ 50 10 04 54 46 02 66 C0 40 2E 40 44 02 04 54 30 04 01 04 54 51 A8 56 45 1C 04 50 66 00 80 20 09 00"""
+EXAMPLE_WORDS = """0240 0100 0040 0240 0101 02B8 7A5F 0240 7FFF 0004 0154 0042 02BC 8040 02B9 1F4F 0004 0154
+ 0046 0002 01C0 0240 012E 0240 0102 0004 0154 0030 0001 0004 0154 0051 56A8 0004 0150 0366 0000 0220 0009"""
+
+
+def check_sums() -> Iterator[Check]:
+    """Run 001's twelve vectors, and bytes at a time against bit by bit (001, Test vectors)."""
+    for data, short, four, ieee in VECTORS:
+        yield "DOWCRC vector", dowcrc(data) == short
+        yield "CRC32/4 vector", crc32_4(data) == four
+        yield "CRC32 vector", crc32(data) == ieee
+    for length in range(64):
+        data = fill_bytes(length, 0, length + 1)
+        for polynomial, start in ((DOWCRC, 0), (CRC32_4, 0), (CRC32, ONES)):
+            yield "bit by bit", run(polynomial, start, data) == bit_by_bit(polynomial, start, data)
+        yield "zlib", crc32(data) == zlib.crc32(data)
+
+
+def check_hunks() -> Iterator[Check]:
+    """Decode and encode 001's example (001, Encoded Example; READINGS S1)."""
+    packed = bytes.fromhex(EXAMPLE)
+    words = [int(word, 16) for word in EXAMPLE_WORDS.split()]
+    yield "example decoded", hunk.decode(b"\x01\x02\x03" + packed) == (0x030201, words)
+    cuts = [7, 9, 14, 16, 33, 39]
+    parts = [words[first:last] for first, last in zip([0] + cuts, cuts)]
+    yield "example encoded", b"".join(hunk.block_10(part) for part in parts) == packed
+    for count in range(1, 129):
+        ten, eight = [n * 37 % 1024 for n in range(count)], list(range(count))
+        yield "10-bit", hunk.decode(bytes(3) + hunk.block_10(ten, 0xFF)) == (0, ten)
+        yield "8-bit", count > 63 or hunk.decode(bytes(3) + hunk.block_8(eight)) == (0, eight)
+
+
+def built(bin_length: int, text: str) -> tuple:
+    """Build lines after [mapping], and load the image (01, Bench cases 6 and 7)."""
+    buffer, ram = bytearray(700_000), [7] * 524_288
+    answer = build(fill_bytes(bin_length, 0, 5), b"[mapping]\n" + text.encode(), buffer)
+    return answer, load(bytes(buffer[:answer.length]), ram), ram
+
+
+def check_cases_1_to_5() -> Iterator[Check]:
+    """Run the cases on sums, flips and narrow writes (01, Bench cases)."""
+    yield "case 1", (dowcrc(RISING), dowcrc(FOUR)) == (0x00, 0xB8)
+    yield "case 2", (crc32(RISING), crc32(FOUR)) == (0xCECEE288, 0x9B04D72C)
+    yield "case 3", flipped(0x123D, 10) == (0x123A, 5) and (0x123A * 256 + 0x34) % 2**19 == 0x23A34
+    yield "case 4", stored(0x12FF, 0xABCD, True) == 0x12CD
+    yield "case 5", asked_entry(0x5FFF, 0x5A53) == 83
+    yield "case 5", asked_entry(0x5FFF, 0x6A53) is None and asked_entry(0x5FFE, 0x5A53) is None
+
+
+def check_cases_6_to_8() -> Iterator[Check]:
+    """Run the cases on titles, and the card's on empty input (01, Bench cases)."""
+    answer, loaded, ram = built(512, "$0000 - $00FF = $5000")
+    tables = loaded.tables
+    yield "case 6", (answer.number, answer.needed) == (0, 4096)
+    yield "case 6", (tables.mapping[0x50], tables.permissions[0x50]) == (0, 1)
+    short = built(510, "$0000 - $00FF = $5000")[0]
+    yield "case 6", (short.number, short.place, short.length, short.needed) == (25, 2, 0, 0)
+    answer, loaded, ram = built(8192, "$0000 - $0FFF = $C000 PAGE 2")
+    yield "case 7", loaded.tables.flips[192:208] == [8, 8, 9] + [8] * 13
+    word = int.from_bytes(fill_bytes(8192, 0, 5)[:2], "big")
+    accesses = [(0, 0xC000, 0), (1, 0xCFFF, 0xCA52), (0, 0xC000, 0), (2, 0, 0), (0, 0xC000, 0)]
+    answers = play_machine(Machine(loaded.tables), ram, accesses)
+    yield "case 7", answers == [None, None, word, None, None]
+    lines = [f"${256 * p:X}-${256 * p + 255:X}=RAM 8\n" for p in range(0x50, 0x91)]
+    yield "case 8", built(2, "[memattr]\n" + "".join(lines[:64]))[0].number == 0
+    answer = built(2, "[memattr]\n" + "".join(lines))[0]
+    yield "case 8", (answer.number, answer.place) == (24, 67)
+    yield "card", card(b"") == "result=refused\ncode=1\nat=0\n"
+
+
+def check_titles(g: Generator, rounds: int) -> Iterator[Check]:
+    """Play built and loaded titles beside the plain cartridge (01, The plain cartridge)."""
+    for _ in range(rounds):
+        title = random_title(g, g.pick([1, 2, 3, 14]))
+        entries = checked_entries(title.bin_file(), title.cfg)
+        image = make_image(title.bin_file(), title.cfg, entries)
+        ram = list(fill_words(524_288, 9))
+        loaded = load(image, ram)
+        yield "title loads", loaded.number == 0 and loaded.words == 256 * (loaded.blocks - 1)
+        accesses = random_accesses(g, [entry.chapter for entry in entries], 400)
+        expected = play_plain(PlainCartridge(title.bin_file(), entries), accesses)
+        yield "title plays", play_machine(Machine(loaded.tables), ram, accesses) == expected
+
+
+def check_round_trips(g: Generator, rounds: int) -> Iterator[Check]:
+    """Write what was loaded and load it again (01, The plain writer)."""
+    for _ in range(rounds):
+        size = g.pick([0, 1, 256, 1000, 2048])
+        ram = list(fill_words(size, g.between(1, 9)))
+        image = random_draft(g, size).encoded()
+        loaded = load(image, ram)
+        yield "draft loads", loaded.number == 0
+        buffer = bytearray(1321 + 528 * 8 + 3)
+        marks = [p < size // 256 for p in range(2048)]
+        written = write(image[4:20], image[20:28], loaded.tables, ram, marks, buffer)
+        other = [0] * size
+        again = load(bytes(buffer[:written.length]), other)
+        yield "written loads", (again.number, again.words) == (0, size // 256 * 256)
+        yield "same tables", (again.tables, again.fields) == (loaded.tables, loaded.fields)
+        yield "same words", other[:again.words] == ram[:again.words]
+
+
+def main() -> None:
+    """Run every check, and say how many there were (01, Bench cases)."""
+    g, ran = Generator(2019), 0
+    for checks in (check_sums(), check_hunks(), check_cases_1_to_5(), check_cases_6_to_8(),
+                   check_titles(g, 200), check_round_trips(g, 500)):
+        for name, passed in checks:
+            ran += 1
+            if not passed:
+                raise SystemExit(f"self-test: {name} fails (check {ran})")
+    print(f"self-test: all {ran} checks pass")
+
+
+if __name__ == "__main__":
+    main()

@@ -1,0 +1,45 @@
+"""The three tables of block type 0x01 (01, File layout)."""
+
+from dataclasses import dataclass, field
+
+from hunk import le16, word_at
+
+TABLES_SIZE = 1280
+READ, WRITE, NARROW, BANKSW = 1, 2, 4, 8
+PFE = 8
+
+
+def zeros() -> list[int]:
+    """Give 256 entries of 0 (01, Numbers that come back: all else zero)."""
+    return [0] * 256
+
+
+@dataclass
+class Tables:
+    """Mapping by paragraph, permissions by paragraph, flips by chapter and page (01)."""
+
+    mapping: list[int] = field(default_factory=zeros)
+    permissions: list[int] = field(default_factory=zeros)
+    flips: list[int] = field(default_factory=zeros)
+
+    def payload(self) -> bytes:
+        """Lay the tables out as type 0x01 has them (01, File layout)."""
+        return le16(self.mapping) + bytes(self.permissions) + le16(self.flips)
+
+
+def read_tables(payload: bytes) -> Tables:
+    """Read the 1,280 bytes of type 0x01 (01, File layout)."""
+    return Tables(
+        [word_at(payload, 2 * entry) for entry in range(256)],
+        list(payload[512:768]),
+        [word_at(payload, 768 + 2 * entry) for entry in range(256)],
+    )
+
+
+def unsupported(flags: bytes, tables: Tables) -> bool:
+    """Tell whether flags or tables ask for what the base has not (01, refusal 10)."""
+    jlp = flags[2] & 3 != 0
+    mapper = flags[4] & 1 != 0
+    bankswitched = any(tables.permissions[p] & BANKSW for p in range(0, 256, 8))
+    chapter_1 = any(tables.flips[16 + page] & PFE for page in range(16))
+    return jlp or mapper or bankswitched or chapter_1

@@ -1,0 +1,67 @@
+"""The plain writer of images (01, How an image is laid out by the builder)."""
+
+from dataclasses import dataclass
+from typing import MutableSequence, Sequence
+
+from checksums import crc32_4, dowcrc
+from hunk import encode_16
+from load import DATA_HUNK, ENDED, IMAGE_LIMIT, MAGIC, TABLES, lent
+from refusal import Refused
+from tables import Tables, unsupported
+
+
+@dataclass
+class Written:
+    """What a write answers (01, Numbers that come back)."""
+
+    number: int = 0
+    place: int = 0
+    length: int = 0
+
+
+def header(flags: bytes, uid: bytes) -> bytes:
+    """Write the 32 bytes of the header (01, File layout)."""
+    summed = MAGIC + b"\x01" + flags + uid + bytes(3)
+    return summed + bytes([dowcrc(summed)])
+
+
+def block(kind: int, payload: bytes) -> bytes:
+    """Write a block's header and payload (001, Block Header)."""
+    summed = bytes([kind]) + len(payload).to_bytes(2, "little")
+    checksum = crc32_4(payload).to_bytes(4, "little")
+    return summed + bytes([dowcrc(summed)]) + checksum + payload
+
+
+def compose(flags: bytes, uid: bytes, tables: Tables, hunks: list[tuple[int, list[int]]]) -> bytes:
+    """Lay out header, tables, a hunk for each paragraph and 0xFF (01, How an image is laid out)."""
+    parts = [header(flags, uid), block(TABLES, tables.payload())]
+    for paragraph, words in hunks:
+        parts.append(block(DATA_HUNK, encode_16(paragraph * 256, words)))
+    return b"".join(parts) + bytes([ENDED])
+
+
+def put(image: bytes, buffer: bytearray) -> int:
+    """Write the image into a buffer that is long enough, else 29 (01, refusal 29)."""
+    if len(buffer) < len(image):
+        raise Refused(29, 0)
+    buffer[:len(image)] = image
+    return len(image)
+
+
+def write(flags: bytes, uid: bytes, tables: Tables, ram: MutableSequence[int],
+          marks: Sequence[bool], buffer: bytearray) -> Written:
+    """Write a hunk for each marked paragraph, refusing 10, 9, 1, 29 in order (01)."""
+    if unsupported(flags, tables):
+        return Written(10, 0)
+    marked = [paragraph for paragraph in range(2048) if marks[paragraph]]
+    for paragraph in marked:
+        if paragraph * 256 + 256 > lent(ram):
+            return Written(9, paragraph)
+    hunks = [(p, list(ram[p * 256:p * 256 + 256])) for p in marked]
+    image = compose(flags, uid, tables, hunks)
+    if len(image) > IMAGE_LIMIT:
+        return Written(1, 0)
+    try:
+        return Written(0, 0, put(image, buffer))
+    except Refused as refused:
+        return Written(refused.number, refused.place, len(image))
