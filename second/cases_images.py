@@ -3,17 +3,13 @@
 from typing import Iterator, Optional
 
 import hunk
-from card import card
-from checksums import crc32, crc32_4, dowcrc
 from encode import Draft, DraftBlock, damaged, hunk_block, random_draft, random_tables, spoil, tables_block
-from generator import Generator, fill_bytes, fill_words
-from load import IMAGE_LIMIT, load
-from machine import Machine
-from play import play_machine
-from records import Record, digest, digest_words
+from families import card_record, load_record, machine_record, sums_record, write_record
+from generator import Generator, fill_bytes
+from load import IMAGE_LIMIT
 from tables import Tables
 from titles import random_accesses
-from writer import compose, write
+from writer import compose
 
 Case = tuple[str, int, bytes]
 Image = tuple[str, bytes, int, int]
@@ -27,30 +23,29 @@ def sums_cases(g: Generator) -> Iterator[Case]:
     datas += [bytes(range(16)), bytes.fromhex("4A5A6A7A"), bytes(8), b"\xFF" * 8]
     datas += [fill_bytes(g.between(300, 70_000), 0, 77) for _ in range(20)]
     for data in datas:
-        record = Record().fill(data, 0, 77 if len(data) >= 300 else 0)
-        record.number(1, dowcrc(data)).number(4, crc32_4(data), crc32(data))
-        yield f"{len(data)} bytes", 0, record.finished()
+        yield (f"{len(data)} bytes", *sums_record(data, 77 if len(data) >= 300 else 0))
 
 
-def simple(*blocks: DraftBlock, tail: bytes = b"\xFF", bits: int = 0, tables: Optional[Tables] = None) -> bytes:
+def simple(*blocks: DraftBlock, tail: bytes = b"\xFF", bits: int = 0,
+           tables: Optional[Tables] = None) -> bytes:
     """Make an image of tables, then the blocks (01, File layout)."""
     first = tables_block(tables or Tables())
     return Draft([first, *blocks], flags=bits.to_bytes(16, "little"), tail=tail).encoded()
 
 
 def data_edges() -> Iterator[Image]:
-    """Give each start byte: whole, cut by one byte, in a RAM one word short (001, Data Hunk; L13, L14)."""
+    """Give each start byte: whole, cut by a byte, in a RAM a word short (001, Data Hunk; L13, L14)."""
     for start in range(256):
-        size = hunk.block_size(start) or 4
-        packed = bytes([start]) + fill_bytes(size - 1, 0, start + 1)
-        words = len((hunk.decode(bytes(3) + packed) or (0, []))[1])
-        yield f"start byte {start:#04x}", simple(hunk_block(5, packed)), 5 + words, 0
-        yield f"start byte {start:#04x} cut", simple(hunk_block(5, packed[:-1])), 200, 0
-        yield f"start byte {start:#04x} outside", simple(hunk_block(5, packed)), 4 + words, 0
+        for size in [hunk.block_size(start)] if hunk.block_size(start) else [1, 2, 3, 4, 127, 129, 195]:
+            packed = bytes([start]) + fill_bytes(size - 1, 0, start + 1)
+            words = len((hunk.decode(bytes(3) + packed) or (0, [0] * 70))[1])
+            yield f"start byte {start:#04x}, {size} bytes", simple(hunk_block(5, packed)), 5 + words, 0
+            yield f"start byte {start:#04x} cut", simple(hunk_block(5, packed[:-1])), 200, 0
+            yield f"start byte {start:#04x} outside", simple(hunk_block(5, packed)), 4 + words, 0
 
 
 def bit_edges() -> Iterator[Image]:
-    """Give each flag bit, BANKSW and PFE bit, and each block type (01, refusals 5 to 10; L6, L7, L17, L18)."""
+    """Give each flag bit, BANKSW bit, PFE bit and block type (01, refusals 5 to 10; L6, L7, L17, L18)."""
     for bit in range(128):
         yield f"L18 flag bit {bit}", simple(bits=1 << bit), 10, 0
     for entry in range(256):
@@ -69,13 +64,16 @@ def block_edges() -> Iterator[Image]:
     """Give the readings on blocks and their order (READINGS L2 to L10, L15, L16, L19)."""
     tables, word = tables_block(Tables()), hunk_block(1, hunk.block_16([7, 8]))
     short = DraftBlock(1, bytes(1279))
-    bad_short, bad_second = DraftBlock(1, bytes(9), 0, 0, 1), DraftBlock(1, bytes(1280), 0, 0, 1)
+    bad_short = DraftBlock(1, bytes(9), spoil_payload=1)
+    bad_second = DraftBlock(1, bytes(1280), spoil_payload=1)
     for length in range(33):
         for version in (0, 1):
-            yield f"L2 {length} bytes, version {version}", Draft([], version=version).encoded()[:length], 10, 0
+            image = Draft([], version=version).encoded()[:length]
+            yield f"L2 {length} bytes, version {version}", image, 10, 0
     for length in range(9):
         yield f"L3 {length} bytes left", simple(tail=word.encoded()[:length]), 10, 0
-        yield f"L3 0xFF and {length} bytes", simple(word, tail=b"\xFF" + tables.encoded()[:length]), 10, 0
+        after = b"\xFF" + tables.encoded()[:length]
+        yield f"L3 0xFF and {length} bytes", simple(word, tail=after), 10, 0
     for tail in (b"", b"\xFF", b"\xFF\x00\x01", b"\xFF" + tables.encoded()):
         yield "L5 no tables", Draft([word], tail=tail).encoded(), 10, 0
     yield "L4 tables and type 0 after 0xFF", simple(tail=b"\xFF" + tables.encoded() + bytes(8)), 10, 0
@@ -84,7 +82,9 @@ def block_edges() -> Iterator[Image]:
     yield "L9 wrong size first", Draft([short, tables]).encoded(), 10, 0
     for size in range(4):
         yield f"L10 payload of {size} bytes", simple(DraftBlock(2, b"\xFF" * size)), 0, 0
-    yield "L15 repeats counted", simple(word, word, DraftBlock(3, b"ab"), hunk_block(2, b"\x01\x05\x06")), 10, 3
+    later = hunk_block(2, b"\x01\x05\x06")
+    yield "L15 repeats counted, the later value holds", simple(word, later, DraftBlock(3, b"ab"), word), 10, 3
+    yield "L15 the later value holds", simple(word, later), 10, 3
     yield "L16 stored hunks before 10", simple(word, bits=1 << 16), 10, 3
     yield "L16 stored hunks before 9", simple(word, hunk_block(9, hunk.block_16([1, 2]))), 10, 3
     yield "L19 5 before 10", simple(word, DraftBlock(9, b"", 0, 1), bits=1 << 32), 10, 3
@@ -105,16 +105,6 @@ def large_edges() -> Iterator[Image]:
             yield f"L11 L12 word at {address:#x}", image, ram, 3
 
 
-def load_record(image: bytes, ram_length: int, ram_seed: int) -> tuple[int, bytes]:
-    """Load, and record image, RAM and answers (README.md, load)."""
-    ram = list(fill_words(ram_length, ram_seed))
-    answer = load(image, ram)
-    record = Record().fill(image).number(4, ram_length, ram_seed).number(1, answer.number)
-    record.number(4, answer.place, answer.blocks, answer.words).number(1, *answer.fields)
-    record.number(4, digest(answer.tables.payload()), digest_words(ram))
-    return answer.number, record.finished()
-
-
 def random_image(g: Generator, ram_length: int) -> tuple[str, bytes]:
     """Make an image: whole, with faults, or damaged (01, refusals 1 to 10)."""
     draft = random_draft(g, ram_length)
@@ -131,24 +121,23 @@ def load_cases(g: Generator) -> Iterator[Case]:
     """Give the edges, then random images (01, File layout)."""
     for edges in (data_edges(), bit_edges(), block_edges(), large_edges()):
         for label, image, ram_length, ram_seed in edges:
-            yield (label, *load_record(image, ram_length, ram_seed))
+            yield (label, *load_record(image, (ram_length, ram_seed)))
     for _ in range(1000):
         ram_length = g.pick(RAM_SIZES)
         label, image = random_image(g, ram_length)
-        yield (label, *load_record(image, ram_length, g.between(1, 9)))
+        yield (label, *load_record(image, (ram_length, g.between(1, 9))))
 
 
 def card_cases(g: Generator) -> Iterator[Case]:
     """Give images and the card's exact text (01, Bench cases; refusal 30)."""
     small = simple(hunk_block(16_383, hunk.block_16([7])))
-    images = [("empty", b""), ("K1 last word", small), ("K1 past RAM", simple(hunk_block(16_384, b"\x01\x05\x06")))]
-    images += [(f"K1 {length} bytes", small + bytes(length - len(small))) for length in (24_575, 24_576, 24_577)]
-    images += [("K1 30 before 1", bytes(1_048_577)), ("K1 30 before 2", bytes(24_577)), ("2", bytes(24_576))]
+    past = simple(hunk_block(16_384, b"\x01\x05\x06"))
+    images = [("empty", b""), ("K1 last word", small), ("K1 past RAM", past)]
+    images += [(f"K1 {size} bytes", small + bytes(size - len(small))) for size in (24_575, 24_576, 24_577)]
+    images += [(f"K1 {size} zero bytes", bytes(size)) for size in (24_576, 24_577, 1_048_577)]
     images += [random_image(g, 16_384) for _ in range(150)]
     for label, image in images:
-        text = card(image)
-        code = int(text.split("\n")[1][5:]) if "code" in text else 0
-        yield label, code, Record().fill(image).number(2, len(text)).raw(text.encode()).finished()
+        yield (label, *card_record(image))
 
 
 def machine_case(g: Generator, which: int) -> Case:
@@ -161,14 +150,8 @@ def machine_case(g: Generator, which: int) -> Case:
     if which % 50 == 0:
         ram_length = g.pick([524_287, 524_288, 524_300])
     image = compose(bytes(16), bytes(8), tables, [])
-    ram = list(fill_words(ram_length, ram_seed))
-    machine = Machine(load(image, ram).tables)
     accesses = random_accesses(g, [g.below(16), g.below(5)], 100)
-    answers = play_machine(machine, ram, accesses)
-    record = Record().fill(image).number(4, ram_length, ram_seed).accesses(accesses, answers)
-    active = Tables(machine.mapping, machine.permissions, tables.flips)
-    record.number(4, digest(active.payload()), digest_words(ram))
-    return f"RAM of {ram_length} words", 0, record.finished()
+    return (f"RAM of {ram_length} words", *machine_record(image, (ram_length, ram_seed), accesses))
 
 
 def machine_cases(g: Generator) -> Iterator[Case]:
@@ -177,35 +160,26 @@ def machine_cases(g: Generator) -> Iterator[Case]:
         yield machine_case(g, which)
 
 
-def write_record(flags: bytes, tables: Tables, ram: tuple[int, int], marks: set[int],
-                 buffer_length: int) -> tuple[int, bytes]:
-    """Write, and record inputs and answers; the UID follows from the RAM's seed (README.md, write)."""
-    uid, buffer_seed = fill_bytes(8, 0, ram[1] + 1), 13
-    buffer = bytearray(fill_bytes(buffer_length, 0, buffer_seed))
-    marked = [paragraph in marks for paragraph in range(2048)]
-    answer = write(flags, uid, tables, list(fill_words(*ram)), marked, buffer)
-    bits = sum(1 << paragraph for paragraph in marks).to_bytes(256, "little")
-    record = Record().raw(flags + uid).fill(tables.payload()).number(4, *ram).fill(bits)
-    record.number(4, buffer_length, buffer_seed).number(1, answer.number)
-    record.number(4, answer.place, answer.length, digest(buffer))
-    return answer.number, record.finished()
+def marks_of(paragraphs: set[int]) -> bytes:
+    """Write marks as 2,048 bits (README.md, write)."""
+    return sum(1 << paragraph for paragraph in paragraphs).to_bytes(256, "little")
 
 
 def write_edges() -> Iterator[Case]:
     """Give limits and the order 10, 9, 1, 29 (01, The plain writer; READINGS B7, L12)."""
-    none, jlp, whole = bytes(16), b"\x00\x00\x01" + bytes(13), (524_288, 3)
+    none, jlp, tables = bytes(24), b"\x00\x00\x01" + bytes(21), bytes(1280)
     for count in (1982, 1983, 1984, 2048):
-        for flags in (none, jlp):
-            for ram in (whole, (524_300, 3), (524_287, 3)):
-                marks = set(range(count - 1)) | {2047}
-                for spare in (0, -1):
-                    buffer = max(min(1321 + 528 * count + spare, 1_048_577), 0)
-                    label = f"{count} marks, RAM {ram[0]}, buffer {buffer}, flags {flags[2]}"
-                    yield (label, *write_record(flags, Tables(), ram, marks, buffer))
+        marks = marks_of(set(range(count - 1)) | {2047})
+        for head in (none, jlp):
+            for words in (524_287, 524_288, 524_300):
+                for buffer in (min(1321 + 528 * count, 1_048_577), 1320 + 528 * min(count, 1983), 0):
+                    label = f"{count} marks, RAM {words}, buffer {buffer}, JLP {head[2]}"
+                    yield (label, *write_record(head, tables, (words, 3), marks, (buffer, 13)))
     for words in (0, 255, 256, 511, 512):
-        for marks in (set(), {0}, {0, 1}, {1}, {1, 7}):
+        for few in (set(), {0}, {0, 1}, {1}, {1, 7}):
             for buffer in (0, 1320, 1321, 1849, 3000):
-                yield (f"RAM {words}, marks {marks}", *write_record(none, Tables(), (words, 5), marks, buffer))
+                label = f"RAM {words}, marks {few}, buffer {buffer}"
+                yield (label, *write_record(none, tables, (words, 5), marks_of(few), (buffer, 13)))
 
 
 def write_cases(g: Generator) -> Iterator[Case]:
@@ -217,7 +191,9 @@ def write_cases(g: Generator) -> Iterator[Case]:
         if g.one_in(5):
             tables.permissions[g.below(256)] |= 8
             tables.flips[g.below(64)] |= 8
-        flags = bytes([g.below(256), g.below(256), 4 * g.below(64) + g.one_in(9), 7, 2 * g.below(99)]) + bytes(11)
-        marks = {g.below(words // 256 + (1 if g.one_in(3) else 0)) for _ in range(g.below(12))}
-        buffer = 1321 + 528 * len(marks) + g.pick([-1400, -1, 0, 0, 1, 100])
-        yield ("random", *write_record(flags, tables, (words, g.between(1, 9)), marks, max(buffer, 0)))
+        head = bytes([g.below(256), g.below(256), 4 * g.below(64) + g.one_in(9), 7, 2 * g.below(99)])
+        head += bytes(11) + bytes(g.below(256) for _ in range(8))
+        few = {g.below(words // 256 + (1 if g.one_in(3) else 0)) for _ in range(g.below(12))}
+        buffer = max(1321 + 528 * len(few) + g.pick([-1400, -1, 0, 0, 1, 100]), 0)
+        ram = (words, g.between(1, 9))
+        yield ("random", *write_record(head, tables.payload(), ram, marks_of(few), (buffer, g.between(1, 9))))

@@ -3,17 +3,12 @@
 from pathlib import Path
 from typing import Iterator
 
-from builder import build, checked_entries, make_image, paragraphs_of, lay_out
+from builder import build, checked_entries, lay_out, paragraphs_of
 from cases_images import Case
-from generator import Generator, fill_bytes, fill_words
-from load import load
-from machine import Machine
-from plain import PlainCartridge
-from play import play_machine, play_plain
-from records import Record, digest, digest_words
+from families import build_record, bus_record
+from generator import Generator
 from titles import BAD_LINES, Title, random_accesses, random_title, spoil
 
-MOST_LENGTH = 634_921
 BUFFER_SEED = 17
 
 
@@ -51,16 +46,6 @@ def size_edges() -> Iterator[tuple[str, Title]]:
             yield f"21 BIN of {length} bytes, CFG {cfg[:2]!r}", Title(length, 3, [], cfg)
 
 
-def build_record(title: Title, buffer_length: int) -> tuple[int, bytes]:
-    """Build, and record inputs and answers (README.md, build)."""
-    buffer = bytearray(fill_bytes(buffer_length, 0, BUFFER_SEED))
-    answer = build(title.bin_file(), title.cfg, buffer)
-    record = Record().fill(title.bin_file(), 0, title.bin_seed).fill(title.cfg, 0x20)
-    record.number(4, buffer_length, BUFFER_SEED).number(1, answer.number)
-    record.number(4, answer.place, answer.length, answer.needed, digest(buffer))
-    return answer.number, record.finished()
-
-
 def image_length(title: Title) -> int:
     """Give the length of a title's image, 0 if 21 to 28 refuse it (01, refusal 29)."""
     return build(title.bin_file(), title.cfg, bytearray()).length
@@ -70,16 +55,16 @@ def cfg_cases(g: Generator) -> Iterator[Case]:
     """Give every edge, every bad line in both sections, and random 22, 23 and 24."""
     for edges in (cfg_edges(), size_edges()):
         for label, title in edges:
-            yield (label, *build_record(title, image_length(title)))
+            yield (label, *build_record(title, (image_length(title), BUFFER_SEED)))
     for line in BAD_LINES:
         for section in ("mapping", "memattr"):
             cfg = f"[mapping]\n$0-$FF=$7000\n[{section}]\n{line}\n$0-$FF=$7000\n"
-            yield (f"C5 {line}", *build_record(Title(8192, 3, [], cfg.encode()), 2000))
+            yield (f"C5 {line}", *build_record(Title(8192, 3, [], cfg.encode()), (2000, BUFFER_SEED)))
     for _ in range(400):
         title = random_title(g, 2)
         numbers = g.pick([[22], [23], [23], [24], [22, 23], [23, 24], [22, 24], [22, 23, 24]])
         spoil(g, title, numbers)
-        yield (f"faults {numbers}", *build_record(title, g.pick([0, 100])))
+        yield (f"faults {numbers}", *build_record(title, (g.pick([0, 100]), BUFFER_SEED)))
 
 
 def build_cases(g: Generator) -> Iterator[Case]:
@@ -93,7 +78,7 @@ def build_cases(g: Generator) -> Iterator[Case]:
             spoil(g, title, numbers)
         length = image_length(title)
         spare = g.pick([-length, -1, -g.below(length + 1), 0, 0, 1, 300])
-        yield (f"faults {sorted(numbers)}", *build_record(title, max(length + spare, 0)))
+        yield (f"faults {sorted(numbers)}", *build_record(title, (max(length + spare, 0), BUFFER_SEED)))
 
 
 def bus_case(g: Generator, title: Title, count: int) -> Case:
@@ -103,17 +88,8 @@ def bus_case(g: Generator, title: Title, count: int) -> Case:
     ends = [4096 * layout[(p >> 4, entry.page)] + 256 * (p % 16) + 256
             for entry in entries for p in paragraphs_of(entry)]
     ram_length = g.pick([max(ends), 4096 * len(layout), 4096 * len(layout) + g.below(300)])
-    ram_seed = g.between(1, 9)
-    ram = list(fill_words(ram_length, ram_seed))
-    loaded = load(make_image(title.bin_file(), title.cfg, entries), ram)
     accesses = random_accesses(g, [entry.chapter for entry in entries], count)
-    answers = play_plain(PlainCartridge(title.bin_file(), entries), accesses)
-    machine = Machine(loaded.tables)
-    if loaded.number or play_machine(machine, ram, accesses) != answers:
-        raise SystemExit("make_vectors: the machine does not play as the plain cartridge")
-    record = Record().fill(title.bin_file(), 0, title.bin_seed).fill(title.cfg, 0x20)
-    record.number(4, ram_length, ram_seed).accesses(accesses, answers).number(4, digest_words(ram))
-    return f"{len(layout)} pages", 0, record.finished()
+    return (f"{len(layout)} pages", *bus_record(title, (ram_length, g.between(1, 9)), accesses))
 
 
 def bus_cases(g: Generator) -> Iterator[Case]:

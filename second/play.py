@@ -1,6 +1,7 @@
-"""Lists of accesses, run on the plain cartridge or on the machine (01, The machine)."""
+"""Lists of accesses, run on whatever answers them (01, The machine)."""
 
-from typing import MutableSequence, Optional
+from functools import partial
+from typing import Callable, MutableSequence, Optional
 
 from machine import Machine
 from plain import PlainCartridge
@@ -9,25 +10,23 @@ from titles import READ_IT, RESET_IT, Access
 Answers = list[Optional[int]]
 
 
-def play_plain(cartridge: PlainCartridge, accesses: list[Access]) -> Answers:
-    """Answer each access as the plain cartridge; none is silence or no read (01)."""
+def play(read: Callable, write: Callable, reset: Callable, accesses: list[Access]) -> Answers:
+    """Make each access in turn; none is silence, or no read (01, The machine)."""
     answers: Answers = []
     for operation, address, value in accesses:
-        answers.append(cartridge.read(address) if operation == READ_IT else None)
+        answers.append(read(address) if operation == READ_IT else None)
         if operation == RESET_IT:
-            cartridge.reset()
+            reset()
         elif operation != READ_IT:
-            cartridge.write(address, value)
+            write(address, value)
     return answers
+
+
+def play_plain(cartridge: PlainCartridge, accesses: list[Access]) -> Answers:
+    """Answer as the plain cartridge (01, The plain cartridge)."""
+    return play(cartridge.read, cartridge.write, cartridge.reset, accesses)
 
 
 def play_machine(machine: Machine, ram: MutableSequence[int], accesses: list[Access]) -> Answers:
-    """Answer each access as the machine; none is silence or no read (01)."""
-    answers: Answers = []
-    for operation, address, value in accesses:
-        answers.append(machine.read(ram, address) if operation == READ_IT else None)
-        if operation == RESET_IT:
-            machine.reset()
-        elif operation != READ_IT:
-            machine.write(ram, address, value)
-    return answers
+    """Answer as the machine with its lent RAM (01, The machine)."""
+    return play(partial(machine.read, ram), partial(machine.write, ram), machine.reset, accesses)

@@ -1,0 +1,81 @@
+"""One record of each family, from its inputs alone (README.md, Families)."""
+
+from builder import build, checked_entries, make_image
+from card import card
+from checksums import crc32, crc32_4, dowcrc
+from generator import fill_bytes, fill_words
+from load import load
+from machine import Machine
+from plain import PlainCartridge
+from play import play_machine, play_plain
+from records import Record, digest, digest_words
+from tables import Tables, read_tables
+from titles import Access, Title
+from writer import write
+
+Answered = tuple[int, bytes]
+Filled = tuple[int, int]
+
+
+def sums_record(data: bytes, seed: int) -> Answered:
+    """Sum bytes three times (README.md, sums)."""
+    record = Record().fill(data, 0, seed).number(1, dowcrc(data)).number(4, crc32_4(data), crc32(data))
+    return 0, record.finished()
+
+
+def load_record(image: bytes, ram: Filled) -> Answered:
+    """Load an image (README.md, load)."""
+    words = list(fill_words(*ram))
+    answer = load(image, words)
+    record = Record().fill(image).number(4, *ram).number(1, answer.number)
+    record.number(4, answer.place, answer.blocks, answer.words).number(1, *answer.fields)
+    record.number(4, digest(answer.tables.payload()), digest_words(words))
+    return answer.number, record.finished()
+
+
+def card_record(image: bytes) -> Answered:
+    """Print an image's card (README.md, card)."""
+    text = card(image)
+    code = int(text.split("\n")[1][5:]) if "code" in text else 0
+    return code, Record().fill(image).number(2, len(text)).raw(text.encode()).finished()
+
+
+def machine_record(image: bytes, ram: Filled, accesses: list[Access]) -> Answered:
+    """Load an image and make accesses (README.md, machine)."""
+    words = list(fill_words(*ram))
+    machine = Machine(load(image, words).tables)
+    answers = play_machine(machine, words, accesses)
+    active = Tables(machine.mapping, machine.permissions, machine.initial.flips)
+    record = Record().fill(image).number(4, *ram).accesses(accesses, answers)
+    return 0, record.number(4, digest(active.payload()), digest_words(words)).finished()
+
+
+def write_record(head: bytes, tables: bytes, ram: Filled, marks: bytes, buffer: Filled) -> Answered:
+    """Write an image with head as flags and UID, and marks as bits (README.md, write)."""
+    out = bytearray(fill_bytes(buffer[0], 0, buffer[1]))
+    marked = [marks[paragraph // 8] >> paragraph % 8 & 1 == 1 for paragraph in range(2048)]
+    answer = write(head[:16], head[16:], read_tables(tables), list(fill_words(*ram)), marked, out)
+    record = Record().raw(head).fill(tables).number(4, *ram).fill(marks).number(4, *buffer)
+    record.number(1, answer.number).number(4, answer.place, answer.length, digest(out))
+    return answer.number, record.finished()
+
+
+def build_record(title: Title, buffer: Filled) -> Answered:
+    """Build a title (README.md, build)."""
+    out = bytearray(fill_bytes(buffer[0], 0, buffer[1]))
+    answer = build(title.bin_file(), title.cfg, out)
+    record = Record().fill(title.bin_file(), 0, title.bin_seed).fill(title.cfg, 0x20).number(4, *buffer)
+    record.number(1, answer.number).number(4, answer.place, answer.length, answer.needed, digest(out))
+    return answer.number, record.finished()
+
+
+def bus_record(title: Title, ram: Filled, accesses: list[Access]) -> Answered:
+    """Play a built title as the plain cartridge, and see the machine agree (README.md, bus)."""
+    entries = checked_entries(title.bin_file(), title.cfg)
+    words = list(fill_words(*ram))
+    loaded = load(make_image(title.bin_file(), title.cfg, entries), words)
+    answers = play_plain(PlainCartridge(title.bin_file(), entries), accesses)
+    if loaded.number or play_machine(Machine(loaded.tables), words, accesses) != answers:
+        raise SystemExit("the machine does not play as the plain cartridge")
+    record = Record().fill(title.bin_file(), 0, title.bin_seed).fill(title.cfg, 0x20).number(4, *ram)
+    return 0, record.accesses(accesses, answers).number(4, digest_words(words)).finished()
