@@ -1,8 +1,16 @@
--- A promise that is an equation determines the answer: any two answers that it allows are equal (01, What the promises rule out).
+-- What it means that a promise determines the answer (01, What the promises rule out). A promise is what a contract tells its
+-- callers of the arguments, the answer, and what is lent as it comes back: the `Learnt` that the check makes of it.
 use mathlib.Core.Path.{_≡_, sym, _∙_}
 
-abbrev pub Determined : {A : Type 0} → A → Type 0
-Determined {A = A} a = (x y : A) → x ≡ a → y ≡ a → x ≡ y
+-- for all arguments, two answers that the promise allows are one
+abbrev pub OneAnswer : {K : Type 0} {A R E : K → Type 0} → ((κs : K) → A κs → R κs → E κs → Type 0) → Type 0
+OneAnswer {K} {A} {R} {E} promise = (κs : K) (a : A κs) (y z : R κs) (e f : E κs) → promise κs a y e → promise κs a z f → y ≡ z
 
-pub determined : {A : Type 0} (a : A) → Determined a
-determined a x y e f = e ∙ sym f
+-- and so is what it leaves behind a `&mut`, which `lent` reads
+abbrev pub OneLent : {K : Type 0} {A R E : K → Type 0} {X : Type 0} → ((κs : K) → A κs → R κs → E κs → Type 0) → ((κs : K) → E κs → X) → Type 0
+OneLent {K} {A} {R} {E} promise lent =
+    (κs : K) (a : A κs) (y z : R κs) (e f : E κs) → promise κs a y e → promise κs a z f → lent κs e ≡ lent κs f
+
+-- an equation has one answer
+pub same : {A : Type 0} {x y z : A} → y ≡ x → z ≡ x → y ≡ z
+same p q = p ∙ sym q
