@@ -1,1 +1,5 @@
 pub mod Lines
+pub mod Limits
+pub mod Bin
+pub mod Typed
+pub mod LineLaws

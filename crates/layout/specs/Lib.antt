@@ -1,0 +1,9 @@
+-- The layout's definitions, then its laws.
+pub mod Nth
+pub mod Layout
+pub mod PlaceLaws
+pub mod UseLaws
+pub mod TableLaws
+pub mod ShowLaws
+pub mod Few
+pub mod Examples

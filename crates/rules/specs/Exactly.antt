@@ -1,0 +1,140 @@
+-- The rules refuse exactly when one of them is broken, with the number and place of the first that is; and in lines that they
+-- accept each word has one owner.
+use Prim.Native.Nat.{ℕ, zero, suc, _+_, _/_, _<_}
+use mathlib.Core.Path.{_≡_, refl, sym, ap, _∙_}
+use mathlib.Core.List.{List, [], _∷_, _++_, append-assoc}
+use mathlib.Core.Bool.{Bool, true, false, cond, _&&_}
+use mathlib.Core.Option.{none, some}
+use mathlib.Core.Logic.{_⊎_, inl, inr, _↔_}
+use native.Mathlib.Omega.{arith}
+use lib.ListN.{length, getD, length-append, List·getD-append}
+use lib.Dec.{eqb}
+use borrow.Author.Tests.{eq-eqb, ne-eqb, le-leb, eqb-true}
+use Rattle.words.specs.Tests.{cases, true-is-not-false, and-left, and-right, compare}
+use Rattle.words.specs.Tables.{made}
+use Rattle.words.specs.Rows.{Row, firstOf, Gives, here, later, Silent, gives-first, silent-first, first-by}
+use Rattle.lines.specs.declared.Entry.{Entry}
+use Rattle.lines.specs.declared.Line.{Line}
+use Rattle.lines.specs.Lines.{first, last, layer}
+use Rattle.lines.specs.LineLaws.{all-at, Within, within}
+use Rattle.rules.specs.Rules.{Verdict, passed, meets, shares, rival, breaksPlain, lineRows, shareRows, chapterRows, ruleRows, judgeOf}
+use Rattle.rules.specs.Accepted.{Accepted}
+use Rattle.rules.specs.Shapes.{Fine}
+use Rattle.rules.specs.RuleLaws.{Apart, done, next, Good, good, page-line, chapter-of, some-is-not-none}
+use Rattle.rules.specs.Owners.{there}
+
+-- every row refuses
+abbrev Refusing : List (Row Verdict) → Type 0
+Refusing [] = Unit {0}
+Refusing (r ∷ rs) = (0 < r .1 .0) × Refusing rs
+
+both : (rs qs : List (Row Verdict)) → Refusing rs → Refusing qs → Refusing (rs ++ qs)
+both [] qs r q = q
+both (x ∷ rs) qs r q = (r .0, both rs qs (r .1) q)
+
+line-rows : (words : ℕ) (lines : List Line) → Refusing (lineRows words lines)
+line-rows words [] = tt
+line-rows words (l ∷ ls) = (omega arith, (omega arith, line-rows words ls))
+
+share-rows : (earlier lines : List Line) → Refusing (shareRows earlier lines)
+share-rows earlier [] = tt
+share-rows earlier (l ∷ ls) = (omega arith, share-rows (earlier ++ (l ∷ [])) ls)
+
+chapter-rows : (f : ℕ → Bool) (i n : ℕ) → Refusing (made {A = Row Verdict} i n (λ x. (f x, (28, x))))
+unfolding made
+chapter-rows f i zero = tt
+chapter-rows f i (suc n) = (omega arith, chapter-rows f (suc i) n)
+
+rule-rows : (words : ℕ) (lines : List Line) → Refusing (ruleRows words lines)
+rule-rows words lines =
+    both (lineRows words lines) (shareRows [] lines ++ chapterRows lines) (line-rows words lines)
+    (both (shareRows [] lines) (chapterRows lines) (share-rows [] lines) (chapter-rows (breaksPlain lines) 0 16))
+
+gives-refuses : {rs : List (Row Verdict)} {v : Verdict} → Refusing rs → Gives rs v → 0 < v .0
+gives-refuses r (here e) = r .0
+gives-refuses r (later e g) = gives-refuses (r .1) g
+
+module _ (words : ℕ) (lines : List Line) where
+  -- refused with a number and a place exactly when that row holds and none before it does
+  pub refused-exactly : (v : Verdict) → 0 < v .0 → (judgeOf words lines ≡ v) ↔ Gives (ruleRows words lines) v
+  unfolding judgeOf
+  refused-exactly v h = ((λ e. by e (first-by (ruleRows words lines) passed)), gives-first passed)
+    where
+      by : firstOf (ruleRows words lines) passed ≡ v →
+          (Gives (ruleRows words lines) (firstOf (ruleRows words lines) passed)) ⊎ (Silent (ruleRows words lines)) →
+          Gives (ruleRows words lines) v
+      by e (inl g) = rw e at g
+      by e (inr s) =
+          let z : passed ≡ v = sym (silent-first passed s) ∙ e in
+          let n : 0 ≡ v .0 = ap (λ (w : Verdict). w .0) z in
+          absurd (omega arith)
+
+  -- accepted exactly when no row holds
+  pub accepted-exactly : (judgeOf words lines ≡ passed) ↔ Silent (ruleRows words lines)
+  unfolding judgeOf
+  accepted-exactly = ((λ e. by e (first-by (ruleRows words lines) passed)), silent-first passed)
+    where
+      by : firstOf (ruleRows words lines) passed ≡ passed →
+          (Gives (ruleRows words lines) (firstOf (ruleRows words lines) passed)) ⊎ (Silent (ruleRows words lines)) →
+          Silent (ruleRows words lines)
+      by e (inl g) =
+          let h : 0 < firstOf (ruleRows words lines) passed .0 = gives-refuses (rule-rows words lines) g in
+          let n : firstOf (ruleRows words lines) passed .0 ≡ 0 = ap (λ (w : Verdict). w .0) e in
+          absurd (omega arith)
+      by e (inr s) = s
+
+-- no two accepted lines share
+rival-none : (d : Line) (es : List Line) (e : Entry) → rival es e ≡ none → (i : ℕ) → i < length es → shares (getD es i d .entry) e ≡ false
+rival-none d [] e h i b = absurd (omega arith)
+rival-none d (m ∷ ms) e h i b =
+    cases (shares (m .entry) e)
+    (λ s. let z : some m ≡ none = simp s at h in some-is-not-none refl z)
+    (λ s. at i b s (λ j c. rival-none d ms e (simp s at h) j c))
+  where
+    at : (k : ℕ) → k < length (m ∷ ms) → shares (m .entry) e ≡ false → ((j : ℕ) → j < length ms → shares (getD ms j d .entry) e ≡ false) →
+        shares (getD (m ∷ ms) k d .entry) e ≡ false
+    at zero c s k = s
+    at (suc j) c s k = k j (omega arith)
+
+apart-at : (d : Line) {es ls : List Line} → Apart es ls → (i j : ℕ) → j < length ls → i < length es + j →
+    shares (getD (es ++ ls) i d .entry) (getD ls j d .entry) ≡ false
+apart-at d done i j b c = absurd (omega arith)
+apart-at d {es = es} (next {ls = ls} {l = l} h r) i zero b c =
+    let k : i < length es = omega arith in
+    rw (List·getD-append es (l ∷ ls) d i k) (rival-none d es (l .entry) h i k)
+apart-at d {es = es} (next {ls = ls} {l = l} h r) i (suc j) b c =
+    rw append-assoc at (apart-at d r i j (omega arith) (rw length-append (omega arith)))
+
+shares-both : (e m : Entry) → Fine e → Fine m → (t a : ℕ) → there e t a ≡ true → there m t a ≡ true → shares e m ≡ true
+unfolding shares
+shares-both e m f g t a h k =
+    let o : layer e ≡ t = eqb-true _ _ (and-left _ _ h) in
+    let q : layer m ≡ t = eqb-true _ _ (and-left _ _ k) in
+    let w : Within e a = within e a (and-right (eqb (layer e) t) _ h) in
+    let v : Within m a = within m a (and-right (eqb (layer m) t) _ k) in
+    by t o q w v
+  where
+    by : (u : ℕ) → layer e ≡ u → layer m ≡ u → Within e a → Within m a →
+        eqb (layer e) (layer m) && cond (eqb (layer e) 0) (meets (first e) (last e) (first m) (last m)) (eqb (first e / 4096) (first m / 4096)) ≡ true
+    by zero o q w v = simp (o, q, le-leb (first e) (last m) (omega (arith, w .from, v .to)), le-leb (first m) (last e) (omega (arith, w .to, v .from)))
+    by (suc y) o q w v =
+        let c : first e / 4096 ≡ first m / 4096 = chapter-of (page-line f o) a w ∙ sym (chapter-of (page-line g q) a v) in
+        simp (o, q, eq-eqb (suc y) (suc y) refl, ne-eqb (suc y) 0 (omega arith), eq-eqb (first e / 4096) (first m / 4096) c)
+
+module _ {bin : List ℕ} {lines : List Line} (accepted : Accepted bin lines) (d : Line) (t a : ℕ) where
+  never : (i j : ℕ) → i < j → j < length lines → there (getD lines i d .entry) t a ≡ true → there (getD lines j d .entry) t a ≡ true → ⊥
+  never i j c b h k =
+      let g : Good lines = good accepted in
+      true-is-not-false
+      (shares-both (getD lines i d .entry) (getD lines j d .entry) (all-at (g .fine) d i (omega arith)) (all-at (g .fine) d j b) t a h k)
+      (apart-at d (g .apart) i j b (omega arith))
+
+  -- of two lines that hold an address on one layer, the numbers are one
+  pub one-owner : (i j : ℕ) → i < length lines → j < length lines → there (getD lines i d .entry) t a ≡ true →
+      there (getD lines j d .entry) t a ≡ true → i ≡ j
+  one-owner i j b c h k = by (compare i j)
+    where
+      by : (i ≡ j) ⊎ ((i < j) ⊎ (j < i)) → i ≡ j
+      by (inl e) = e
+      by (inr (inl l)) = absurd (never i j l c h k)
+      by (inr (inr l)) = absurd (never j i l b k h)

@@ -1,0 +1,9 @@
+-- The rules' definitions, then their laws.
+pub mod Rules
+pub mod Accepted
+pub mod Owners
+pub mod RowLaws
+pub mod Shapes
+pub mod RuleLaws
+pub mod OwnerLaws
+pub mod Exactly
