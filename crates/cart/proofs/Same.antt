@@ -6,6 +6,7 @@ use Rattle.cart.proofs.location.Reads as location
 use Rattle.cart.proofs.read_by.Reads as read-by
 use Rattle.cart.proofs.read.Reads as read
 use Rattle.cart.proofs.asked.Reads as asked
+use Rattle.cart.proofs.first_k.Reads as first-k
 use Rattle.cart.proofs.write.Reads as write
 use Rattle.cart.proofs.reset.Reads as reset
 
@@ -23,6 +24,9 @@ one-read κs a y z e f = same
 
 pub one-asked : OneAnswer asked.Learnt
 one-asked κs a y z e f = same
+
+pub one-first-k : OneAnswer first-k.Learnt
+one-first-k κs a y z e f p q = same (p .0) (q .0)
 
 pub one-write : OneAnswer write.Learnt
 one-write κs a y z e f p q = same (p .0) (q .0)

@@ -149,8 +149,8 @@ fn taker_of(flips: &[u16; 256], r: Request) -> Taker
     }
 }
 
-// In chapter 4 the lower half, the ECS RAM, stays.
-fn first_k(x: usize) -> usize
+// The first paragraph of a chapter that a flip changes: in chapter 4 the lower half, the ECS RAM, stays.
+pub fn first_k(x: usize) -> usize
     ensures { λ r. ⌜ (r ≡ firstK x) × (r ≤ 8) ⌝ }
 {
     if x == 4 { 8 } else { 0 }
