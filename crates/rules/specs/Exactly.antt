@@ -12,7 +12,8 @@ use lib.Dec.{eqb}
 use borrow.Author.Tests.{eq-eqb, ne-eqb, le-leb, eqb-true}
 use Rattle.words.specs.Tests.{cases, true-is-not-false, and-left, and-right, compare}
 use Rattle.words.specs.Tables.{made}
-use Rattle.words.specs.Rows.{Row, firstOf, Gives, here, later, Silent, gives-first, silent-first, first-by}
+use Rattle.words.specs.Rows.{Row, Gives, Silent, silent-first}
+use Rattle.words.specs.Refusals.{Refusing, refusing-append, refused-exactly as exactly-refused, accepted-exactly as exactly-accepted}
 use Rattle.lines.specs.declared.Entry.{Entry}
 use Rattle.lines.specs.declared.Line.{Line}
 use Rattle.lines.specs.Lines.{first, last, layer}
@@ -23,65 +24,39 @@ use Rattle.rules.specs.Shapes.{Fine}
 use Rattle.rules.specs.RuleLaws.{Apart, done, next, Good, good, page-line, chapter-of, some-is-not-none}
 use Rattle.rules.specs.Owners.{there}
 
--- every row refuses
-abbrev Refusing : List (Row Verdict) → Type 0
-Refusing [] = Unit {0}
-Refusing (r ∷ rs) = (0 < r .1 .0) × Refusing rs
+-- the number of a verdict; every row refuses with one
+abbrev pub numberOf : Verdict → ℕ
+numberOf v = v .0
 
-both : (rs qs : List (Row Verdict)) → Refusing rs → Refusing qs → Refusing (rs ++ qs)
-both [] qs r q = q
-both (x ∷ rs) qs r q = (r .0, both rs qs (r .1) q)
-
-line-rows : (words : ℕ) (lines : List Line) → Refusing (lineRows words lines)
+line-rows : (words : ℕ) (lines : List Line) → Refusing numberOf (lineRows words lines)
 line-rows words [] = tt
 line-rows words (l ∷ ls) = (omega arith, (omega arith, line-rows words ls))
 
-share-rows : (earlier lines : List Line) → Refusing (shareRows earlier lines)
+share-rows : (earlier lines : List Line) → Refusing numberOf (shareRows earlier lines)
 share-rows earlier [] = tt
 share-rows earlier (l ∷ ls) = (omega arith, share-rows (earlier ++ (l ∷ [])) ls)
 
-chapter-rows : (f : ℕ → Bool) (i n : ℕ) → Refusing (made {A = Row Verdict} i n (λ x. (f x, (28, x))))
+chapter-rows : (f : ℕ → Bool) (i n : ℕ) → Refusing numberOf (made {A = Row Verdict} i n (λ x. (f x, (28, x))))
 unfolding made
 chapter-rows f i zero = tt
 chapter-rows f i (suc n) = (omega arith, chapter-rows f (suc i) n)
 
-rule-rows : (words : ℕ) (lines : List Line) → Refusing (ruleRows words lines)
+pub rule-rows : (words : ℕ) (lines : List Line) → Refusing numberOf (ruleRows words lines)
 rule-rows words lines =
-    both (lineRows words lines) (shareRows [] lines ++ chapterRows lines) (line-rows words lines)
-    (both (shareRows [] lines) (chapterRows lines) (share-rows [] lines) (chapter-rows (breaksPlain lines) 0 16))
-
-gives-refuses : {rs : List (Row Verdict)} {v : Verdict} → Refusing rs → Gives rs v → 0 < v .0
-gives-refuses r (here e) = r .0
-gives-refuses r (later e g) = gives-refuses (r .1) g
+    refusing-append numberOf (lineRows words lines) (shareRows [] lines ++ chapterRows lines) (line-rows words lines)
+    (refusing-append numberOf (shareRows [] lines) (chapterRows lines) (share-rows [] lines) (chapter-rows (breaksPlain lines) 0 16))
 
 module _ (words : ℕ) (lines : List Line) where
   -- refused with a number and a place exactly when that row holds and none before it does
   pub refused-exactly : (v : Verdict) → 0 < v .0 → (judgeOf words lines ≡ v) ↔ Gives (ruleRows words lines) v
   unfolding judgeOf
-  refused-exactly v h = ((λ e. by e (first-by (ruleRows words lines) passed)), gives-first passed)
-    where
-      by : firstOf (ruleRows words lines) passed ≡ v →
-          (Gives (ruleRows words lines) (firstOf (ruleRows words lines) passed)) ⊎ (Silent (ruleRows words lines)) →
-          Gives (ruleRows words lines) v
-      by e (inl g) = rw e at g
-      by e (inr s) =
-          let z : passed ≡ v = sym (silent-first passed s) ∙ e in
-          let n : 0 ≡ v .0 = ap (λ (w : Verdict). w .0) z in
-          absurd (omega arith)
+  refused-exactly v h = exactly-refused numberOf (ruleRows words lines) (rule-rows words lines) passed refl v h
 
   -- accepted exactly when no row holds
   pub accepted-exactly : (judgeOf words lines ≡ passed) ↔ Silent (ruleRows words lines)
   unfolding judgeOf
-  accepted-exactly = ((λ e. by e (first-by (ruleRows words lines) passed)), silent-first passed)
-    where
-      by : firstOf (ruleRows words lines) passed ≡ passed →
-          (Gives (ruleRows words lines) (firstOf (ruleRows words lines) passed)) ⊎ (Silent (ruleRows words lines)) →
-          Silent (ruleRows words lines)
-      by e (inl g) =
-          let h : 0 < firstOf (ruleRows words lines) passed .0 = gives-refuses (rule-rows words lines) g in
-          let n : firstOf (ruleRows words lines) passed .0 ≡ 0 = ap (λ (w : Verdict). w .0) e in
-          absurd (omega arith)
-      by e (inr s) = s
+  accepted-exactly =
+      ((λ e. exactly-accepted numberOf (ruleRows words lines) (rule-rows words lines) passed refl .0 (ap numberOf e)), (λ s. silent-first passed s))
 
 -- no two accepted lines share
 rival-none : (d : Line) (es : List Line) (e : Entry) → rival es e ≡ none → (i : ℕ) → i < length es → shares (getD es i d .entry) e ≡ false

@@ -5,6 +5,7 @@ pub mod Bytes
 pub mod Tables
 pub mod Counts
 pub mod Rows
+pub mod Refusals
 pub mod Stands
 pub mod Wrote
 pub mod Same

@@ -1,0 +1,4 @@
+// The image card, run on empty input.
+fn main() {
+    report::card();
+}

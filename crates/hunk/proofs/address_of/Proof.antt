@@ -1,0 +1,25 @@
+-- `hunk::address_of` meets its contract: three bytes, the lowest first.
+use Rattle.hunk.proofs.Laws.{address-bytes}
+use borrow.Author.Needs.{needs}
+use Rattle.hunk.proofs.address_of.Statement.{statement}
+use Rattle.hunk.proofs.address_of.Tie as tie
+
+returns : tie.Need-returns
+returns c = search (needs, address-bytes)
+
+pub address-of-spec : {M : Type 1} → statement M
+address-of-spec =
+    tie.close
+    (tie.spec
+    (λ c. search needs)
+    (λ c κs. search needs)
+    (λ c. search needs)
+    (λ c κs. search needs)
+    (λ c. search needs)
+    (λ c. search needs)
+    (λ c. search needs)
+    (λ c κs. search needs)
+    (λ c. search needs)
+    (λ c. search needs)
+    (λ c. search needs)
+    returns)

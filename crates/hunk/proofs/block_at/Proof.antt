@@ -1,0 +1,40 @@
+-- `hunk::block_at` meets its contract: one law for each return.
+use Rattle.hunk.proofs.Laws.{blocks}
+use borrow.Author.Needs.{needs}
+use Rattle.hunk.proofs.block_at.Statement.{statement}
+use Rattle.hunk.proofs.block_at.Tie as tie
+
+returns : tie.Need-returns
+returns c = search (needs, blocks)
+
+returns-2 : tie.Need-returns-2
+returns-2 c = search (needs, blocks)
+
+returns-3 : tie.Need-returns-3
+returns-3 c = search (needs, blocks)
+
+returns-4 : tie.Need-returns-4
+returns-4 c = search (needs, blocks)
+
+returns-5 : tie.Need-returns-5
+returns-5 c = search (needs, blocks)
+
+returns-6 : tie.Need-returns-6
+returns-6 c = search (needs, blocks)
+
+pub block-at-spec : {M : Type 1} → statement M
+block-at-spec =
+    tie.close
+    (tie.spec
+    returns
+    (λ c. search needs)
+    (λ c κs. search needs)
+    (λ c κs. search needs)
+    returns-2
+    (λ c κs. search needs)
+    (λ c. search needs)
+    returns-3
+    returns-4
+    returns-5
+    (λ c. search needs)
+    returns-6)

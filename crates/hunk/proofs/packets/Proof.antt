@@ -1,0 +1,42 @@
+-- `hunk::packets` meets its contract. The loop's invariant: the decles of j packets are laid.
+use Prim.Native.Nat.{_*_, _-_, _≤_}
+use mathlib.Core.Path.{_≡_}
+use lib.ListN.{length}
+use Rattle.words.specs.Lists.{laid, laid-none}
+use Rattle.hunk.proofs.Laws.{packed, packed-turn, laid-done-4}
+use borrow.Author.Needs.{needs}
+use Rattle.hunk.proofs.packets.Statement.{statement}
+use Rattle.hunk.proofs.packets.Tie as tie
+
+abbrev Inv-loop : tie.InvT-loop
+Inv-loop s at k ram₀ a j₀ ram j = (j ≤ k) × (length ram ≡ length ram₀) × (ram ≡ laid a (4 * j) (packed s at) ram₀)
+
+abbrev μ-loop : tie.MeasureT-loop
+μ-loop s at k ram₀ a j₀ ram j = k - j
+
+loop-holds : tie.Need-loop-holds Inv-loop μ-loop
+loop-holds c = search (needs, laid-none)
+
+loop-again : tie.Need-loop-again Inv-loop μ-loop
+loop-again c = search (needs, packed-turn)
+
+returns : tie.Need-returns Inv-loop μ-loop
+returns c = search (needs, laid-done-4)
+
+pub packets-spec : {M : Type 1} → statement M
+packets-spec =
+    tie.close
+    (tie.spec
+    Inv-loop
+    μ-loop
+    loop-holds
+    (λ c. search needs)
+    (λ c. search needs)
+    (λ c. search needs)
+    (λ c. search needs)
+    (λ c κs. search needs)
+    (λ c. search needs)
+    (λ c. search needs)
+    loop-again
+    (λ c. search needs)
+    returns)

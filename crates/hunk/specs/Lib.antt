@@ -1,0 +1,4 @@
+pub mod Lay
+pub mod Hunk
+pub mod HunkLaws
+pub mod Example

@@ -1,0 +1,10 @@
+-- Any two answers that the promise of a public function allows are equal (01, What the promises rule out).
+use denote.Ref.{now}
+use Rattle.words.specs.Same.{OneAnswer, OneLent, same}
+use Rattle.load.proofs.load.Reads as load
+
+pub one-load : OneAnswer load.Learnt
+one-load κs a y z e f p q = same (p .0) (q .0)
+
+pub one-load-lent : OneLent load.Learnt (λ κs e. now (e .1 .0))
+one-load-lent κs a y z e f p q = same (p .1) (q .1)

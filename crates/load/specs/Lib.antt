@@ -1,0 +1,10 @@
+-- A load: the header, the blocks, and the answer, each said of the image; then what follows of them.
+pub mod Header
+pub mod Blocks
+pub mod Load
+pub mod Refusals
+pub mod Ram
+pub mod Rows
+pub mod Steps
+pub mod StepsLaws
+pub mod LoadLaws

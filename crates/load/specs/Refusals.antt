@@ -1,0 +1,137 @@
+-- When a load is refused: with n at p exactly when row n holds at p and no row before it in 01's order does.
+use Prim.Native.Nat.{ℕ}
+use mathlib.Core.Path.{_≡_, refl, sym, ap, _∙_}
+use mathlib.Core.List.{List, [], _∷_, _++_}
+use mathlib.Core.Bool.{Bool, true, false, _||_}
+use mathlib.Core.Logic.{_⊎_, inl, inr}
+use native.Mathlib.Omega.{arith}
+use Rattle.words.specs.Rows.{firstOf, Gives, Silent, none, gives-first, silent-first}
+use Rattle.load.specs.Header.{Refusal, refuse, passes, headerRows}
+use Rattle.load.specs.Blocks.{cutAt, encrypted, wrongPayload, wrongTables, wrongHunk, isTables, blockRows, blocksOf, anyTables, blocksRows}
+use Rattle.load.specs.Load.{noneRows, tenRows, walkRows, rowsOf, refusalOf}
+use Rattle.load.specs.Rows.{silent-left, silent-right, silent-append, silent-gives, gives-append, gives-cases, gives-named, Answered, answered, or-assoc, or-none}
+use Rattle.load.specs.LoadLaws.{rows-named, block-named}
+
+-- by the table of all rows
+pub record Exactly (s : List ℕ) (m n p : ℕ) : Type 0 where
+  pub only : refusalOf s m ≡ refuse n p → Gives (rowsOf s m) (refuse n p)
+  pub if : Gives (rowsOf s m) (refuse n p) → refusalOf s m ≡ refuse n p
+
+pub refused-exactly : (s : List ℕ) (m n p : ℕ) → (n ≡ 0 → ⊥) → Exactly s m n p
+unfolding refusalOf
+refused-exactly s m n p z =
+    record { only = λ e. only e (answered (rowsOf s m) (rows-named s m)); if = λ g. gives-first passes g }
+  where
+    only : firstOf (rowsOf s m) passes ≡ refuse n p → (Answered (rowsOf s m) (firstOf (rowsOf s m) passes)) ⊎ (Silent (rowsOf s m)) → Gives (rowsOf s m) (refuse n p)
+    only e (inl a) = rw e at (a .gives)
+    only e (inr q) = absurd (z (ap (λ (r : Refusal). r .number) (sym e ∙ silent-first passes q)))
+
+-- and it loads exactly when no row holds
+pub record Loads (s : List ℕ) (m : ℕ) : Type 0 where
+  pub only : refusalOf s m ≡ passes → Silent (rowsOf s m)
+  pub if : Silent (rowsOf s m) → refusalOf s m ≡ passes
+
+pub loads-exactly : (s : List ℕ) (m : ℕ) → Loads s m
+unfolding refusalOf
+loads-exactly s m = record { only = λ e. only e (answered (rowsOf s m) (rows-named s m)); if = λ q. silent-first passes q }
+  where
+    only : firstOf (rowsOf s m) passes ≡ passes → (Answered (rowsOf s m) (firstOf (rowsOf s m) passes)) ⊎ (Silent (rowsOf s m)) → Silent (rowsOf s m)
+    only e (inl a) = absurd (a .numbered (ap (λ (r : Refusal). r .number) e))
+    only e (inr q) = q
+
+-- ---- the same, block by block
+
+-- a block that is refused, with none of those before it that is: `before` has the blocks before it
+pub record At (s : List ℕ) (m : ℕ) (earlier : Bool) (ps : List ℕ) (r : Refusal) : Type 0 where
+  pub before : List ℕ
+  pub start : ℕ
+  pub after : List ℕ
+  pub split : ps ≡ before ++ (start ∷ after)
+  pub silent : Silent (blocksRows s m earlier before)
+  pub gives : Gives (blockRows s m (earlier || anyTables s before) start) r
+
+block-at : (s : List ℕ) (m : ℕ) (e : Bool) (ps : List ℕ) (r : Refusal) → Gives (blocksRows s m e ps) r → At s m e ps r
+unfolding blocksRows
+block-at s m e [] r g =
+    let z : _≡_ {A = ℕ} 0 1 = ap (λ (x : Refusal). x .number) (gives-first (refuse 0 0) g ∙ sym (gives-first (refuse 1 0) g)) in
+    absurd (omega arith)
+block-at s m e (p ∷ ps) r g = go (gives-cases (blockRows s m e p) (blocksRows s m (e || isTables s p) ps) g) (λ h. block-at s m (e || isTables s p) ps r h)
+  where
+    go : (Gives (blockRows s m e p) r) ⊎ ((Silent (blockRows s m e p)) × (Gives (blocksRows s m (e || isTables s p) ps) r))
+        → (Gives (blocksRows s m (e || isTables s p) ps) r → At s m (e || isTables s p) ps r) → At s m e (p ∷ ps) r
+    go (inl h) k = record { before = []; start = p; after = ps; split = refl; silent = none; gives = rw or-none h }
+    go (inr h) k =
+        let a : At s m (e || isTables s p) ps r = k (h .1) in
+        record {
+          before = p ∷ a .before;
+          start = a .start;
+          after = a .after;
+          split = ap (_∷_ p) (a .split);
+          silent = silent-append (h .0) (a .silent);
+          gives = rw or-assoc (a .gives);
+        }
+
+at-block : (s : List ℕ) (m : ℕ) (e : Bool) (before : List ℕ) (p : ℕ) (after : List ℕ) (r : Refusal) → Silent (blocksRows s m e before)
+    → Gives (blockRows s m (e || anyTables s before) p) r → Gives (blocksRows s m e (before ++ (p ∷ after))) r
+unfolding blocksRows
+at-block s m e [] p after r q g = gives-append _ (rw or-none at g)
+at-block s m e (b ∷ before) p after r q g =
+    silent-gives (silent-left (blockRows s m e b) (blocksRows s m (e || isTables s b) before) q)
+    (at-block s m (e || isTables s b) before p after r (silent-right (blockRows s m e b) (blocksRows s m (e || isTables s b) before) q) (rw or-assoc at g))
+
+-- why an image is refused: by its header; by a block, the header and the blocks before it being good; by having no tables block; by 10
+pub data Because (s : List ℕ) (m : ℕ) (r : Refusal) : Type 0 where
+  header : Gives (headerRows s) r → Because s m r
+  block : Silent (headerRows s) → At s m false (blocksOf s) r → Because s m r
+  no-tables : Silent (headerRows s) → Silent (blocksRows s m false (blocksOf s)) → Gives (noneRows s) r → Because s m r
+  ten : Silent (headerRows s) → Silent (walkRows s m) → Gives (tenRows s) r → Because s m r
+
+pub because : (s : List ℕ) (m : ℕ) (r : Refusal) → Gives (rowsOf s m) r → Because s m r
+because s m r g = one (gives-cases (headerRows s) (walkRows s m ++ tenRows s) g)
+  where
+    three : Silent (headerRows s) → (Gives (blocksRows s m false (blocksOf s)) r) ⊎ ((Silent (blocksRows s m false (blocksOf s))) × (Gives (noneRows s) r)) → Because s m r
+    three h (inl b) = block h (block-at s m false (blocksOf s) r b)
+    three h (inr n) = no-tables h (n .0) (n .1)
+
+    two : Silent (headerRows s) → (Gives (walkRows s m) r) ⊎ ((Silent (walkRows s m)) × (Gives (tenRows s) r)) → Because s m r
+    two h (inl w) = three h (gives-cases (blocksRows s m false (blocksOf s)) (noneRows s) w)
+    two h (inr t) = ten h (t .0) (t .1)
+
+    one : (Gives (headerRows s) r) ⊎ ((Silent (headerRows s)) × (Gives (walkRows s m ++ tenRows s) r)) → Because s m r
+    one (inl h) = header h
+    one (inr x) = two (x .0) (gives-cases (walkRows s m) (tenRows s) (x .1))
+
+pub because-gives : (s : List ℕ) (m : ℕ) (r : Refusal) → Because s m r → Gives (rowsOf s m) r
+because-gives s m r (header h) = gives-append _ h
+because-gives s m r (block h a) =
+    let b : Gives (blocksRows s m false (blocksOf s)) r =
+    rw (a .split) (at-block s m false (a .before) (a .start) (a .after) r (a .silent) (a .gives)) in
+    silent-gives h (gives-append _ (gives-append _ b))
+because-gives s m r (no-tables h q g) = silent-gives h (gives-append _ (silent-gives q g))
+because-gives s m r (ten h q g) = silent-gives h (silent-gives q g)
+
+-- refused with n at p exactly because of this
+pub record Reason (s : List ℕ) (m n p : ℕ) : Type 0 where
+  pub only : refusalOf s m ≡ refuse n p → Because s m (refuse n p)
+  pub if : Because s m (refuse n p) → refusalOf s m ≡ refuse n p
+
+pub refused-because : (s : List ℕ) (m n p : ℕ) → (n ≡ 0 → ⊥) → Reason s m n p
+refused-because s m n p z =
+    let x : Exactly s m n p = refused-exactly s m n p z in
+    record { only = λ e. because s m (refuse n p) (x .only e); if = λ b. x .if (because-gives s m (refuse n p) b) }
+
+-- every refusal of a block names the block's start
+place-by : (a b c d e : Bool) (p : ℕ) (r : Refusal)
+    → firstOf ((a, refuse 5 p) ∷ (b, refuse 7 p) ∷ (c, refuse 6 p) ∷ (d, refuse 8 p) ∷ (e, refuse 9 p) ∷ []) passes ≡ r → (r .number ≡ 0 → ⊥) → r .place ≡ p
+place-by true b c d e p r q n = sym (ap (λ (x : Refusal). x .place) q)
+place-by false true c d e p r q n = sym (ap (λ (x : Refusal). x .place) q)
+place-by false false true d e p r q n = sym (ap (λ (x : Refusal). x .place) q)
+place-by false false false true e p r q n = sym (ap (λ (x : Refusal). x .place) q)
+place-by false false false false true p r q n = sym (ap (λ (x : Refusal). x .place) q)
+place-by false false false false false p r q n = absurd (n (sym (ap (λ (x : Refusal). x .number) q)))
+
+pub block-place : (s : List ℕ) (m : ℕ) (earlier : Bool) (p : ℕ) (r : Refusal) → Gives (blockRows s m earlier p) r → r .place ≡ p
+unfolding blockRows
+block-place s m earlier p r g =
+    place-by (cutAt s p) (encrypted s p) (wrongPayload s p) (wrongTables s earlier p) (wrongHunk s m p) p r (gives-first passes g)
+    (gives-named (block-named s m earlier p) g)

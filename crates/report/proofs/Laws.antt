@@ -1,0 +1,27 @@
+-- The card's two ways out, for the answer and for the RAM.
+use Prim.Native.Nat.{ℕ, _<_, _≤_}
+use mathlib.Core.Path.{_≡_, _∙_}
+use mathlib.Core.List.{List}
+use borrow.Author.Tests.{lt-ltb, le-ltb}
+use lib.ListN.{length}
+use Rattle.load.specs.declared.Loading.{Loading}
+use Rattle.load.specs.Load.{loadingOf, loadRamOf}
+use Rattle.report.specs.Report.{printed, tooLong, reportOf, reportRamOf}
+
+module _ (s : List ℕ) (m : ℕ) where
+  pub too-long : 24576 < length s → tooLong ≡ reportOf s m
+  unfolding reportOf
+  too-long h = simp (lt-ltb _ _ h)
+
+  pub loaded : length s ≤ 24576 → (r : Loading) → r ≡ loadingOf s m → printed r ≡ reportOf s m
+  unfolding reportOf
+  loaded h r e = simp (le-ltb _ _ h, e)
+
+module _ (s ram : List ℕ) where
+  pub too-long-ram : 24576 < length s → ram ≡ reportRamOf s ram
+  unfolding reportRamOf
+  too-long-ram h = simp (lt-ltb _ _ h)
+
+  pub loaded-ram : length s ≤ 24576 → (next : List ℕ) → next ≡ loadRamOf s ram → next ≡ reportRamOf s ram
+  unfolding reportRamOf
+  loaded-ram h next e = e ∙ simp (le-ltb _ _ h)

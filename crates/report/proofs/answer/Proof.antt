@@ -1,0 +1,20 @@
+-- `report::answer` meets its contract: 30, or what a load answers.
+use Rattle.report.proofs.Laws.{too-long, too-long-ram, loaded, loaded-ram}
+use borrow.Author.Needs.{needs}
+use Rattle.report.proofs.answer.Statement.{statement}
+use Rattle.report.proofs.answer.Tie as tie
+
+returns : tie.Need-returns
+returns c = (too-long _ _ (c .if1 .taken), too-long-ram _ _ (c .if1 .taken))
+
+returns-2 : tie.Need-returns-2
+returns-2 c = (loaded _ _ (c .before .before .before .before .if1 .left) _ (c .before .before .load .ensures .0), loaded-ram _ _ (c .before .before .before .before .if1 .left) _ (c .before .before .load .ensures .1))
+
+pub answer-spec : {M : Type 1} → statement M
+answer-spec =
+    tie.close
+    (tie.spec
+    returns
+    (λ c κs. search needs)
+    (λ c. search needs)
+    returns-2)

@@ -1,0 +1,29 @@
+-- What the image card prints of an image (01, Bench cases, "The image card").
+use Prim.Native.Nat.{ℕ}
+use mathlib.Core.List.{List}
+use mathlib.Core.Bool.{cond}
+use lib.ListN.{length}
+use lib.Dec.{ltb}
+use Rattle.load.specs.declared.Loading.{Loading}
+use Rattle.load.specs.Load.{loadingOf, loadRamOf}
+use Rattle.report.specs.declared.Report.{Report}
+
+-- the card takes no longer file (01, refusal 30), and lends this many words
+abbrev pub cardLimit : ℕ
+cardLimit = 24576
+
+abbrev pub cardWords : ℕ
+cardWords = 16384
+
+abbrev pub printed : Loading → Report
+printed r = record { number = r .number; place = r .place; blocks = r .blocks; words = r .words }
+
+abbrev pub tooLong : Report
+tooLong = record { number = 30; place = 0; blocks = 0; words = 0 }
+
+-- 30 is asked before all others
+unfoldable pub reportOf : List ℕ → ℕ → Report
+reportOf s m = cond (ltb cardLimit (length s)) tooLong (printed (loadingOf s m))
+
+unfoldable pub reportRamOf : List ℕ → List ℕ → List ℕ
+reportRamOf s ram = cond (ltb cardLimit (length s)) ram (loadRamOf s ram)

@@ -1,0 +1,37 @@
+-- `tables::bytes_at` meets its contract. The loop's invariant: the first i entries are filled.
+use Prim.Native.Nat.{_+_, _-_, _≤_}
+use lib.ListN.{getD}
+use Rattle.words.specs.Tables.{Filled, filled-none, filled-more, filled-all}
+use borrow.Author.Needs.{needs}
+use Rattle.tables.proofs.bytes_at.Statement.{statement}
+use Rattle.tables.proofs.bytes_at.Tie as tie
+
+abbrev Inv-loop : tie.InvT-loop
+Inv-loop t at w₀ i₀ w i = (i ≤ 256) × Filled 0 256 (λ j. getD t (at + j) 0) i w
+
+abbrev μ-loop : tie.MeasureT-loop
+μ-loop t at w₀ i₀ w i = 256 - i
+
+loop-holds : tie.Need-loop-holds Inv-loop μ-loop
+loop-holds c = (search needs, filled-none 0 256 _ _ (search needs))
+
+loop-again : tie.Need-loop-again Inv-loop μ-loop
+loop-again c = search (needs, filled-more)
+
+returns : tie.Need-returns Inv-loop μ-loop
+returns c = search (needs, filled-all)
+
+pub bytes-at-spec : {M : Type 1} → statement M
+bytes-at-spec =
+    tie.close
+    (tie.spec
+    Inv-loop
+    μ-loop
+    loop-holds
+    (λ c. search needs)
+    (λ c κs. search needs)
+    (λ c. search needs)
+    (λ c. search needs)
+    (λ c. search needs)
+    loop-again
+    returns)

@@ -1,0 +1,57 @@
+-- The three tables in the payload of a tables block, the cartridge that they make, and refusal 10 (01, File layout, Numbers that come back).
+use Prim.Native.Nat.{ℕ, _+_, _*_, _/_, _%_}
+use mathlib.Core.List.{List}
+use mathlib.Core.Bool.{Bool, not, _||_}
+use lib.ListN.{getD, replicate}
+use lib.Dec.{eqb}
+use Rattle.words.specs.Bytes.{at16}
+use Rattle.words.specs.Tables.{table}
+use Rattle.words.specs.Counts.{some}
+use Rattle.cart.specs.declared.Cartridge.{Cartridge}
+use Rattle.cart.specs.Machine.{PFE}
+use Rattle.tables.specs.Flags.{flag, field}
+
+-- 256 entries of 16 bits, and of 8, that stand at a place
+abbrev pub words256 : List ℕ → ℕ → List ℕ
+words256 t at = table 256 (λ i. at16 t (at + 2 * i))
+
+abbrev pub bytes256 : List ℕ → ℕ → List ℕ
+bytes256 t at = table 256 (λ i. getD t (at + i) 0)
+
+-- a cartridge as loaded: the active tables are the initial ones
+abbrev pub fresh : List ℕ → List ℕ → List ℕ → Cartridge
+fresh mapping permissions flips =
+    record {
+      «initial_mapping» = mapping;
+      «initial_permissions» = permissions;
+      mapping = mapping;
+      permissions = permissions;
+      flips = flips;
+    }
+
+-- memory mapping, permissions, page flips (01, File layout)
+unfoldable pub cartridgeOf : List ℕ → Cartridge
+cartridgeOf t = fresh (words256 t 0) (bytes256 t 512) (words256 t 768)
+
+-- the cartridge of a refused load
+abbrev pub noCartridge : Cartridge
+noCartridge = fresh (replicate 256 0) (replicate 256 0) (replicate 256 0)
+
+-- BANKSW is bit 3 of a permission (001, Permissions Table)
+abbrev pub BANKSW : ℕ → Bool
+BANKSW x = eqb (x / 8 % 2) 1
+
+-- BANKSW on a paragraph divisible by 8, of which there are 32; PFE in chapter 1
+abbrev pub switches : List ℕ → Bool
+switches permissions = some 32 (λ h. BANKSW (getD permissions (8 * h) 0))
+
+abbrev pub flipsOne : List ℕ → Bool
+flipsOne flips = some 16 (λ y. PFE (getD flips (16 + y) 0))
+
+-- 10: JLP field (flags 16-17) not 0, flag 32 set, or one of these
+unfoldable pub unsupported : List ℕ → List ℕ → List ℕ → Bool
+unsupported flags permissions flips =
+    not (eqb (field flags 16) 0)
+    || (flag flags 32
+    || (switches permissions
+    || flipsOne flips))
