@@ -5,7 +5,7 @@ use mathlib.Core.List.{List, [], _++_}
 use mathlib.Core.Bool.{false, _||_}
 use mathlib.Core.Logic.{inl, inr}
 use native.Mathlib.Omega.{arith}
-use borrow.Author.Tests.{lt-ltb, le-ltb, ltb-true, ltb-false, leb-false, eqb-false}
+use borrow.Author.Tests.{lt-ltb, le-ltb, le-leb, ltb-true, ltb-false, leb-false, eqb-false}
 use lib.ListN.{length, getD, length-append}
 use lib.Dec.{ltb, leb, eqb}
 use Rattle.words.specs.Tests.{cases, or-false-left, or-false-right}
@@ -206,3 +206,44 @@ module _ (s : List ℕ) (m more : ℕ) (le : m ≤ more) where
   words-larger n e =
       cases (ltb (length s) 3) (λ t. simp t)
       (λ t. simp t (alike-from (length s) 3 (address s .0) n (simp t at e) .words))
+
+-- the count of a walk is always enough: check and words, said without it
+module _ (s : List ℕ) (m : ℕ) where
+  ends-at : (p a : ℕ) → length s ≤ p → blockAt s m p a ≡ End
+  unfolding blockAt
+  ends-at p a h = simp (le-leb _ _ h)
+
+  pub record Enough (f g p a : ℕ) : Type 0 where
+    pub check : checkFrom f s m p a ≡ checkFrom g s m p a
+    pub words : wordsFrom f s m p a ≡ wordsFrom g s m p a
+
+  enough-turn : (f g p a : ℕ) → ((q b : ℕ) → p < q → Enough f g q b) → (b : Block) → b ≡ blockAt s m p a → Enough (suc f) (suc g) p a
+  unfolding checkFrom wordsFrom
+  enough-turn f g p a on End e = record { check = rw (← e); words = rw (← e) }
+  enough-turn f g p a on Wrong e = record { check = rw (← e); words = rw (← e) }
+  enough-turn f g p a on (Words n q) e =
+      let h : Held s m p a n q = block-held s m p a n q e in
+      let r : Enough f g q (a + n) = on q (a + n) (omega arith) in
+      record { check = rw (← e) (r .check); words = rw (← e) (ap (_++_ (table n (word s p))) (r .words)) }
+
+  enough : (f g p a : ℕ) → length s ≤ p + f → length s ≤ p + g → Enough f g p a
+  unfolding checkFrom wordsFrom
+  enough zero zero p a h k = record { check = refl; words = refl }
+  enough zero (suc g) p a h k =
+      let e : blockAt s m p a ≡ End = ends-at p a (omega arith) in
+      record { check = rw e; words = rw e }
+  enough (suc f) zero p a h k =
+      let e : blockAt s m p a ≡ End = ends-at p a (omega arith) in
+      record { check = rw e; words = rw e }
+  enough (suc f) (suc g) p a h k =
+      enough-turn f g p a (λ q b l. enough f g q b (omega arith) (omega arith)) (blockAt s m p a) refl
+
+  pub check-rule : (p a : ℕ)
+      → checkFrom (length s) s m p a ≡ onBlock (blockAt s m p a) (Whole (a - address s .0)) (Broken p) (λ n q. checkFrom (length s) s m q (a + n))
+  unfolding checkFrom
+  check-rule p a = enough (length s) (suc (length s)) p a (omega arith) (omega arith) .check
+
+  pub words-rule : (p a : ℕ)
+      → wordsFrom (length s) s m p a ≡ onBlock (blockAt s m p a) [] [] (λ n q. table n (word s p) ++ wordsFrom (length s) s m q (a + n))
+  unfolding wordsFrom
+  words-rule p a = enough (length s) (suc (length s)) p a (omega arith) (omega arith) .words

@@ -4,7 +4,9 @@ pub mod Blocks
 pub mod Load
 pub mod Refusals
 pub mod Ram
+pub mod Cases
 pub mod Rows
 pub mod Steps
 pub mod StepsLaws
+pub mod BlocksLaws
 pub mod LoadLaws

@@ -26,7 +26,7 @@ use Rattle.load.specs.Blocks.{typeAt, payloadOf, cutAt, broken, wrongHun
 use Rattle.load.specs.Load.{noneRows, tenRows, walkRows, rowsOf, refusalOf, loads, loaded, refused, loadingOf, loadRamOf}
 use Rattle.load.specs.Rows.{first-append, silent-left, silent-right, Named, named-append, Answered, answered}
 use Rattle.load.specs.StepsLaws.{silent-hunk}
-use Rattle.load.specs.Steps.{headerNumber, verdictOf, tenAt, loadedBy, finishedOf, allStored, finishedRamOf}
+use Rattle.load.specs.Steps.{headerNumber, verdictOf, tenAt, loadedBy, finishedOf, allStored, finishedRamOf, lentRamOf}
 
 -- ---- every row has a number
 
@@ -305,7 +305,7 @@ module _ (ram : List ℕ) (n : ℕ) (en : n ≡ min (length ram) 524288) where
   lent-most = omega (arith, lent-count)
 
   pub lent-load : (s x : List ℕ) (r : Loading) → r ≡ loadingOf s (length (take n ram))
-      → x ≡ cond (loads s (length (take n ram))) (overlay (hunksOf s) (take n ram)) (take n ram)
+      → x ≡ lentRamOf s (take n ram)
       → (r ≡ loadingOf s (lent ram)) × (x ++ drop n ram ≡ loadRamOf s ram)
   unfolding loadRamOf
   lent-load s x r er ex =

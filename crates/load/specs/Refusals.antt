@@ -5,12 +5,15 @@ use mathlib.Core.List.{List, [], _∷_, _++_}
 use mathlib.Core.Bool.{Bool, true, false, _||_}
 use mathlib.Core.Logic.{_⊎_, inl, inr}
 use native.Mathlib.Omega.{arith}
+use borrow.Author.Tests.{eqb-false}
+use Rattle.words.specs.Tests.{cases}
 use Rattle.words.specs.Rows.{firstOf, Gives, Silent, none, gives-first, silent-first}
+use Rattle.load.specs.declared.Loading.{Loading}
 use Rattle.load.specs.Header.{Refusal, refuse, passes, headerRows}
 use Rattle.load.specs.Blocks.{cutAt, encrypted, wrongPayload, wrongTables, wrongHunk, isTables, blockRows, blocksOf, anyTables, blocksRows}
-use Rattle.load.specs.Load.{noneRows, tenRows, walkRows, rowsOf, refusalOf}
+use Rattle.load.specs.Load.{noneRows, tenRows, walkRows, rowsOf, refusalOf, loads, loaded, refused, loadingOf}
 use Rattle.load.specs.Rows.{silent-left, silent-right, silent-append, silent-gives, gives-append, gives-cases, gives-named, Answered, answered, or-assoc, or-none}
-use Rattle.load.specs.LoadLaws.{rows-named, block-named}
+use Rattle.load.specs.LoadLaws.{rows-named, block-named, loads-silent, loaded-answer, refused-answer}
 
 -- by the table of all rows
 pub record Exactly (s : List ℕ) (m n p : ℕ) : Type 0 where
@@ -135,3 +138,22 @@ unfolding blockRows
 block-place s m earlier p r g =
     place-by (cutAt s p) (encrypted s p) (wrongPayload s p) (wrongTables s earlier p) (wrongHunk s m p) p r (gives-first passes g)
     (gives-named (block-named s m earlier p) g)
+
+-- what a load answers is this number and this place
+pub record Answers (s : List ℕ) (m : ℕ) : Type 0 where
+  pub number : loadingOf s m .number ≡ refusalOf s m .number
+  pub place : loadingOf s m .place ≡ refusalOf s m .place
+
+pub answers : (s : List ℕ) (m : ℕ) → Answers s m
+answers s m =
+    cases (loads s m)
+    (λ e.
+    let q : refusalOf s m ≡ passes = loads-exactly s m .if (loads-silent s m e) in
+    let x : loadingOf s m ≡ loaded s = sym (loaded-answer s m q) in
+    record {
+      number = ap (λ (r : Loading). r .number) x ∙ sym (ap (λ (r : Refusal). r .number) q);
+      place = ap (λ (r : Loading). r .place) x ∙ sym (ap (λ (r : Refusal). r .place) q);
+    })
+    (λ e.
+    let x : loadingOf s m ≡ refused (refusalOf s m) = sym (refused-answer s m (refusalOf s m) refl (eqb-false _ _ e)) in
+    record { number = ap (λ (r : Loading). r .number) x; place = ap (λ (r : Loading). r .place) x })

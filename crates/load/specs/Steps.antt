@@ -23,8 +23,8 @@ use Rattle.load.specs.declared.Verdict.{Verdict}
 use Rattle.load.specs.declared.Verdict.the-variants.{Refused, Loads}
 use Rattle.load.specs.declared.Loading.{Loading}
 use Rattle.load.specs.Header.{Refusal, refuse, passes, headerRows, flagsOf}
-use Rattle.load.specs.Blocks.{typeAt, lengthAt, nextOf, payloadOf, cutAt, frameAt, onFrame, encrypted, wrongPayload, wrongTables, blocksOf, firstTables, hunksIn, overlay, wordCount}
-use Rattle.load.specs.Load.{walkRows, refused}
+use Rattle.load.specs.Blocks.{typeAt, lengthAt, nextOf, payloadOf, cutAt, frameAt, onFrame, encrypted, wrongPayload, wrongTables, blocksOf, firstTables, hunksIn, hunksOf, overlay, wordCount}
+use Rattle.load.specs.Load.{walkRows, loads, refused}
 
 unfoldable pub headerNumber : List ℕ → ℕ
 headerNumber s = firstOf (headerRows s) passes .number
@@ -108,3 +108,7 @@ allStored s ram = overlay (hunksIn s (length ram) (blocksOf s)) ram
 
 unfoldable pub finishedRamOf : List ℕ → ℕ → List ℕ → List ℕ
 finishedRamOf s t ram = cond (tenAt s t) ram (allStored s ram)
+
+-- the RAM after a load into words that all count as lent
+abbrev pub lentRamOf : List ℕ → List ℕ → List ℕ
+lentRamOf s ram = cond (loads s (length ram)) (overlay (hunksOf s) ram) ram

@@ -1,6 +1,6 @@
 // The load of a version 1 image: a pass that checks and touches no RAM, then one that stores (01, "Load order").
 ghost use mathlib.Core.Path.{_≡_};
-ghost use mathlib.Core.Bool.{cond, not};
+ghost use mathlib.Core.Bool.{not};
 ghost use Prim.Native.Nat.{_+_, _≤_, _<_};
 ghost use lib.ListN.{length};
 ghost use lib.Dec.{eqb};
@@ -11,9 +11,9 @@ ghost use Rattle.sums.specs.Tables.{tablesOf};
 ghost use Rattle.hunk.specs.Hunk.{checkHunk};
 ghost use Rattle.cart.specs.Machine.{lent, lentLimit};
 ghost use Rattle.load.specs.Header.{refuse, wrongMagic};
-ghost use Rattle.load.specs.Blocks.{hunksOf, overlay, frameAt, wrongPayload};
-ghost use Rattle.load.specs.Load.{loads, refused, loadingOf, loadRamOf};
-ghost use Rattle.load.specs.Steps.{headerNumber, framedAt, FrameIs, tablesWrong, onChecked, judgedOf, tablesAfter, stepOf, endedAt, verdictOf, Tabled, TabledBy, finishedOf, finishedRamOf, blockStored, allStored};
+ghost use Rattle.load.specs.Blocks.{frameAt, wrongPayload};
+ghost use Rattle.load.specs.Load.{refused, loadingOf, loadRamOf};
+ghost use Rattle.load.specs.Steps.{headerNumber, framedAt, FrameIs, tablesWrong, onChecked, judgedOf, tablesAfter, stepOf, endedAt, verdictOf, Tabled, TabledBy, finishedOf, finishedRamOf, blockStored, allStored, lentRamOf};
 use cart::Cartridge;
 use tables::Compat;
 use tables::IMAGE_LIMIT;
@@ -378,7 +378,7 @@ fn finish(
 // The load into a RAM of which every word counts as lent.
 fn load_lent(s: &[u8], dow: &[u32; 2048], c324: &[u32; 2048], ram: &mut [u16]) -> Loading
     requires { ⌜ (now dow ≡ tablesOf dowPoly) × (now c324 ≡ tablesOf c324Poly) × (length (now ram) ≤ lentLimit) ⌝ }
-    ensures { λ r. ⌜ (r ≡ loadingOf (now (s .entry)) (length (now (ram .entry)))) × (now (ram .exit) ≡ cond (loads (now (s .entry)) (length (now (ram .entry)))) (overlay (hunksOf (now (s .entry))) (now (ram .entry))) (now (ram .entry))) ⌝ }
+    ensures { λ r. ⌜ (r ≡ loadingOf (now (s .entry)) (length (now (ram .entry)))) × (now (ram .exit) ≡ lentRamOf (now (s .entry)) (now (ram .entry))) ⌝ }
 {
     let k = header(s, dow);
     if k != 0 {
