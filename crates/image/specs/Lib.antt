@@ -1,0 +1,4 @@
+pub mod Form
+pub mod Chosen
+pub mod FormLaws
+pub mod ChosenLaws

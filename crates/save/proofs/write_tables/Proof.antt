@@ -1,0 +1,25 @@
+-- `save::write_tables` meets its contract: the payload in its part, then the frame.
+use mathlib.Core.Path.{refl}
+use native.Mathlib.Omega.{arith}
+use Rattle.save.proofs.Blocks.{framed}
+use borrow.Author.Needs.{needs}
+use Rattle.save.proofs.write_tables.Statement.{statement}
+use Rattle.save.proofs.write_tables.Tie as tie
+
+returns : tie.Need-returns
+returns c =
+    let x = c .before .before .before .before .before .before .put-tables in
+    framed _ _ (c .before .before .before .before .before .before .before .before .before .before .before .before .args .out .now) (x .last .0) _ _
+    (c .before .before .frame .ensures) (x .ensures) (omega arith) refl
+
+pub write-tables-spec : {M : Type 1} → statement M
+write-tables-spec =
+    tie.close
+    (tie.spec
+    (λ c. search needs)
+    (λ c. search needs)
+    (λ c. search needs)
+    (λ c κs. search needs)
+    (λ c κs. search needs)
+    (λ c. search needs)
+    returns)

@@ -1,0 +1,104 @@
+-- The writer's refusals: exactly when, and in their order; which paragraph 9 names; and what a writing without refusal says.
+use Prim.Native.Nat.{ℕ, _+_, _*_, _<_, _≤_}
+use mathlib.Core.Path.{_≡_, refl, sym, ap, _∙_}
+use mathlib.Core.List.{List, [], _∷_, _++_}
+use mathlib.Core.Bool.{Bool, true, false, cond}
+use mathlib.Core.Logic.{_⊎_, inl, inr}
+use native.Mathlib.Omega.{arith}
+use lib.ListN.{length, drop}
+use lib.Dec.{ltb, eqb}
+use borrow.Author.Tests.{ltb-true, ltb-false}
+use Rattle.words.specs.Counts.{count, some}
+use Rattle.words.specs.Rows.{Gives, here, later, Silent, also, none, gives-first, silent-first, first-by}
+use Rattle.cart.specs.Machine.{lent}
+use Rattle.tables.specs.Limits.{imageLimit}
+use Rattle.tables.specs.Tables.{unsupported}
+use Rattle.image.specs.Form.{Tables}
+use Rattle.image.specs.Chosen.{paragraphs, Sized, Chosen}
+use Rattle.save.specs.Lowest.{lowest}
+use Rattle.save.specs.LowestLaws.{First, lowest-first, lowest-some}
+use Rattle.save.specs.Writing.{isMarked, paragraphOf, imageBy, past, refusal, done, refusals, writingOf, writtenOf}
+use Rattle.save.specs.WritingLaws.{marked-lie, length-by}
+use Rattle.save.specs.declared.Writing.{Writing}
+
+module _ (out flags uid : List ℕ) (t : Tables) (ram : List ℕ) (marks : List Bool) where
+  -- no row has the number 0
+  numbered : {w : Writing} → Gives (refusals out flags uid t ram marks) w → w .number ≡ 0 → ⊥
+  numbered (here h) z = omega arith
+  numbered (later h (here k)) z = omega arith
+  numbered (later h (later k (here l))) z = omega arith
+  numbered (later h (later k (later l (here m)))) z = omega arith
+
+  answered : (Gives (refusals out flags uid t ram marks) (writingOf out flags uid t ram marks)) ⊎ (Silent (refusals out flags uid t ram marks))
+  unfolding writingOf
+  answered = first-by (refusals out flags uid t ram marks) (done (length (imageBy flags uid t ram marks)))
+
+  -- refused so exactly when the row of this answer holds, and no row before it does
+  pub record Exactly (w : Writing) : Type 0 where
+    pub only : writingOf out flags uid t ram marks ≡ w → Gives (refusals out flags uid t ram marks) w
+    pub if : Gives (refusals out flags uid t ram marks) w → writingOf out flags uid t ram marks ≡ w
+
+  row-answers : (w : Writing) → Gives (refusals out flags uid t ram marks) w → writingOf out flags uid t ram marks ≡ w
+  unfolding writingOf
+  row-answers w g = gives-first (done (length (imageBy flags uid t ram marks))) g
+
+  none-answers : Silent (refusals out flags uid t ram marks) → writingOf out flags uid t ram marks ≡ done (length (imageBy flags uid t ram marks))
+  unfolding writingOf
+  none-answers s = silent-first (done (length (imageBy flags uid t ram marks))) s
+
+  pub refused-exactly : (w : Writing) → (w .number ≡ 0 → ⊥) → Exactly w
+  refused-exactly w z = record { only = λ e. only e answered; if = row-answers w }
+    where
+      only : writingOf out flags uid t ram marks ≡ w
+          → (Gives (refusals out flags uid t ram marks) (writingOf out flags uid t ram marks)) ⊎ (Silent (refusals out flags uid t ram marks))
+          → Gives (refusals out flags uid t ram marks) w
+      only e (inl g) = rw e at g
+      only e (inr s) = absurd (z (ap (λ (x : Writing). x .number) (sym e ∙ none-answers s)))
+
+  -- written exactly when no row holds
+  pub record Writes : Type 0 where
+    pub only : writingOf out flags uid t ram marks .number ≡ 0 → Silent (refusals out flags uid t ram marks)
+    pub if : Silent (refusals out flags uid t ram marks) → writingOf out flags uid t ram marks ≡ done (length (imageBy flags uid t ram marks))
+
+  pub writes-exactly : Writes
+  writes-exactly = record { only = λ e. only e answered; if = none-answers }
+    where
+      only : writingOf out flags uid t ram marks .number ≡ 0
+          → (Gives (refusals out flags uid t ram marks) (writingOf out flags uid t ram marks)) ⊎ (Silent (refusals out flags uid t ram marks))
+          → Silent (refusals out flags uid t ram marks)
+      only e (inl g) = absurd (numbered g e)
+      only e (inr s) = s
+
+  -- 9 names the lowest marked paragraph that does not lie in the words lent
+  pub names-lowest : some paragraphs (past marks (lent ram)) ≡ true → First (past marks (lent ram)) 0 (lowest paragraphs (past marks (lent ram)))
+  names-lowest e =
+      lowest-first paragraphs (past marks (lent ram)) (ltb-true _ _ (lowest-some paragraphs (past marks (lent ram)) ∙ e))
+
+  -- what a writing without refusal says
+  pub record Accepted : Type 0 where
+    pub supported : unsupported flags (t .permissions) (t .flips) ≡ false
+    pub lie : Chosen (lent ram) paragraphs (isMarked marks) (paragraphOf ram)
+    pub short : length (imageBy flags uid t ram marks) ≤ imageLimit
+    pub room : length (imageBy flags uid t ram marks) ≤ length out
+    pub answer : writingOf out flags uid t ram marks ≡ done (length (imageBy flags uid t ram marks))
+    pub leaves : writtenOf out flags uid t ram marks ≡ imageBy flags uid t ram marks ++ drop (length (imageBy flags uid t ram marks)) out
+
+  left-so : writingOf out flags uid t ram marks .number ≡ 0 → writtenOf out flags uid t ram marks ≡ imageBy flags uid t ram marks ++ drop
+      (length (imageBy flags uid t ram marks)) out
+  unfolding writtenOf
+  left-so e = rw e
+
+  silent-so : Silent (refusals out flags uid t ram marks) → Accepted
+  silent-so (also a (also b (also c (also d none)))) =
+      let w = none-answers (also a (also b (also c (also d none)))) in
+      record {
+        supported = a;
+        lie = marked-lie marks ram b;
+        short = ltb-false _ _ c;
+        room = ltb-false _ _ d;
+        answer = w;
+        leaves = left-so (ap (λ (x : Writing). x .number) w);
+      }
+
+  pub accepted : writingOf out flags uid t ram marks .number ≡ 0 → Accepted
+  accepted e = silent-so (writes-exactly .only e)
