@@ -1,0 +1,33 @@
+-- `grammar::ram_line` meets its contract: straight calls, so what each ensures is put in.
+use Rattle.grammar.specs.Grammar.{ramLine}
+use Rattle.grammar.specs.GrammarLaws.{address-fits, after-fits}
+use borrow.Author.Needs.{needs}
+use Rattle.grammar.proofs.ram_line.Statement.{statement}
+use Rattle.grammar.proofs.ram_line.Tie as tie
+
+ram-of-requires : tie.Need-ram-of-requires
+unfolding ramLine
+ram-of-requires c κs = search (address-fits, after-fits)
+
+returns : tie.Need-returns
+unfolding ramLine
+returns c = cc
+
+pub ram-line-spec : {M : Type 1} → statement M
+ram-line-spec =
+    tie.close
+    (tie.spec
+    (λ c κs. search needs)
+    (λ c. search needs)
+    (λ c κs. search needs)
+    (λ c κs. search needs)
+    (λ c κs. search needs)
+    (λ c. search needs)
+    (λ c κs. search needs)
+    (λ c κs. search needs)
+    (λ c κs. search needs)
+    (λ c. search needs)
+    (λ c κs. search needs)
+    (λ c κs. search needs)
+    ram-of-requires
+    returns)

@@ -1,0 +1,42 @@
+-- `grammar::rom_of` meets its contract: each number that is taken apart decides a step of the definition.
+use Rattle.grammar.specs.Grammar.{romOf}
+use Rattle.grammar.proofs.Shapes.{bind-is, bind-not}
+use borrow.Author.Needs.{needs}
+use Rattle.grammar.proofs.rom_of.Statement.{statement}
+use Rattle.grammar.proofs.rom_of.Tie as tie
+
+returns : tie.Need-returns
+unfolding romOf
+returns c = search (bind-is, bind-not)
+
+returns-2 : tie.Need-returns-2
+unfolding romOf
+returns-2 c = search (bind-is, bind-not)
+
+returns-3 : tie.Need-returns-3
+unfolding romOf
+returns-3 c = search (bind-is, bind-not)
+
+cast-t9 : tie.Need-cast-t9
+unfolding romOf
+cast-t9 c = record { fits = c .before .before .before .before .before .before .before .before .before .pre (c .before .c .given .0 .0) (c .before .c .given .1) }
+
+returns-4 : tie.Need-returns-4
+unfolding romOf
+returns-4 c = search (bind-is, bind-not)
+
+pub rom-of-spec : {M : Type 1} → statement M
+rom-of-spec =
+    tie.close
+    (tie.spec
+    (λ c. search needs)
+    (λ c. search needs)
+    returns
+    (λ c. search needs)
+    (λ c. search needs)
+    returns-2
+    (λ c. search needs)
+    (λ c. search needs)
+    returns-3
+    cast-t9
+    returns-4)

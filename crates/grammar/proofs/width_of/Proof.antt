@@ -1,0 +1,13 @@
+-- `grammar::width_of` meets its contract: the code's test is the definition's.
+use Rattle.words.specs.Tests.{tests}
+use Rattle.grammar.proofs.width_of.Statement.{statement}
+use Rattle.grammar.proofs.width_of.Tie as tie
+
+returns : tie.Need-returns
+returns c = search tests
+
+returns-2 : tie.Need-returns-2
+returns-2 c = search tests
+
+pub width-of-spec : {M : Type 1} → statement M
+width-of-spec = tie.close (tie.spec returns returns-2)
