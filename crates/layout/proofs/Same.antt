@@ -1,0 +1,10 @@
+-- Any two answers that the promise of a public function allows are equal (01, What the promises rule out).
+use denote.Ref.{now}
+use Rattle.words.specs.Same.{OneAnswer, OneLent, same}
+use Rattle.layout.proofs.lay_out.Reads as lay-out
+
+pub one-lay-out : OneAnswer lay-out.Learnt
+one-lay-out κs a y z e f p q = same (p .0) (q .0)
+
+pub one-lay-out-ram : OneLent lay-out.Learnt (λ κs e. now (e .1 .1 .1 .0))
+one-lay-out-ram κs a y z e f p q = same (p .1) (q .1)

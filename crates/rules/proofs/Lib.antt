@@ -1,0 +1,10 @@
+pub mod Tests
+pub mod Lists
+pub mod Claims
+pub mod Checked
+pub mod Clashes
+pub mod Joined
+pub mod Verdicts
+pub mod Owning
+pub mod Covers
+pub mod Same
