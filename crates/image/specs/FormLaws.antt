@@ -4,8 +4,8 @@ use mathlib.Core.Path.{_≡_, refl, sym, ap, ap₂, _∙_}
 use mathlib.Core.List.{List, [], _∷_, _++_, append-assoc}
 use native.Mathlib.Omega.{arith}
 use lib.ListN.{length, take, drop, length-append, length-take, length-drop}
-use Rattle.words.specs.Bytes.{le16, bytes16, length-bytes16}
-use Rattle.image.specs.Form.{joined, headOf, headerOf, blockOf, Tables, tablesPayload, dataOf, dataWords, pieces, cutsOf, Hunk, hunk, le24, hunkPayload, tablesBlock, hunkBlock, imageOf}
+use Rattle.words.specs.Bytes.{le16, length-bytes16}
+use Rattle.image.specs.Form.{joined, headOf, headerOf, blockOf, Tables, tablesPayload, dataOf, dataWords, pieces, cutsOf, Hunk, hunk, le24, hunkPayload, hunkBlock, imageOf}
 use Rattle.image.specs.Chosen.{Sized, Lies, Each, none, also}
 
 pub joined-append : {A : Type 0} (f : A → List ℕ) (xs ys : List A) → joined f (xs ++ ys) ≡ joined f xs ++ joined f ys

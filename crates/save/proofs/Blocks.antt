@@ -4,7 +4,7 @@ use mathlib.Core.Path.{_≡_, refl, sym, ap, _∙_}
 use mathlib.Core.List.{List, [], _∷_, _++_, append-assoc, append-nil}
 use native.Mathlib.Omega.{arith}
 use lib.Dec.{ltb}
-use lib.ListN.{length, getD, set, take, drop, length-append, length-take, length-drop, length-set, drop-of-length-le}
+use lib.ListN.{length, set, take, drop, length-append, length-take, length-drop, length-set, drop-of-length-le}
 use lib.Seq.{sets-eq, take-all, take-at, drop-at, drop-drop, length-take-le}
 use borrow.Author.Tests.{ltb-true, ltb-false}
 use borrow.Rule.Slice.PartMut.{putMid}
@@ -12,8 +12,8 @@ use Rattle.words.specs.Tests.{cases}
 use Rattle.words.specs.Bytes.{bytes16, length-bytes16}
 use Rattle.words.specs.Wrote.{Wrote, wrote-none, wrote-set, wrote-part, wrote-all, wrote-long, wrote-again}
 use Rattle.sums.specs.Crc.{dowcrcOf, crc324Of}
-use Rattle.image.specs.Form.{joined, tables, hunk, headOf, headerOf, blockOf, dataOf, dataWords, pieces, hunkPayload, tablesPayload}
-use Rattle.image.specs.FormLaws.{length-head, length-data, length-hunk, length-pieces, Cut, Piece, piece, hunk-pieces}
+use Rattle.image.specs.Form.{joined, tables, hunk, headOf, headerOf, blockOf, dataOf, pieces, hunkPayload, tablesPayload}
+use Rattle.image.specs.FormLaws.{length-head, length-data, length-hunk, length-pieces, Cut, piece, hunk-pieces}
 
 -- a data block
 pub data-written :

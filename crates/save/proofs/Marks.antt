@@ -1,8 +1,8 @@
 -- The loops over the marks, and the whole image.
-use Prim.Native.Nat.{ℕ, zero, suc, _+_, _-_, _*_, _<_, _≤_, min}
+use Prim.Native.Nat.{ℕ, _+_, _-_, _*_, _<_, _≤_}
 use mathlib.Core.Path.{_≡_, refl, sym, ap, _∙_}
 use mathlib.Core.List.{List, [], _∷_, _++_, append-assoc}
-use mathlib.Core.Bool.{Bool, true, false, cond, _&&_}
+use mathlib.Core.Bool.{Bool, true, false}
 use native.Mathlib.Omega.{arith}
 use native.Mathlib.Numerals.{add-one}
 use lib.Dec.{ltb}
@@ -10,11 +10,11 @@ use lib.ListN.{length, getD, set, take, drop, length-append, length-set}
 use borrow.Author.Tests.{lt-ltb, le-ltb}
 use borrow.Rule.Slice.PartMut.{putMid}
 use Rattle.words.specs.Tests.{and-true, and-false}
-use Rattle.words.specs.Counts.{count, count-more, count-mono}
+use Rattle.words.specs.Counts.{count, count-more}
 use Rattle.words.specs.Wrote.{Wrote, wrote-none, wrote-set, wrote-part, wrote-all, wrote-long}
 use Rattle.cart.specs.Machine.{lent}
 use Rattle.image.specs.Form.{joined, Tables, hunk, headerOf, tablesBlock, tablesPayload, hunkBlock, hunkPayload, imageOf}
-use Rattle.image.specs.Chosen.{chosen, paragraphs, Sized, Lies, Chosen}
+use Rattle.image.specs.Chosen.{chosen, paragraphs, Sized, Chosen}
 use Rattle.image.specs.FormLaws.{length-header, length-block, length-tables, length-hunk, length-hunks}
 use Rattle.image.specs.ChosenLaws.{chosen-below, chosen-off, blocks-on, length-chosen, chosen-lie}
 use Rattle.save.specs.Writing.{isMarked, paragraphOf, marked, imageBy, past}

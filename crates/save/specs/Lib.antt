@@ -1,3 +1,4 @@
+-- What the plain writer answers and leaves, when it refuses, and their laws.
 pub mod Lowest
 pub mod Writing
 pub mod LowestLaws

@@ -1,24 +1,23 @@
 -- The writer's refusals: exactly when, and in their order; which paragraph 9 names; and what a writing without refusal says.
-use Prim.Native.Nat.{ℕ, _+_, _*_, _<_, _≤_}
-use mathlib.Core.Path.{_≡_, refl, sym, ap, _∙_}
-use mathlib.Core.List.{List, [], _∷_, _++_}
-use mathlib.Core.Bool.{Bool, true, false, cond}
+use Prim.Native.Nat.{ℕ, _≤_}
+use mathlib.Core.Path.{_≡_, sym, ap, _∙_}
+use mathlib.Core.List.{List, _++_}
+use mathlib.Core.Bool.{Bool, true, false}
 use mathlib.Core.Logic.{_⊎_, inl, inr}
 use native.Mathlib.Omega.{arith}
 use lib.ListN.{length, drop}
-use lib.Dec.{ltb, eqb}
 use borrow.Author.Tests.{ltb-true, ltb-false}
-use Rattle.words.specs.Counts.{count, some}
+use Rattle.words.specs.Counts.{some}
 use Rattle.words.specs.Rows.{Gives, here, later, Silent, also, none, gives-first, silent-first, first-by}
 use Rattle.cart.specs.Machine.{lent}
 use Rattle.tables.specs.Limits.{imageLimit}
 use Rattle.tables.specs.Tables.{unsupported}
 use Rattle.image.specs.Form.{Tables}
-use Rattle.image.specs.Chosen.{paragraphs, Sized, Chosen}
+use Rattle.image.specs.Chosen.{paragraphs, Chosen}
 use Rattle.save.specs.Lowest.{lowest}
 use Rattle.save.specs.LowestLaws.{First, lowest-first, lowest-some}
-use Rattle.save.specs.Writing.{isMarked, paragraphOf, imageBy, past, refusal, done, refusals, writingOf, writtenOf}
-use Rattle.save.specs.WritingLaws.{marked-lie, length-by}
+use Rattle.save.specs.Writing.{isMarked, paragraphOf, imageBy, past, done, refusals, writingOf, writtenOf}
+use Rattle.save.specs.WritingLaws.{marked-lie}
 use Rattle.save.specs.declared.Writing.{Writing}
 
 module _ (out flags uid : List ℕ) (t : Tables) (ram : List ℕ) (marks : List Bool) where

@@ -1,8 +1,8 @@
 -- The writer's cases, as the code comes to them; and the image's length from the number of marks.
-use Prim.Native.Nat.{ℕ, _+_, _*_, _-_, _<_, _≤_, min}
+use Prim.Native.Nat.{ℕ, _+_, _*_, _<_, _≤_}
 use mathlib.Core.Path.{_≡_, refl, sym, ap, _∙_}
-use mathlib.Core.List.{List, [], _∷_, _++_}
-use mathlib.Core.Bool.{Bool, true, false, cond, _&&_}
+use mathlib.Core.List.{List, _++_}
+use mathlib.Core.Bool.{Bool, true, false}
 use native.Mathlib.Omega.{arith}
 use lib.ListN.{length, drop}
 use lib.Dec.{ltb, eqb}
@@ -13,13 +13,13 @@ use Rattle.words.specs.Counts.{count, some, some-of}
 use Rattle.cart.specs.Machine.{lent}
 use Rattle.tables.specs.Limits.{imageLimit}
 use Rattle.tables.specs.Tables.{unsupported}
-use Rattle.image.specs.Form.{Tables, Hunk, imageOf}
-use Rattle.image.specs.Chosen.{chosen, paragraphs, Sized, Lies, Each, Chosen}
+use Rattle.image.specs.Form.{Tables}
+use Rattle.image.specs.Chosen.{paragraphs, Sized, Chosen}
 use Rattle.image.specs.FormLaws.{length-image}
 use Rattle.image.specs.ChosenLaws.{length-chosen, chosen-lie}
 use Rattle.save.specs.Lowest.{lowest}
 use Rattle.save.specs.LowestLaws.{some-low, some-not}
-use Rattle.save.specs.Writing.{isMarked, paragraphOf, marked, imageBy, past, refusal, done, refusals, writingOf, writtenOf}
+use Rattle.save.specs.Writing.{isMarked, paragraphOf, marked, imageBy, past, refusal, done, writingOf, writtenOf}
 use Rattle.save.specs.declared.Writing.{Writing}
 
 -- where no marked paragraph lies past the words lent, each of them lies in these

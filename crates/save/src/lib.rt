@@ -10,7 +10,7 @@ ghost use Rattle.sums.specs.Crc.{dowPoly, c324Poly, dowcrcOf, crc324Of};
 ghost use Rattle.sums.specs.Tables.{tablesOf};
 ghost use Rattle.cart.specs.Machine.{lent};
 ghost use Rattle.tables.specs.Tables.{unsupported};
-ghost use Rattle.image.specs.Form.{tables, hunk, blockOf, dataOf, hunkPayload, tablesPayload, headOf, headerOf, tablesBlock, hunkBlock, joined};
+ghost use Rattle.image.specs.Form.{tables, hunk, blockOf, dataOf, dataWords, hunkPayload, tablesPayload, headOf, headerOf, tablesBlock, hunkBlock, joined};
 ghost use Rattle.image.specs.Chosen.{paragraphs, Sized, Chosen};
 ghost use Rattle.save.specs.Lowest.{lowest};
 ghost use Rattle.save.specs.Writing.{isMarked, paragraphOf, marked, imageBy, past, refusal, writingOf, writtenOf};
@@ -71,7 +71,7 @@ fn put_words(out: &mut [u8], words: &[u16])
 
 // A 16-bit data block.
 fn put_data(out: &mut [u8], words: &[u16])
-    requires { ⌜ (length (now out) ≡ 1 + 2 * length (now words)) × (length (now words) ≤ 62) ⌝ }
+    requires { ⌜ (length (now out) ≡ 1 + 2 * length (now words)) × (length (now words) ≤ dataWords) ⌝ }
     ensures { λ _. ⌜ now (out .exit) ≡ dataOf (now (words .entry)) ⌝ }
 {
     let n = words.len();

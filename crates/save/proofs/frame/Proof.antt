@@ -1,6 +1,6 @@
 -- `save::frame` meets its contract: eight stores before the payload.
 use native.Mathlib.Omega.{arith}
-use lib.ListN.{length, length-set, length-take}
+use lib.ListN.{length-set, length-take}
 use Rattle.save.proofs.Blocks.{frame-written}
 use borrow.Author.Needs.{needs}
 use Rattle.save.proofs.frame.Statement.{statement}

@@ -1,5 +1,5 @@
 -- `save::put_data` meets its contract: the count, and the words behind it.
-use mathlib.Core.Path.{refl, sym, ap, _∙_}
+use mathlib.Core.Path.{sym, ap, _∙_}
 use native.Mathlib.Omega.{arith}
 use lib.ListN.{length, length-set, length-take, length-drop}
 use Rattle.image.specs.FormLaws.{length-data}

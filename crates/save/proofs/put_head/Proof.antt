@@ -1,7 +1,4 @@
 -- `save::put_head` meets its contract: four parts, one after the other.
-use mathlib.Core.Path.{ap, _∙_}
-use lib.ListN.{length}
-use Rattle.image.specs.FormLaws.{length-head}
 use Rattle.save.proofs.Blocks.{head-written}
 use borrow.Author.Needs.{needs}
 use Rattle.save.proofs.put_head.Statement.{statement}

@@ -1,5 +1,4 @@
 -- `save::write_header` meets its contract: the first 31 bytes in their part, then their checksum.
-use mathlib.Core.Path.{sym}
 use Rattle.save.proofs.Blocks.{front-long, header-written}
 use borrow.Author.Needs.{needs}
 use Rattle.save.proofs.write_header.Statement.{statement}
