@@ -1,5 +1,5 @@
 -- The bench cases marked (P), of the definitions that the promises use, as one table under one statement (01, Bench cases).
-use Prim.Native.Nat.{ℕ}
+use Prim.Native.Nat.{ℕ, suc}
 use mathlib.Core.Path.{_≡_, refl}
 use mathlib.Core.Bool.{true}
 use Rattle.sums.specs.Cases.{upTo15, four}
@@ -7,6 +7,12 @@ use Rattle.sums.specs.Crc.{crcBit, crcBits, crcByte, crcFrom, dowcrcOf, crc32Of
 use Rattle.places.specs.declared.Console.{Console}
 use Rattle.cart.specs.declared.Request.the-variants.{Entry, Nothing}
 use Rattle.cart.specs.Machine.{flipMapping, flipPermissions, locate, storedWord, asks}
+use Rattle.lines.specs.Limits.{lineLimit}
+use Rattle.grammar.specs.Words.{text, cut}
+use Rattle.grammar.specs.Grammar.{wordsSay, mappingLine, headingLine, romLine, pagedLine, romOf, pagedOf, _>>=_, dollar, page, hexFrom, same}
+use Rattle.cfg.specs.File.{linesOf, saysFrom, entriesFrom, entriesOf, refusal, readingOf}
+use Rattle.cfg.specs.Examples.{entries, case8}
+use Rattle.plays.specs.Bench.{six, Six, case-6, seven, Seven, case-7}
 
 abbrev pub at : ℕ → Console
 at a = record { 0 = a }
@@ -28,9 +34,18 @@ pub record Bench : Type 0 where
   pub asks-83 : asks (at 0x5FFF) 0x5A53 ≡ Entry 83
   pub asks-elsewhere : asks (at 0x5FFF) 0x6A53 ≡ Nothing
   pub asks-beside : asks (at 0x5FFE) 0x5A53 ≡ Nothing
+  -- 6. a paragraph of ROM: its file, and what it builds to
+  pub rom-file : entriesOf (text "[mapping]\n$0000 - $00FF = $5000") ≡ six
+  pub rom : Six
+  -- 7. page 2 of chapter 12: its file, the flip table, and what is read
+  pub page-file : entriesOf (text "[mapping]\n$0000 - $0FFF = $C000 PAGE 2") ≡ seven
+  pub page-2 : Seven
+  -- 8. 64 entries pass rule 24, 65 don't
+  pub entries-64 : readingOf (entries lineLimit) .number ≡ 0
+  pub entries-65 : readingOf (entries (suc lineLimit)) ≡ refusal 24 (suc (suc lineLimit))
 
 pub bench : Bench
-unfolding crcFrom crcByte crcBits crcBit asks
+unfolding crcFrom crcByte crcBits crcBit asks linesOf saysFrom entriesFrom wordsSay mappingLine headingLine romLine pagedLine romOf pagedOf _>>=_ dollar page hexFrom same cut
 bench =
     record {
       dowcrc-16 = refl;
@@ -44,4 +59,10 @@ bench =
       asks-83 = refl;
       asks-elsewhere = refl;
       asks-beside = refl;
+      rom-file = refl;
+      rom = case-6;
+      page-file = refl;
+      page-2 = case-7;
+      entries-64 = case8 .0;
+      entries-65 = case8 .2;
     }
