@@ -7,11 +7,10 @@ use mathlib.Core.Bool.{Bool, true, false, cond, not, _||_}
 use mathlib.Core.Logic.{_↔_}
 use native.Mathlib.Omega.{arith}
 use lib.ListN.{length, getD, length-append}
-use lib.Dec.{eqb, lit<}
 use borrow.Author.Tests.{eqb-true, eq-eqb, ne-eqb, ltb-false}
 use Rattle.words.specs.Tests.{cases}
-use Rattle.words.specs.Rows.{Row, Gives, Silent, none, also}
-use Rattle.words.specs.Refusals.{Refusing, refusing-append, silent-left, silent-right, refused-exactly as exactly-refused, accepted-exactly as exactly-accepted}
+use Rattle.words.specs.Rows.{Row, Gives, Silent, none, also, silent-left, silent-right}
+use Rattle.words.specs.Refusals.{Refusing, refusing-append, refused-exactly as exactly-refused, accepted-exactly as exactly-accepted}
 use Rattle.lines.specs.declared.Line.{Line}
 use Rattle.lines.specs.Bin.{binWords}
 use Rattle.cfg.specs.declared.Reading.{Reading}
@@ -25,7 +24,7 @@ use Rattle.build.specs.Building.{readRow, tooShort, wrongBin, rowsOf, ve
 
 module _ (bin cfg out : List ℕ) where
   read-rows : Refusing numberOf (map readRow (File.rows cfg))
-  read-rows = (lit< tt, (lit< tt, (lit< tt, (lit< tt, (lit< tt, tt)))))
+  read-rows = ((λ z. omega arith), ((λ z. omega arith), ((λ z. omega arith), ((λ z. omega arith), ((λ z. omega arith), tt)))))
 
   -- what is asked behind the CFG's rows
   abbrev behind : List (Row Verdict)
@@ -34,15 +33,15 @@ module _ (bin cfg out : List ℕ) where
   behind-rows : Refusing numberOf behind
   behind-rows =
       refusing-append numberOf (ruleRows (binWords bin) (File.entriesOf cfg)) ((tooShort bin cfg out, (29, 0)) ∷ [])
-      (rule-rows (binWords bin) (File.entriesOf cfg)) (lit< tt, tt)
+      (rule-rows (binWords bin) (File.entriesOf cfg)) ((λ z. omega arith), tt)
 
   every-row : Refusing numberOf (rowsOf bin cfg out)
-  every-row = (lit< tt, refusing-append numberOf (map readRow (File.rows cfg)) behind read-rows behind-rows)
+  every-row = ((λ z. omega arith), refusing-append numberOf (map readRow (File.rows cfg)) behind read-rows behind-rows)
 
   -- refused with a number and a place exactly when that row holds and none before it does
   pub refused-exactly : (v : Verdict) → 0 < v .0 → (verdictOf bin cfg out ≡ v) ↔ Gives (rowsOf bin cfg out) v
   unfolding verdictOf
-  refused-exactly v h = exactly-refused numberOf (rowsOf bin cfg out) every-row passed refl v h
+  refused-exactly v h = exactly-refused numberOf (rowsOf bin cfg out) every-row passed refl v (λ z. omega arith)
 
   -- accepted exactly when no row holds
   pub built-exactly : (verdictOf bin cfg out .0 ≡ 0) ↔ Silent (rowsOf bin cfg out)

@@ -10,8 +10,8 @@ use lib.Dec.{eqb}
 use mir.Val.{Fits}
 use mir.Syntax.{w64}
 use Rattle.words.specs.Lists.{part}
-use Rattle.words.specs.Tests.{cases, true-is-not-false}
-use Rattle.words.specs.Rows.{Row, firstOf, Gives, Silent, here, gives-first, silent-first}
+use Rattle.words.specs.Tests.{cases, true-is-not-false, or-assoc}
+use Rattle.words.specs.Rows.{Row, firstOf, Gives, Silent, here, gives-first, silent-first, first-append}
 use Rattle.hunk.specs.Hunk.{storeHunk}
 use Rattle.load.specs.declared.Frame.{Frame}
 use Rattle.load.specs.declared.Frame.the-variants.{Over, Cut, Framed}
@@ -21,10 +21,10 @@ use Rattle.load.specs.declared.Step.{Step}
 use Rattle.load.specs.declared.Step.the-variants.{Ends, No, Next}
 use Rattle.load.specs.declared.Verdict.{Verdict}
 use Rattle.load.specs.declared.Verdict.the-variants.{Refused, Loads}
-use Rattle.load.specs.Header.{Refusal, refuse, passes}
+use Rattle.load.specs.Header.{Refusal, refuse, passes, numberOf}
 use Rattle.load.specs.Blocks.{typeAt, lengthAt, payloadOf, frameAt, onFrame, isTables, blockRows, startsFrom, blocksOf, anyTables, firstTables, blocksRows, isHunk, hunkOf, hunksIn, overlay, wordCount}
 use Rattle.load.specs.Load.{noneRows}
-use Rattle.load.specs.Rows.{first-append, gives-named, or-assoc}
+use Rattle.words.specs.Refusals.{gives-refused}
 use Rattle.load.specs.LoadLaws.{block-named}
 use Rattle.load.specs.Steps.{FrameIs, judgedOf, tablesAfter, onJudged, stepOf, endedAt, verdictBy, verdictOf, Tabled, TabledBy, blockStored, allStored}
 use Rattle.load.specs.StepsLaws.{frame-held, cut-in, Passed, judged-good, judged-bad, passed-count, passed-few, passed-tables}
@@ -120,7 +120,7 @@ verdict-refused s m tables p blocks words k at rest g =
     ∙ first-append (blockRows s m e p) (blocksRows s m (e || isTables s p) rest) (firstOf (noneLeft s e (p ∷ rest)) passes)
     ∙ gives-first _ g in
     ap (λ (x : Refusal). verdictBy x (cond (eqb tables 0) (firstTables s (p ∷ rest)) tables) (blocks + length (p ∷ rest)) (words + wordCount (hunksIn s m (p ∷ rest)))) r
-    ∙ by-number (refuse k at) _ _ _ (gives-named (block-named s m e p) g)
+    ∙ by-number (refuse k at) _ _ _ (gives-refused numberOf (block-named s m e p) g)
 
 -- the end of the file
 verdict-ended : (s : List ℕ) (m tables blocks words : ℕ) → verdictFrom s m tables blocks words [] ≡ endedAt (length s) tables blocks words

@@ -14,6 +14,9 @@ pub record Refusal : Type 0 where
   pub number : ℕ
   pub place : ℕ
 
+abbrev pub numberOf : Refusal → ℕ
+numberOf r = r .number
+
 abbrev pub refuse : ℕ → ℕ → Refusal
 refuse n p = record { number = n; place = p }
 

@@ -5,7 +5,6 @@ pub mod Load
 pub mod Refusals
 pub mod Ram
 pub mod Cases
-pub mod Rows
 pub mod Steps
 pub mod StepsLaws
 pub mod BlocksLaws

@@ -10,7 +10,7 @@ use lib.ListN.{length, take, drop, take-append-drop}
 use lib.Seq.{length-take-le}
 use lib.Dec.{ltb, eqb}
 use Rattle.words.specs.Tests.{cases, and-right, or-false-left, true-is-not-false}
-use Rattle.words.specs.Rows.{Row, firstOf, Silent, also, gives-first, silent-first}
+use Rattle.words.specs.Rows.{Row, firstOf, Silent, also, gives-first, silent-first, first-append, silent-left, silent-right, first-by, gives-append, Gives}
 use Rattle.hunk.specs.declared.Checked.{Checked}
 use Rattle.hunk.specs.declared.Checked.the-variants.{Whole, Broken}
 use Rattle.hunk.specs.Lay.{lay, Lies, lay-front, length-lay}
@@ -21,54 +21,50 @@ use Rattle.tables.specs.Limits.{imageLimit}
 use Rattle.load.specs.declared.Loading.{Loading}
 use Rattle.load.specs.declared.Verdict.{Verdict}
 use Rattle.load.specs.declared.Verdict.the-variants.{Refused, Loads}
-use Rattle.load.specs.Header.{Refusal, refuse, passes, wrongLength, wrongMagic, wrongVersion, wrongHeaderSum, headerRows}
+use Rattle.load.specs.Header.{Refusal, numberOf, refuse, passes, wrongLength, wrongMagic, wrongVersion, wrongHeaderSum, headerRows}
 use Rattle.load.specs.Blocks.{typeAt, payloadOf, cutAt, broken, wrongHunk, isTables, blockRows, blocksOf, firstTables, blocksRows, Hunk, isHunk, hunksIn, hunksOf, overlay, wordCount}
 use Rattle.load.specs.Load.{noneRows, tenRows, walkRows, rowsOf, refusalOf, loads, loaded, refused, loadingOf, loadRamOf}
-use Rattle.load.specs.Rows.{first-append, silent-left, silent-right, Named, named-append, Answered, answered}
+use Rattle.words.specs.Refusals.{Refusing, refusing-append, accepted-exactly}
 use Rattle.load.specs.StepsLaws.{silent-hunk}
 use Rattle.load.specs.Steps.{headerNumber, verdictOf, tenAt, loadedBy, finishedOf, allStored, finishedRamOf, lentRamOf}
 
 -- ---- every row has a number
 
-pub header-named : (s : List ℕ) → Named (headerRows s)
+pub header-named : (s : List ℕ) → Refusing numberOf (headerRows s)
 unfolding headerRows
 header-named s = ((λ z. omega arith), ((λ z. omega arith), ((λ z. omega arith), ((λ z. omega arith), tt))))
 
-pub block-named : (s : List ℕ) (m : ℕ) (e : Bool) (p : ℕ) → Named (blockRows s m e p)
+pub block-named : (s : List ℕ) (m : ℕ) (e : Bool) (p : ℕ) → Refusing numberOf (blockRows s m e p)
 unfolding blockRows
 block-named s m e p = ((λ z. omega arith), ((λ z. omega arith), ((λ z. omega arith), ((λ z. omega arith), ((λ z. omega arith), tt)))))
 
-pub blocks-named : (s : List ℕ) (m : ℕ) (e : Bool) (ps : List ℕ) → Named (blocksRows s m e ps)
+pub blocks-named : (s : List ℕ) (m : ℕ) (e : Bool) (ps : List ℕ) → Refusing numberOf (blocksRows s m e ps)
 unfolding blocksRows
 blocks-named s m e [] = tt
-blocks-named s m e (p ∷ ps) = named-append (blockRows s m e p) _ (block-named s m e p) (blocks-named s m (e || isTables s p) ps)
+blocks-named s m e (p ∷ ps) = refusing-append numberOf (blockRows s m e p) _ (block-named s m e p) (blocks-named s m (e || isTables s p) ps)
 
-pub walk-named : (s : List ℕ) (m : ℕ) → Named (walkRows s m)
+pub walk-named : (s : List ℕ) (m : ℕ) → Refusing numberOf (walkRows s m)
 unfolding noneRows
-walk-named s m = named-append (blocksRows s m false (blocksOf s)) _ (blocks-named s m false (blocksOf s)) ((λ z. omega arith), tt)
+walk-named s m = refusing-append numberOf (blocksRows s m false (blocksOf s)) _ (blocks-named s m false (blocksOf s)) ((λ z. omega arith), tt)
 
-pub ten-named : (s : List ℕ) → Named (tenRows s)
+pub ten-named : (s : List ℕ) → Refusing numberOf (tenRows s)
 unfolding tenRows
 ten-named s = ((λ z. omega arith), tt)
 
-pub rows-named : (s : List ℕ) (m : ℕ) → Named (rowsOf s m)
-rows-named s m = named-append (headerRows s) _ (header-named s) (named-append (walkRows s m) _ (walk-named s m) (ten-named s))
+pub rows-named : (s : List ℕ) (m : ℕ) → Refusing numberOf (rowsOf s m)
+rows-named s m = refusing-append numberOf (headerRows s) _ (header-named s) (refusing-append numberOf (walkRows s m) _ (walk-named s m) (ten-named s))
 
 -- ---- a table that is answered, whatever stands behind it
 
-front : (xs ys : List (Row Refusal)) → Named xs → (firstOf xs passes .number ≡ 0 → ⊥) → firstOf (xs ++ ys) passes ≡ firstOf xs passes
-front xs ys h n = go (answered xs h)
+front : (xs ys : List (Row Refusal)) → (firstOf xs passes .number ≡ 0 → ⊥) → firstOf (xs ++ ys) passes ≡ firstOf xs passes
+front xs ys n = go (first-by xs passes)
   where
-    go : (Answered xs (firstOf xs passes)) ⊎ (Silent xs) → firstOf (xs ++ ys) passes ≡ firstOf xs passes
-    go (inl a) = first-append xs ys passes ∙ gives-first (firstOf ys passes) (a .gives)
-    go (inr t) = absurd (n (ap (λ (r : Refusal). r .number) (silent-first passes t)))
+    go : (Gives xs (firstOf xs passes)) ⊎ (Silent xs) → firstOf (xs ++ ys) passes ≡ firstOf xs passes
+    go (inl g) = gives-first passes (gives-append ys g)
+    go (inr t) = absurd (n (ap numberOf (silent-first passes t)))
 
-quiet : (xs : List (Row Refusal)) → Named xs → firstOf xs passes .number ≡ 0 → Silent xs
-quiet xs h z = go (answered xs h)
-  where
-    go : (Answered xs (firstOf xs passes)) ⊎ (Silent xs) → Silent xs
-    go (inl a) = absurd (a .numbered z)
-    go (inr t) = t
+quiet : (xs : List (Row Refusal)) → Refusing numberOf xs → firstOf xs passes .number ≡ 0 → Silent xs
+quiet xs h z = accepted-exactly numberOf xs h passes refl .0 z
 
 behind : (xs ys : List (Row Refusal)) → Silent xs → firstOf (xs ++ ys) passes ≡ firstOf ys passes
 behind xs ys t = first-append xs ys passes ∙ silent-first (firstOf ys passes) t
@@ -91,7 +87,7 @@ unfolding refusalOf headerNumber
 by-header s m k e n =
     let r : Refusal = firstOf (headerRows s) passes in
     let z : r .place ≡ 0 = header-place s in
-    front (headerRows s) (walkRows s m ++ tenRows s) (header-named s) (λ i. n (e ∙ i)) ∙ parts r k e z
+    front (headerRows s) (walkRows s m ++ tenRows s) (λ i. n (e ∙ i)) ∙ parts r k e z
   where
     parts : (r : Refusal) (k : ℕ) → k ≡ r .number → r .place ≡ 0 → r ≡ refuse k 0
     parts r k e z = rw (e, ← z)
@@ -124,7 +120,7 @@ module _ (s : List ℕ) (m : ℕ) (h : 0 ≡ headerNumber s) where
       let x : Refused k p ≡ Refused (firstOf (walkRows s m) passes .number) (firstOf (walkRows s m) passes .place) = simp z at e in
       let a : k ≡ firstOf (walkRows s m) passes .number = cc in
       let b : p ≡ firstOf (walkRows s m) passes .place = cc in
-      (past-header ∙ front (walkRows s m) (tenRows s) (walk-named s m) (eqb-false _ _ z) ∙ rw (a, b), λ i. eqb-false _ _ z (sym a ∙ i)))
+      (past-header ∙ front (walkRows s m) (tenRows s) (eqb-false _ _ z) ∙ rw (a, b), λ i. eqb-false _ _ z (sym a ∙ i)))
 
   -- what the checking pass found, where it refuses nothing
   pub record Walked (t blocks words : ℕ) : Type 0 where

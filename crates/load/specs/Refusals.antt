@@ -3,44 +3,28 @@ use Prim.Native.Nat.{ℕ}
 use mathlib.Core.Path.{_≡_, refl, sym, ap, _∙_}
 use mathlib.Core.List.{List, [], _∷_, _++_}
 use mathlib.Core.Bool.{Bool, true, false, _||_}
-use mathlib.Core.Logic.{_⊎_, inl, inr}
+use mathlib.Core.Logic.{_⊎_, inl, inr, _↔_}
 use native.Mathlib.Omega.{arith}
 use borrow.Author.Tests.{eqb-false}
-use Rattle.words.specs.Tests.{cases}
-use Rattle.words.specs.Rows.{firstOf, Gives, Silent, none, gives-first, silent-first}
+use Rattle.words.specs.Tests.{cases, or-assoc, or-none}
+use Rattle.words.specs.Rows.{firstOf, Gives, Silent, none, gives-first, silent-first, silent-left, silent-right, silent-append, silent-gives, gives-append, gives-cases}
 use Rattle.load.specs.declared.Loading.{Loading}
-use Rattle.load.specs.Header.{Refusal, refuse, passes, headerRows}
+use Rattle.load.specs.Header.{Refusal, numberOf, refuse, passes, headerRows}
 use Rattle.load.specs.Blocks.{cutAt, encrypted, wrongPayload, wrongTables, wrongHunk, isTables, blockRows, blocksOf, anyTables, blocksRows}
 use Rattle.load.specs.Load.{noneRows, tenRows, walkRows, rowsOf, refusalOf, loads, loaded, refused, loadingOf}
-use Rattle.load.specs.Rows.{silent-left, silent-right, silent-append, silent-gives, gives-append, gives-cases, gives-named, Answered, answered, or-assoc, or-none}
+use Rattle.words.specs.Refusals.{gives-refused, refused-exactly as exactly-refused, accepted-exactly as exactly-accepted}
 use Rattle.load.specs.LoadLaws.{rows-named, block-named, loads-silent, loaded-answer, refused-answer}
 
 -- by the table of all rows
-pub record Exactly (s : List ℕ) (m n p : ℕ) : Type 0 where
-  pub only : refusalOf s m ≡ refuse n p → Gives (rowsOf s m) (refuse n p)
-  pub if : Gives (rowsOf s m) (refuse n p) → refusalOf s m ≡ refuse n p
-
-pub refused-exactly : (s : List ℕ) (m n p : ℕ) → (n ≡ 0 → ⊥) → Exactly s m n p
+pub refused-exactly : (s : List ℕ) (m n p : ℕ) → (n ≡ 0 → ⊥) → (refusalOf s m ≡ refuse n p) ↔ Gives (rowsOf s m) (refuse n p)
 unfolding refusalOf
-refused-exactly s m n p z =
-    record { only = λ e. only e (answered (rowsOf s m) (rows-named s m)); if = λ g. gives-first passes g }
-  where
-    only : firstOf (rowsOf s m) passes ≡ refuse n p → (Answered (rowsOf s m) (firstOf (rowsOf s m) passes)) ⊎ (Silent (rowsOf s m)) → Gives (rowsOf s m) (refuse n p)
-    only e (inl a) = rw e at (a .gives)
-    only e (inr q) = absurd (z (ap (λ (r : Refusal). r .number) (sym e ∙ silent-first passes q)))
+refused-exactly s m n p z = exactly-refused numberOf (rowsOf s m) (rows-named s m) passes refl (refuse n p) z
 
 -- and it loads exactly when no row holds
-pub record Loads (s : List ℕ) (m : ℕ) : Type 0 where
-  pub only : refusalOf s m ≡ passes → Silent (rowsOf s m)
-  pub if : Silent (rowsOf s m) → refusalOf s m ≡ passes
-
-pub loads-exactly : (s : List ℕ) (m : ℕ) → Loads s m
+pub loads-exactly : (s : List ℕ) (m : ℕ) → (refusalOf s m ≡ passes) ↔ Silent (rowsOf s m)
 unfolding refusalOf
-loads-exactly s m = record { only = λ e. only e (answered (rowsOf s m) (rows-named s m)); if = λ q. silent-first passes q }
-  where
-    only : firstOf (rowsOf s m) passes ≡ passes → (Answered (rowsOf s m) (firstOf (rowsOf s m) passes)) ⊎ (Silent (rowsOf s m)) → Silent (rowsOf s m)
-    only e (inl a) = absurd (a .numbered (ap (λ (r : Refusal). r .number) e))
-    only e (inr q) = q
+loads-exactly s m =
+    ((λ e. exactly-accepted numberOf (rowsOf s m) (rows-named s m) passes refl .0 (ap numberOf e)), (λ q. silent-first passes q))
 
 -- ---- the same, block by block
 
@@ -114,14 +98,11 @@ because-gives s m r (no-tables h q g) = silent-gives h (gives-append _ (silent-g
 because-gives s m r (ten h q g) = silent-gives h (silent-gives q g)
 
 -- refused with n at p exactly because of this
-pub record Reason (s : List ℕ) (m n p : ℕ) : Type 0 where
-  pub only : refusalOf s m ≡ refuse n p → Because s m (refuse n p)
-  pub if : Because s m (refuse n p) → refusalOf s m ≡ refuse n p
-
-pub refused-because : (s : List ℕ) (m n p : ℕ) → (n ≡ 0 → ⊥) → Reason s m n p
-refused-because s m n p z =
-    let x : Exactly s m n p = refused-exactly s m n p z in
-    record { only = λ e. because s m (refuse n p) (x .only e); if = λ b. x .if (because-gives s m (refuse n p) b) }
+pub refused-because : (s : List ℕ) (m n p : ℕ) → (n ≡ 0 → ⊥) → (refusalOf s m ≡ refuse n p) ↔ Because s m (refuse n p)
+refused-because s m n p z = (
+  (λ e. because s m (refuse n p) (refused-exactly s m n p z .0 e)),
+  (λ b. refused-exactly s m n p z .1 (because-gives s m (refuse n p) b)),
+)
 
 -- every refusal of a block names the block's start
 place-by : (a b c d e : Bool) (p : ℕ) (r : Refusal)
@@ -137,7 +118,7 @@ pub block-place : (s : List ℕ) (m : ℕ) (earlier : Bool) (p : ℕ) (r : Refus
 unfolding blockRows
 block-place s m earlier p r g =
     place-by (cutAt s p) (encrypted s p) (wrongPayload s p) (wrongTables s earlier p) (wrongHunk s m p) p r (gives-first passes g)
-    (gives-named (block-named s m earlier p) g)
+    (gives-refused numberOf (block-named s m earlier p) g)
 
 -- what a load answers is this number and this place
 pub record Answers (s : List ℕ) (m : ℕ) : Type 0 where
@@ -148,7 +129,7 @@ pub answers : (s : List ℕ) (m : ℕ) → Answers s m
 answers s m =
     cases (loads s m)
     (λ e.
-    let q : refusalOf s m ≡ passes = loads-exactly s m .if (loads-silent s m e) in
+    let q : refusalOf s m ≡ passes = loads-exactly s m .1 (loads-silent s m e) in
     let x : loadingOf s m ≡ loaded s = sym (loaded-answer s m q) in
     record {
       number = ap (λ (r : Loading). r .number) x ∙ sym (ap (λ (r : Refusal). r .number) q);

@@ -30,16 +30,16 @@ numberOf v = v .0
 
 line-rows : (words : ℕ) (lines : List Line) → Refusing numberOf (lineRows words lines)
 line-rows words [] = tt
-line-rows words (l ∷ ls) = (omega arith, (omega arith, line-rows words ls))
+line-rows words (l ∷ ls) = ((λ z. omega arith), ((λ z. omega arith), line-rows words ls))
 
 share-rows : (earlier lines : List Line) → Refusing numberOf (shareRows earlier lines)
 share-rows earlier [] = tt
-share-rows earlier (l ∷ ls) = (omega arith, share-rows (earlier ++ (l ∷ [])) ls)
+share-rows earlier (l ∷ ls) = ((λ z. omega arith), share-rows (earlier ++ (l ∷ [])) ls)
 
 chapter-rows : (f : ℕ → Bool) (i n : ℕ) → Refusing numberOf (made {A = Row Verdict} i n (λ x. (f x, (28, x))))
 unfolding made
 chapter-rows f i zero = tt
-chapter-rows f i (suc n) = (omega arith, chapter-rows f (suc i) n)
+chapter-rows f i (suc n) = ((λ z. omega arith), chapter-rows f (suc i) n)
 
 pub rule-rows : (words : ℕ) (lines : List Line) → Refusing numberOf (ruleRows words lines)
 rule-rows words lines =
@@ -50,7 +50,7 @@ module _ (words : ℕ) (lines : List Line) where
   -- refused with a number and a place exactly when that row holds and none before it does
   pub refused-exactly : (v : Verdict) → 0 < v .0 → (judgeOf words lines ≡ v) ↔ Gives (ruleRows words lines) v
   unfolding judgeOf
-  refused-exactly v h = exactly-refused numberOf (ruleRows words lines) (rule-rows words lines) passed refl v h
+  refused-exactly v h = exactly-refused numberOf (ruleRows words lines) (rule-rows words lines) passed refl v (λ z. omega arith)
 
   -- accepted exactly when no row holds
   pub accepted-exactly : (judgeOf words lines ≡ passed) ↔ Silent (ruleRows words lines)

@@ -12,7 +12,7 @@ use borrow.Author.Tests.{le-ltb, ltb-false, ne-eqb, leb-true, leb-false}
 use Rattle.words.specs.Tests.{cases, true-is-not-false, and-left, and-right, or-left, or-right, or-cases, same-test}
 use Rattle.words.specs.Tables.{made}
 use Rattle.words.specs.Counts.{every-at, every-of, some-of, some-at, Place}
-use Rattle.words.specs.Rows.{Row, firstOf}
+use Rattle.words.specs.Rows.{Row, firstOf, first-append}
 use Rattle.lines.specs.declared.Entry.{Entry}
 use Rattle.lines.specs.declared.Line.{Line}
 use Rattle.lines.specs.Lines.{first, last, layer, holds, isRam, lineAt}
@@ -24,7 +24,7 @@ use Rattle.cart.specs.Machine.{firstK, silent}
 use Rattle.cart.specs.MachineLaws.{first-small}
 use Rattle.rules.specs.Rules.{Verdict, passed, outOfRange, misshapen, rival, isSome, lineIn, uses, paged, throughout, isRom, isRamLine, allRom, noRom, noRam, breaksPlain, lineRows, shareRows, chapterRows, judgeOf}
 use Rattle.rules.specs.Accepted.{Accepted}
-use Rattle.rules.specs.RowLaws.{first-append, row-passed, row-rest}
+use Rattle.rules.specs.RowLaws.{row-passed, row-rest}
 use Rattle.rules.specs.Shapes.{PlainShape, PageShape, PlainLine, PageLine, Fine, fine-of, is-no}
 
 -- 27: no line shares with an earlier one

@@ -1,14 +1,15 @@
 -- The writer's refusals: exactly when, and in their order; which paragraph 9 names; and what a writing without refusal says.
 use Prim.Native.Nat.{ℕ, _≤_}
-use mathlib.Core.Path.{_≡_, sym, ap, _∙_}
+use mathlib.Core.Path.{_≡_, refl, ap, _∙_}
 use mathlib.Core.List.{List, _++_}
 use mathlib.Core.Bool.{Bool, true, false}
-use mathlib.Core.Logic.{_⊎_, inl, inr}
+use mathlib.Core.Logic.{_↔_}
 use native.Mathlib.Omega.{arith}
 use lib.ListN.{length, drop}
 use borrow.Author.Tests.{ltb-true, ltb-false}
 use Rattle.words.specs.Counts.{some}
-use Rattle.words.specs.Rows.{Gives, here, later, Silent, also, none, gives-first, silent-first, first-by}
+use Rattle.words.specs.Rows.{Gives, Silent, also, none, silent-first}
+use Rattle.words.specs.Refusals.{Refusing, refused-exactly as exactly-refused, accepted-exactly as exactly-accepted}
 use Rattle.cart.specs.Machine.{lent}
 use Rattle.tables.specs.Limits.{imageLimit}
 use Rattle.tables.specs.Tables.{unsupported}
@@ -20,53 +21,27 @@ use Rattle.save.specs.Writing.{isMarked, paragraphOf, imageBy, past, don
 use Rattle.save.specs.WritingLaws.{marked-lie}
 use Rattle.save.specs.declared.Writing.{Writing}
 
-module _ (out flags uid : List ℕ) (t : Tables) (ram : List ℕ) (marks : List Bool) where
-  -- no row has the number 0
-  numbered : {w : Writing} → Gives (refusals out flags uid t ram marks) w → w .number ≡ 0 → ⊥
-  numbered (here h) z = omega arith
-  numbered (later h (here k)) z = omega arith
-  numbered (later h (later k (here l))) z = omega arith
-  numbered (later h (later k (later l (here m)))) z = omega arith
+abbrev pub numberOf : Writing → ℕ
+numberOf w = w .number
 
-  answered : (Gives (refusals out flags uid t ram marks) (writingOf out flags uid t ram marks)) ⊎ (Silent (refusals out flags uid t ram marks))
-  unfolding writingOf
-  answered = first-by (refusals out flags uid t ram marks) (done (length (imageBy flags uid t ram marks)))
+module _ (out flags uid : List ℕ) (t : Tables) (ram : List ℕ) (marks : List Bool) where
+  every-row : Refusing numberOf (refusals out flags uid t ram marks)
+  every-row = ((λ z. omega arith), ((λ z. omega arith), ((λ z. omega arith), ((λ z. omega arith), tt))))
 
   -- refused so exactly when the row of this answer holds, and no row before it does
-  pub record Exactly (w : Writing) : Type 0 where
-    pub only : writingOf out flags uid t ram marks ≡ w → Gives (refusals out flags uid t ram marks) w
-    pub if : Gives (refusals out flags uid t ram marks) w → writingOf out flags uid t ram marks ≡ w
-
-  row-answers : (w : Writing) → Gives (refusals out flags uid t ram marks) w → writingOf out flags uid t ram marks ≡ w
+  pub refused-exactly : (w : Writing) → (w .number ≡ 0 → ⊥) → (writingOf out flags uid t ram marks ≡ w) ↔ Gives (refusals out flags uid t ram marks) w
   unfolding writingOf
-  row-answers w g = gives-first (done (length (imageBy flags uid t ram marks))) g
+  refused-exactly w h =
+      exactly-refused numberOf (refusals out flags uid t ram marks) every-row (done (length (imageBy flags uid t ram marks))) refl w h
+
+  -- written exactly when no row holds
+  pub writes-exactly : (writingOf out flags uid t ram marks .number ≡ 0) ↔ Silent (refusals out flags uid t ram marks)
+  unfolding writingOf
+  writes-exactly = exactly-accepted numberOf (refusals out flags uid t ram marks) every-row (done (length (imageBy flags uid t ram marks))) refl
 
   none-answers : Silent (refusals out flags uid t ram marks) → writingOf out flags uid t ram marks ≡ done (length (imageBy flags uid t ram marks))
   unfolding writingOf
   none-answers s = silent-first (done (length (imageBy flags uid t ram marks))) s
-
-  pub refused-exactly : (w : Writing) → (w .number ≡ 0 → ⊥) → Exactly w
-  refused-exactly w z = record { only = λ e. only e answered; if = row-answers w }
-    where
-      only : writingOf out flags uid t ram marks ≡ w
-          → (Gives (refusals out flags uid t ram marks) (writingOf out flags uid t ram marks)) ⊎ (Silent (refusals out flags uid t ram marks))
-          → Gives (refusals out flags uid t ram marks) w
-      only e (inl g) = rw e at g
-      only e (inr s) = absurd (z (ap (λ (x : Writing). x .number) (sym e ∙ none-answers s)))
-
-  -- written exactly when no row holds
-  pub record Writes : Type 0 where
-    pub only : writingOf out flags uid t ram marks .number ≡ 0 → Silent (refusals out flags uid t ram marks)
-    pub if : Silent (refusals out flags uid t ram marks) → writingOf out flags uid t ram marks ≡ done (length (imageBy flags uid t ram marks))
-
-  pub writes-exactly : Writes
-  writes-exactly = record { only = λ e. only e answered; if = none-answers }
-    where
-      only : writingOf out flags uid t ram marks .number ≡ 0
-          → (Gives (refusals out flags uid t ram marks) (writingOf out flags uid t ram marks)) ⊎ (Silent (refusals out flags uid t ram marks))
-          → Silent (refusals out flags uid t ram marks)
-      only e (inl g) = absurd (numbered g e)
-      only e (inr s) = s
 
   -- 9 names the lowest marked paragraph that does not lie in the words lent
   pub names-lowest : some paragraphs (past marks (lent ram)) ≡ true → First (past marks (lent ram)) 0 (lowest paragraphs (past marks (lent ram)))
@@ -100,4 +75,4 @@ module _ (out flags uid : List ℕ) (t : Tables) (ram : List ℕ) (marks : List 
       }
 
   pub accepted : writingOf out flags uid t ram marks .number ≡ 0 → Accepted
-  accepted e = silent-so (writes-exactly .only e)
+  accepted e = silent-so (writes-exactly .0 e)

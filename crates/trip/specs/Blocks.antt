@@ -10,14 +10,13 @@ use lib.Dec.{eqb}
 use Rattle.words.specs.Lists.{part}
 use Rattle.words.specs.Bytes.{at32, le32, low-high}
 use Rattle.words.specs.Tests.{and-false}
-use Rattle.words.specs.Rows.{Silent, none, also}
+use Rattle.words.specs.Rows.{Silent, none, also, silent-append}
 use Rattle.words.specs.Stands.{stands-at, stands-after, stands-part, stands-length}
 use Rattle.sums.specs.Crc.{dowcrcOf, crc324Of}
 use Rattle.hunk.specs.declared.Checked.the-variants.{Whole}
 use Rattle.hunk.specs.Hunk.{checkHunk}
 use Rattle.load.specs.declared.Frame.the-variants.{Over, Framed}
 use Rattle.load.specs.Blocks.{Hunk as Loaded, typeAt, lengthAt, nextOf, payloadOf, cutAt, frameAt, encrypted, isTables, wrongPayload, wrongTables, broken, wrongHunk, blockRows, startsFrom, blocksRows, hunkOf, hunksIn}
-use Rattle.load.specs.Rows.{silent-append}
 use Rattle.image.specs.Form.{joined, startOf, blockOf, Hunk, hunkPayload, hunkBlock}
 use Rattle.image.specs.Chosen.{Lies, Each, none as no-hunks, also as and-hunk}
 use Rattle.image.specs.FormLaws.{length-block}

@@ -5,7 +5,7 @@ use mathlib.Core.List.{List, [], _∷_, map}
 use mathlib.Core.Bool.{Bool, true, false, cond, not, _||_}
 use native.Mathlib.Omega.{arith}
 use lib.ListN.{length}
-use Rattle.words.specs.Rows.{Silent, none, also}
+use Rattle.words.specs.Rows.{Silent, none, also, silent-append}
 use Rattle.cart.specs.declared.Cartridge.{Cartridge}
 use Rattle.cart.specs.Machine.{lent, lentLimit}
 use Rattle.tables.specs.declared.Compat.{Compat}
@@ -16,7 +16,6 @@ use Rattle.load.specs.declared.Loading.{Loading}
 use Rattle.load.specs.Header.{flagsOf}
 use Rattle.load.specs.Blocks.{Hunk as Loaded, payloadOf, isTables, blocksOf, anyTables, firstTables, blocksRows, hunksIn, hunksOf, overlay, wordCount}
 use Rattle.load.specs.Load.{cartridgeIn, noneRows, tenRows, rowsOf, refusalOf, loads, loaded, refused, loadingOf, loadRamOf}
-use Rattle.load.specs.Rows.{silent-append}
 use Rattle.load.specs.Refusals.{loads-exactly}
 use Rattle.image.specs.Form.{Tables, Hunk, imageOf}
 use Rattle.image.specs.Chosen.{Sized, Lies, Each, none as no-hunks, also as and-hunk}
@@ -90,7 +89,7 @@ module _ (flags uid : List ℕ) (t : Tables) (hs : List Hunk) (z : Sized flags u
 
     it-loads : loads s m ≡ true
     unfolding s
-    it-loads = rw (loads-exactly (imageOf flags uid t hs) m .if nothing-refused)
+    it-loads = rw (loads-exactly (imageOf flags uid t hs) m .1 nothing-refused)
 
     module _ (few : m ≤ lentLimit) where
       hunks-are : hunksOf s ≡ map placed hs

@@ -56,6 +56,14 @@ pub or-false-right : (a b : Bool) → a || b ≡ false → b ≡ false
 or-false-right true b e = true-is-not-false refl e
 or-false-right false b e = e
 
+pub or-assoc : (a b c : Bool) → a || (b || c) ≡ a || b || c
+or-assoc true b c = refl
+or-assoc false b c = refl
+
+pub or-none : (a : Bool) → a || false ≡ a
+or-none true = refl
+or-none false = refl
+
 -- two tests that follow from each other are one
 pub same-test : (a b : Bool) → (a ≡ true → b ≡ true) → (b ≡ true → a ≡ true) → a ≡ b
 same-test true b f g = sym (f refl)

@@ -1,0 +1,10 @@
+-- Any two answers that the promise of a public function allows are equal (01, What the promises rule out).
+use denote.Ref.{now}
+use Rattle.words.specs.Same.{OneAnswer, OneLent, same}
+use Rattle.build.proofs.build.Reads as build
+
+pub one-build : OneAnswer build.Learnt
+one-build κs a y z e f p q = same (p .0) (q .0)
+
+pub one-build-out : OneLent build.Learnt (λ κs e. now (e .1 .1 .0))
+one-build-out κs a y z e f p q = same (p .1) (q .1)
