@@ -139,6 +139,17 @@ writeOf c at v = cartridgeBy (takes c at v) c
 unfoldable pub writeRamOf : Cartridge → List ℕ → Console → ℕ → List ℕ
 writeRamOf c ram at v = ramBy (takes c at v) c ram at v
 
+-- a cartridge that acts by these tables, as it is loaded with them
+abbrev pub actingBy : List ℕ → List ℕ → List ℕ → Cartridge
+actingBy mapping permissions flips =
+    record {
+      «initial_mapping» = mapping;
+      «initial_permissions» = permissions;
+      mapping = mapping;
+      permissions = permissions;
+      flips = flips;
+    }
+
 -- reset copies the initial tables to the active ones
 abbrev pub resetOf : Cartridge → Cartridge
 resetOf c = withActive c (c .«initial_mapping») (c .«initial_permissions»)

@@ -14,9 +14,10 @@ use Rattle.places.specs.declared.Console.{Console}
 use Rattle.places.specs.declared.Locutus.{Locutus}
 use Rattle.cart.specs.declared.Cartridge.{Cartridge}
 use Rattle.cart.specs.declared.Request.{Request}
+use Rattle.cart.specs.declared.Rights.{Rights}
 use Rattle.cart.specs.declared.Taker.{Taker}
 use Rattle.cart.specs.declared.Taker.the-variants.{Flip, Ram}
-use Rattle.cart.specs.Machine.{lentLimit, lent, paragraph, locate, firstK, flipMapping, flipPermissions, turned, flipped, asks, takerOf, takes, storedBy, writeOf, writeRamOf}
+use Rattle.cart.specs.Machine.{lentLimit, lent, paragraph, locate, firstK, flipMapping, flipPermissions, turned, flipped, asks, takerOf, takes, storedBy, writeOf, writeRamOf, actingBy, rightsOf, stored}
 
 -- what the code's tests say of a place and of the words lent, of a RAM of n words
 pub lent-in : {n l : ℕ} → l < n → l < 524288 → ltb l (min n 524288) ≡ true
@@ -95,3 +96,37 @@ module _ (c : Cartridge) (at : Console) (v : ℕ) (q : Request) (t : Taker) (a :
   stores-ram ram out e g = simp (← a, ← h, e, g)
 
 pub ruleset writes = (flips-cartridge, flips-ram, stores-cartridge, stores-ram)
+
+-- the same by lent tables
+module _ (m p f : List ℕ) (at : Console) (v : ℕ) (q : Request) (t : Taker) (a : q ≡ asks at v) (h : t ≡ takerOf f q) where
+  pub flips-mapping : (n : ℕ) (x : List ℕ) → t ≡ Flip n → x ≡ turned (n / 16) (flipMapping (getD f n 0)) m → x ≡ writeOf (actingBy m p f) at v .mapping
+  unfolding writeOf
+  flips-mapping n x e g = simp (← a, ← h, e, g)
+
+  pub flips-permissions : (n : ℕ) (x : List ℕ) → t ≡ Flip n → x ≡ turned (n / 16) (flipPermissions (getD f n 0)) p → x ≡ writeOf (actingBy m p f) at v .permissions
+  unfolding writeOf
+  flips-permissions n x e g = simp (← a, ← h, e, g)
+
+  pub flips-lent : (n : ℕ) (ram : List ℕ) → t ≡ Flip n → ram ≡ writeRamOf (actingBy m p f) ram at v
+  unfolding writeRamOf
+  flips-lent n ram e = simp (← a, ← h, e)
+
+  pub stores-mapping : t ≡ Ram → m ≡ writeOf (actingBy m p f) at v .mapping
+  unfolding writeOf
+  stores-mapping e = simp (← a, ← h, e)
+
+  pub stores-permissions : t ≡ Ram → p ≡ writeOf (actingBy m p f) at v .permissions
+  unfolding writeOf
+  stores-permissions e = simp (← a, ← h, e)
+
+  pub stores-lent :
+      (ram out : List ℕ) (r : Rights) (l : Locutus)
+      → t ≡ Ram
+      → r ≡ rightsOf (getD p (paragraph at) 0)
+      → l ≡ locate (getD m (paragraph at) 0) at
+      → out ≡ stored r l ram v
+      → out ≡ writeRamOf (actingBy m p f) ram at v
+  unfolding writeRamOf storedBy
+  stores-lent ram out r l e y z g = simp (← a, ← h, e, g, y, z)
+
+pub ruleset lent-writes = (flips-mapping, flips-permissions, flips-lent, stores-mapping, stores-permissions, stores-lent)

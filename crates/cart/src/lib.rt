@@ -1,7 +1,7 @@
 // The cartridge that answers the console: reads, writes and resets over lent RAM (01, "The machine").
 ghost use mathlib.Core.Path.{_≡_};
 ghost use Prim.Native.Nat.{_/_, _≤_};
-ghost use Rattle.cart.specs.Machine.{locate, silent, rightsOf, fetched, readBy, readOf, asks, takerOf, firstK, flipMapping, flipPermissions, turned, flipped, stored, storedBy, writeOf, writeRamOf, resetOf};
+ghost use Rattle.cart.specs.Machine.{locate, silent, rightsOf, fetched, readBy, readOf, asks, takerOf, firstK, flipMapping, flipPermissions, turned, flipped, stored, storedBy, writeOf, writeRamOf, resetOf, actingBy};
 use places::Console;
 use places::Locutus;
 
@@ -248,6 +248,38 @@ pub fn write(c: Cartridge, ram: &mut [u16], at: Console, value: u16) -> Cartridg
         Taker::Ram => {
             store_by(&c.mapping, &c.permissions, ram, at, value);
             c
+        }
+    }
+}
+
+// A write by the active tables and the flip table alone, lent: nothing of the cartridge is copied.
+pub fn write_by(
+    mapping: &mut [u16; 256],
+    permissions: &mut [u8; 256],
+    flips: &[u16; 256],
+    ram: &mut [u16],
+    at: Console,
+    value: u16,
+)
+    ensures { λ _. ⌜ (now (mapping .exit) ≡ writeOf (actingBy (now (mapping .entry)) (now (permissions .entry)) (now (flips .entry))) at value .mapping)
+        × (now (permissions .exit) ≡ writeOf (actingBy (now (mapping .entry)) (now (permissions .entry)) (now (flips .entry))) at value .permissions)
+        × (now (ram .exit) ≡ writeRamOf (actingBy (now (mapping .entry)) (now (permissions .entry)) (now (flips .entry))) (now (ram .entry)) at value) ⌝ }
+{
+    match taker_of(flips, asked(at, value)) {
+        Taker::Flip(n) => {
+            let i = n as usize;
+            let entry = flips[i];
+            *mapping = flip_mapping(*mapping, n, entry);
+            *permissions = flip_permissions(*permissions, n, entry);
+        }
+        Taker::Ram => {
+            let p = (at.0 / 256) as usize;
+            store(
+                rights_of(permissions[p]),
+                location(mapping[p], at),
+                ram,
+                value,
+            );
         }
     }
 }

@@ -1,0 +1,591 @@
+/* The algorithms of the proved crates in plain C, for bench.c to compare with. */
+#include "baseline.h"
+#include <stdbool.h>
+#include <string.h>
+
+/* ---- checksums: eight tables of a polynomial, eight bytes a step ---- */
+
+enum { DOW = 0x98 };
+static const uint32_t C324 = 0x82F63B78, IEEE = 0xEDB88320;
+
+typedef uint32_t Tables[8][256];
+
+static void make_tables(uint32_t poly, Tables t) {
+    for (uint32_t i = 0; i < 256; i++) {
+        uint32_t c = i;
+        for (int k = 0; k < 8; k++)
+            c = c & 1 ? c >> 1 ^ poly : c >> 1;
+        t[0][i] = c;
+    }
+    for (int j = 1; j < 8; j++)
+        for (int i = 0; i < 256; i++)
+            t[j][i] = t[j - 1][i] >> 8 ^ t[0][t[j - 1][i] & 255];
+}
+
+static uint32_t sum_by(Tables t, uint32_t c, const uint8_t *s, size_t n) {
+    for (; n >= 8; s += 8, n -= 8)
+        c = t[7][(c ^ s[0]) & 255] ^ t[6][(c >> 8 ^ s[1]) & 255] ^ t[5][(c >> 16 ^ s[2]) & 255] ^ t[4][c >> 24 ^ s[3]]
+            ^ t[3][s[4]] ^ t[2][s[5]] ^ t[1][s[6]] ^ t[0][s[7]];
+    for (; n > 0; s++, n--)
+        c = c >> 8 ^ t[0][(c ^ *s) & 255];
+    return c;
+}
+
+uint8_t c_dowcrc(const uint8_t *s, size_t n) {
+    Tables t;
+    make_tables(DOW, t);
+    return sum_by(t, 0, s, n);
+}
+
+uint32_t c_crc324(const uint8_t *s, size_t n) {
+    Tables t;
+    make_tables(C324, t);
+    return sum_by(t, 0, s, n);
+}
+
+uint32_t c_crc32(const uint8_t *s, size_t n) {
+    Tables t;
+    make_tables(IEEE, t);
+    return ~sum_by(t, ~0u, s, n);
+}
+
+/* ---- the machine: the state in a struct, passed by pointer ---- */
+
+enum { READ = 1, WRITE = 2, NARROW = 4, BANKSW = 8, PFE = 8 };
+
+static uint32_t location(uint16_t entry, uint16_t at) {
+    return (entry * 256u + at % 256) % LENT_LIMIT;
+}
+
+static bool is_silent(uint16_t at) {
+    return at < 0x500 || at / 4096 == 1 || at / 4096 == 3;
+}
+
+static uint32_t read_word(const Cartridge *c, const uint16_t *ram, size_t words, uint16_t at) {
+    uint32_t l = location(c->mapping[at / 256], at);
+    if (!(c->permissions[at / 256] & READ) || l >= words || is_silent(at))
+        return SILENCE;
+    return ram[l];
+}
+
+static void flip(Cartridge *c, int n) {
+    int x = n / 16;
+    uint16_t entry = c->flips[n];
+    for (int k = x == 4 ? 8 : 0; k < 16; k++) {
+        c->mapping[16 * x + k] = entry / 16 * 16 + k;
+        c->permissions[16 * x + k] = entry % 8;
+    }
+}
+
+static void write_word(Cartridge *c, uint16_t *ram, size_t words, uint16_t at, uint16_t value) {
+    int x = at / 4096;
+    if (at % 4096 == 0xFFF && value / 4096 == x && value / 16 % 256 == 0xA5 && x >= 2) {
+        int n = 16 * x + value % 16;
+        if (c->flips[n] & PFE) {
+            flip(c, n);
+            return;
+        }
+    }
+    uint8_t permission = c->permissions[at / 256];
+    uint32_t l = location(c->mapping[at / 256], at);
+    if (!(permission & WRITE) || l >= words)
+        return;
+    ram[l] = permission & NARROW ? ram[l] / 256 * 256 + value % 256 : value;
+}
+
+void c_reads(const Cartridge *c, const uint16_t *ram, size_t words, const uint16_t *at, size_t n, uint32_t *out) {
+    if (words > LENT_LIMIT)
+        words = LENT_LIMIT;
+    for (size_t i = 0; i < n; i++)
+        out[i] = read_word(c, ram, words, at[i]);
+}
+
+void c_writes(Cartridge *c, uint16_t *ram, size_t words, const uint16_t *at, const uint16_t *value, size_t n) {
+    if (words > LENT_LIMIT)
+        words = LENT_LIMIT;
+    for (size_t i = 0; i < n; i++)
+        write_word(c, ram, words, at[i], value[i]);
+}
+
+/* ---- the loader: a pass that checks, then one that stores ---- */
+
+static size_t get16(const uint8_t *s) {
+    return s[0] | (size_t)s[1] << 8;
+}
+
+static uint32_t get32(const uint8_t *s) {
+    return get16(s) | (uint32_t)get16(s + 2) << 16;
+}
+
+/* The words of the data block that starts with this byte, and its bytes; 0 for a reserved start. */
+static size_t block_words(uint8_t start) {
+    if (start == 0 || start >= 0xFE)
+        return 0;
+    return start < 0x40 ? start : start < 0xC0 ? start - 0x3F : start - 0xBF;
+}
+
+static size_t block_bytes(uint8_t start, size_t n) {
+    return start < 0x40 ? 2 + n : start < 0xC0 ? 2 + (n + 2) / 4 + n : 1 + 2 * n;
+}
+
+/* The words of a hunk's payload; -1 where it is cut, reserved, or reaches past the RAM. */
+static long check_hunk(const uint8_t *s, size_t n, size_t words) {
+    if (n < 3)
+        return -1;
+    size_t address = get16(s) + ((size_t)s[2] << 16), count = 0;
+    for (size_t p = 3; p < n;) {
+        size_t w = block_words(s[p]), b = block_bytes(s[p], w);
+        if (w == 0 || b > n - p || address + count + w > words)
+            return -1;
+        count += w;
+        p += b;
+    }
+    return count;
+}
+
+static void store_hunk(const uint8_t *s, size_t n, uint16_t *ram) {
+    uint16_t *to = ram + get16(s) + ((size_t)s[2] << 16);
+    for (size_t p = 3; p < n;) {
+        size_t w = block_words(s[p]);
+        const uint8_t *from = s + p + 1;
+        p += block_bytes(s[p], w);
+        if (from[-1] >= 0xC0) {
+            for (size_t i = 0; i < w; i++)
+                to[i] = get16(from + 2 * i);
+        } else if (from[-1] < 0x40) {
+            for (size_t i = 0; i + 1 < w; i++)
+                to[i] = from[i];
+            to[w - 1] = get16(from + w - 1);
+        } else {
+            for (size_t i = 0; i + 1 < w; i += 4) {
+                uint8_t tops = *from++;
+                for (size_t j = i; j < i + 4 && j + 1 < w; j++, tops <<= 2)
+                    to[j] = *from++ | (tops >> 6) << 8;
+            }
+            to[w - 1] = get16(from);
+        }
+        to += w;
+    }
+}
+
+static Cartridge cartridge_of(const uint8_t *s) {
+    Cartridge c;
+    for (int i = 0; i < 256; i++) {
+        c.initial_mapping[i] = c.mapping[i] = get16(s + 2 * i);
+        c.initial_permissions[i] = c.permissions[i] = s[512 + i];
+        c.flips[i] = get16(s + 768 + 2 * i);
+    }
+    return c;
+}
+
+static bool not_had(const uint8_t *flags, const Cartridge *c) {
+    bool switched = false, flipped = false;
+    for (int p = 0; p < 256; p += 8)
+        switched = switched || c->permissions[p] & BANKSW;
+    for (int i = 16; i < 32; i++)
+        flipped = flipped || c->flips[i] & PFE;
+    return flags[2] & 3 || flags[4] & 1 || switched || flipped;
+}
+
+static Loading refused_load(uint32_t number, size_t place) {
+    Loading r;
+    memset(&r, 0, sizeof r);
+    r.number = number;
+    r.place = place;
+    return r;
+}
+
+Loading c_load(const uint8_t *s, size_t n, uint16_t *ram, size_t words) {
+    Tables dow, c324;
+    make_tables(DOW, dow);
+    make_tables(C324, c324);
+    if (words > LENT_LIMIT)
+        words = LENT_LIMIT;
+    if (n < 32 || n > IMAGE_LIMIT)
+        return refused_load(1, 0);
+    if (s[0] != 0x4C || s[1] != 0x54 || s[2] != 0x4F)
+        return refused_load(2, 0);
+    if (s[3] != 1)
+        return refused_load(3, 0);
+    if ((uint8_t)sum_by(dow, 0, s, 31) != s[31])
+        return refused_load(4, 0);
+    size_t tables = 0, blocks = 0, stored = 0, p, next;
+    for (p = 32; p < n && s[p] != 0xFF; p = next) {
+        if (n - p < 8 || (uint8_t)sum_by(dow, 0, s + p, 3) != s[p + 3] || p + 8 + get16(s + p + 1) > n)
+            return refused_load(5, p);
+        size_t length = get16(s + p + 1);
+        const uint8_t *payload = s + p + 8;
+        if (s[p] == 0)
+            return refused_load(7, p);
+        if (s[p] <= 2 && sum_by(c324, 0, payload, length) != get32(s + p + 4))
+            return refused_load(6, p);
+        if (s[p] == 1) {
+            if (length != 1280 || tables)
+                return refused_load(8, p);
+            tables = p;
+        }
+        if (s[p] == 2) {
+            long w = check_hunk(payload, length, words);
+            if (w < 0)
+                return refused_load(9, p);
+            stored += w;
+        }
+        blocks++;
+        next = p + 8 + length;
+    }
+    if (!tables)
+        return refused_load(8, n);
+    Loading r = {.blocks = blocks, .words = stored, .cartridge = cartridge_of(s + tables + 8)};
+    if (not_had(s + 4, &r.cartridge))
+        return refused_load(10, 0);
+    static const int field[5] = {0, 2, 4, 6, 10};
+    for (int i = 0; i < 5; i++)
+        r.compat[i] = s[4 + field[i] / 8] >> field[i] % 8 & 3;
+    for (p = 32; p < n && s[p] != 0xFF; p += 8 + get16(s + p + 1))
+        if (s[p] == 2)
+            store_hunk(s + p + 8, get16(s + p + 1), ram);
+    return r;
+}
+
+/* ---- the writer: header, tables, a hunk for each marked paragraph, end ---- */
+
+enum { HUNK_BYTES = 528, TABLES_BYTES = 1288, MOST_WORDS = 62 };
+
+static void put16(uint8_t *s, uint16_t w) {
+    s[0] = w % 256;
+    s[1] = w / 256;
+}
+
+static void put32(uint8_t *s, uint32_t w) {
+    put16(s, w % 65536);
+    put16(s + 2, w / 65536);
+}
+
+/* The header of a block, before the payload that stands behind it. */
+static void frame(uint8_t *block, uint8_t type, size_t length, Tables dow, Tables c324) {
+    block[0] = type;
+    put16(block + 1, length);
+    block[3] = sum_by(dow, 0, block, 3);
+    put32(block + 4, sum_by(c324, 0, block + 8, length));
+}
+
+static size_t write_image(uint8_t *out, const uint8_t *flags, const uint8_t *uid, const Cartridge *c, const uint16_t *ram, const bool *marks) {
+    Tables dow, c324;
+    make_tables(DOW, dow);
+    make_tables(C324, c324);
+    memcpy(out, "LTO\1", 4);
+    memcpy(out + 4, flags, 16);
+    memcpy(out + 20, uid, 8);
+    memset(out + 28, 0, 3);
+    out[31] = sum_by(dow, 0, out, 31);
+    uint8_t *to = out + 32;
+    for (int i = 0; i < 256; i++) {
+        put16(to + 8 + 2 * i, c->initial_mapping[i]);
+        to[8 + 512 + i] = c->initial_permissions[i];
+        put16(to + 8 + 768 + 2 * i, c->flips[i]);
+    }
+    frame(to, 1, 1280, dow, c324);
+    to += TABLES_BYTES;
+    for (uint32_t p = 0; p < 2048; p++) {
+        if (!marks[p])
+            continue;
+        uint8_t *s = to + 8;
+        put16(s, p % 256 * 256);
+        s[2] = p / 256;
+        s += 3;
+        for (int i = 0; i < 256; i += MOST_WORDS) {
+            int n = 256 - i < MOST_WORDS ? 256 - i : MOST_WORDS;
+            *s++ = 0xBF + n;
+            for (int j = 0; j < n; j++, s += 2)
+                put16(s, ram[256 * p + i + j]);
+        }
+        frame(to, 2, HUNK_BYTES - 8, dow, c324);
+        to += HUNK_BYTES;
+    }
+    *to++ = 0xFF;
+    return to - out;
+}
+
+/* ---- the builder: lines, rules, layout, image ---- */
+
+enum { MOST_LINES = 64, MOST_PAGES = 80, BIN_LIMIT = 524288 };
+
+typedef enum { ROM, PAGED, RAM16, RAM8 } Kind;
+
+typedef struct {
+    Kind kind;
+    uint32_t lo, hi, address, page; /* BIN words lo to hi at the address; of RAM, lo and hi are addresses */
+    size_t line;
+} Line;
+
+typedef struct {
+    const uint8_t *s;
+    size_t n;
+} Token;
+
+static Building refused_build(uint32_t number, size_t place) {
+    return (Building){.number = number, .place = place};
+}
+
+/* The tokens of a line up to its comment: `-`, `=`, and runs of other bytes that are not blank. */
+static size_t tokens_of(const uint8_t *s, size_t n, Token *t, size_t most) {
+    size_t count = 0;
+    for (size_t i = 0; i < n && s[i] != ';';) {
+        if (s[i] == ' ' || s[i] == '\t') {
+            i++;
+            continue;
+        }
+        size_t from = i++;
+        if (s[from] != '-' && s[from] != '=')
+            while (i < n && !memchr(" \t;-=", s[i], 5))
+                i++;
+        if (count < most)
+            t[count] = (Token){s + from, i - from};
+        count++;
+    }
+    return count;
+}
+
+static bool is(Token t, const char *text) {
+    return t.n == strlen(text) && !memcmp(t.s, text, t.n);
+}
+
+static int digit(uint8_t b) {
+    return b >= '0' && b <= '9' ? b - '0' : b >= 'A' && b <= 'F' ? b - 'A' + 10 : b >= 'a' && b <= 'f' ? b - 'a' + 10 : -1;
+}
+
+static bool number(Token t, size_t most, uint32_t *to) {
+    if (t.n < 2 || t.n > most + 1 || t.s[0] != '$')
+        return false;
+    *to = 0;
+    for (size_t i = 1; i < t.n; i++) {
+        if (digit(t.s[i]) < 0)
+            return false;
+        *to = *to * 16 + digit(t.s[i]);
+    }
+    return true;
+}
+
+static bool entry_of(const Token *t, size_t n, int section, Line *l) {
+    if (n < 5 || !is(t[1], "-") || !is(t[3], "="))
+        return false;
+    if (section == 2) {
+        l->kind = n == 6 && is(t[5], "8") ? RAM8 : RAM16;
+        l->address = 0;
+        return n == 6 && number(t[0], 4, &l->lo) && number(t[2], 4, &l->hi) && is(t[4], "RAM") && (is(t[5], "16") || is(t[5], "8"));
+    }
+    l->kind = n == 5 ? ROM : PAGED;
+    if (n == 7) {
+        if (!is(t[5], "PAGE") || t[6].n != 1 || digit(t[6].s[0]) < 0)
+            return false;
+        l->page = digit(t[6].s[0]);
+    }
+    return (n == 5 || n == 7) && number(t[0], 5, &l->lo) && number(t[2], 5, &l->hi) && number(t[4], 4, &l->address);
+}
+
+/* Refusals 22 to 24; the lines and how many. */
+static Building lines_of(const uint8_t *cfg, size_t n, Line *lines, size_t *count) {
+    if (n > CFG_LIMIT)
+        return refused_build(22, 0);
+    size_t line = 1, extra = 0;
+    for (size_t i = 0; i < n; i++) {
+        bool fine = (cfg[i] >= 0x20 && cfg[i] <= 0x7E) || cfg[i] == '\t' || cfg[i] == '\n' || (cfg[i] == '\r' && i + 1 < n && cfg[i + 1] == '\n');
+        if (!fine)
+            return refused_build(22, line);
+        line += cfg[i] == '\n';
+    }
+    int section = 0;
+    *count = 0;
+    line = 1;
+    for (size_t i = 0; i < n; line++) {
+        const uint8_t *end = memchr(cfg + i, '\n', n - i);
+        size_t to = end ? (size_t)(end - cfg) : n;
+        size_t text = to > i && cfg[to - 1] == '\r' ? to - 1 : to;
+        Token t[8];
+        size_t k = tokens_of(cfg + i, text - i, t, 8);
+        i = to + 1;
+        if (k == 0)
+            continue;
+        if (k == 1 && (is(t[0], "[mapping]") || is(t[0], "[memattr]"))) {
+            section = is(t[0], "[mapping]") ? 1 : 2;
+            continue;
+        }
+        Line l = {.line = line};
+        if (section == 0 || !entry_of(t, k, section, &l))
+            return refused_build(23, line);
+        if (*count < MOST_LINES)
+            lines[(*count)++] = l;
+        else if (!extra)
+            extra = line;
+    }
+    if (*count == 0)
+        return refused_build(24, 0);
+    return extra ? refused_build(24, extra) : refused_build(0, 0);
+}
+
+static uint32_t first_address(const Line *l) {
+    return l->kind == RAM16 || l->kind == RAM8 ? l->lo : l->address;
+}
+
+static uint32_t last_address(const Line *l) {
+    return first_address(l) + (l->hi - l->lo);
+}
+
+static bool out_of_range(const Line *l, size_t words) {
+    if (l->lo > l->hi)
+        return true;
+    return (l->kind == ROM || l->kind == PAGED) && (l->hi >= words || last_address(l) > 0xFFFF);
+}
+
+static bool wrong_shape(const Line *l) {
+    uint32_t a = first_address(l), e = last_address(l);
+    if (a < 0x500 || (a <= 0x1FFF && e >= 0x1000) || (a <= 0x3FFF && e >= 0x3000))
+        return true;
+    if (l->kind == PAGED)
+        return !(a == 0x4800 ? e == 0x4FFF : a % 4096 == 0 && e == a + 4095 && a / 4096 != 4);
+    return a % 256 != 0 || e % 256 != 255;
+}
+
+/* Which line owns a paragraph, and which a page of a chapter; 0 for none, else 1 + its index. */
+typedef struct {
+    uint8_t paragraph[256], page[16][16];
+} Owners;
+
+/* Refusals 25 to 27. */
+static Building claims_of(const Line *lines, size_t count, size_t words, Owners *o) {
+    for (size_t i = 0; i < count; i++) {
+        if (out_of_range(&lines[i], words))
+            return refused_build(25, lines[i].line);
+        if (wrong_shape(&lines[i]))
+            return refused_build(26, lines[i].line);
+    }
+    memset(o, 0, sizeof *o);
+    for (size_t i = 0; i < count; i++) {
+        const Line *l = &lines[i];
+        uint32_t a = first_address(l) / 256, e = last_address(l) / 256;
+        if (l->kind == PAGED) {
+            if (o->page[a / 16][l->page])
+                return refused_build(27, l->line);
+            o->page[a / 16][l->page] = i + 1;
+            continue;
+        }
+        for (uint32_t p = a; p <= e; p++) {
+            if (o->paragraph[p])
+                return refused_build(27, l->line);
+            o->paragraph[p] = i + 1;
+        }
+    }
+    return refused_build(0, 0);
+}
+
+static int first_k(int x) {
+    return x == 4 ? 8 : 0;
+}
+
+static bool is_rom(const Line *lines, const Owners *o, int p) {
+    return o->paragraph[p] && lines[o->paragraph[p] - 1].kind == ROM;
+}
+
+static bool has_pages(const Owners *o, int x) {
+    for (int y = 0; y < 16; y++)
+        if (o->page[x][y])
+            return true;
+    return false;
+}
+
+/* Refusal 28; whether plain ROM covers the flippable range of each chapter. */
+static Building covers_of(const Line *lines, const Owners *o, bool *covers) {
+    for (int x = 0; x < 16; x++) {
+        int rom = 0, plain = 0;
+        for (int k = first_k(x); k < 16; k++) {
+            rom += is_rom(lines, o, 16 * x + k);
+            plain += o->paragraph[16 * x + k] != 0;
+        }
+        covers[x] = rom == 16 - first_k(x);
+        if (has_pages(o, x) && (plain != rom || (rom != 0 && !covers[x])))
+            return refused_build(28, x);
+    }
+    return refused_build(0, 0);
+}
+
+/* A paragraph of a line, from the BIN into the RAM image. */
+static void lay(const Line *l, uint32_t p, uint32_t at, const uint8_t *bin, uint16_t *ram, bool *marks) {
+    marks[at] = true;
+    if (l->kind == RAM16 || l->kind == RAM8)
+        return;
+    const uint8_t *from = bin + 2 * (l->lo + (p - l->address / 256) * 256);
+    for (int i = 0; i < 256; i++)
+        ram[256 * at + i] = from[2 * i] << 8 | from[2 * i + 1];
+}
+
+static uint8_t permission_of(Kind k) {
+    return k == RAM16 ? 3 : k == RAM8 ? 7 : 1;
+}
+
+/* The tables of the cartridge, and its words with their marks; answers the number of pages. */
+static uint32_t lay_out(const Line *lines, const Owners *o, const bool *covers, const uint8_t *bin, Cartridge *c, uint16_t *ram, bool *marks) {
+    uint32_t pages = 0;
+    memset(c, 0, sizeof *c);
+    for (int x = 0; x < 16; x++) {
+        bool plain = false, paged = has_pages(o, x);
+        for (int k = 0; k < 16; k++) {
+            int p = 16 * x + k, owner = o->paragraph[p];
+            if (!owner)
+                continue;
+            plain = true;
+            lay(&lines[owner - 1], p, 16 * pages + k, bin, ram, marks);
+            c->initial_mapping[p] = 16 * pages + k;
+            c->initial_permissions[p] = permission_of(lines[owner - 1].kind);
+        }
+        uint32_t page = pages;
+        pages += plain;
+        if (!paged)
+            continue;
+        for (int y = 0; y < 16; y++) {
+            int owner = o->page[x][y];
+            c->flips[16 * x + y] = owner ? 16 * pages + 9 : covers[x] ? 16 * page + 9 : 8;
+            if (!owner)
+                continue;
+            for (int k = first_k(x); k < 16; k++)
+                lay(&lines[owner - 1], 16 * x + k, 16 * pages + k, bin, ram, marks);
+            pages++;
+        }
+        for (int k = first_k(x); k < 16; k++) {
+            c->initial_mapping[16 * x + k] = c->flips[16 * x] / 16 * 16 + k;
+            c->initial_permissions[16 * x + k] = c->flips[16 * x] % 8;
+        }
+    }
+    return pages;
+}
+
+static size_t length_of(const bool *marks) {
+    size_t hunks = 0;
+    for (int p = 0; p < 2048; p++)
+        hunks += marks[p];
+    return 32 + TABLES_BYTES + HUNK_BYTES * hunks + 1;
+}
+
+Building c_build(const uint8_t *bin, size_t nbin, const uint8_t *cfg, size_t ncfg, uint8_t *out, size_t room) {
+    Line lines[MOST_LINES];
+    Owners o;
+    bool covers[16], marks[2048] = {0};
+    uint16_t ram[MOST_PAGES * 4096] = {0};
+    Cartridge c;
+    size_t count;
+    if (nbin == 0 || nbin % 2 == 1 || nbin > BIN_LIMIT)
+        return refused_build(21, 0);
+    Building r = lines_of(cfg, ncfg, lines, &count);
+    if (r.number == 0)
+        r = claims_of(lines, count, nbin / 2, &o);
+    if (r.number == 0)
+        r = covers_of(lines, &o, covers);
+    if (r.number != 0)
+        return r;
+    uint32_t pages = lay_out(lines, &o, covers, bin, &c, ram, marks);
+    if (length_of(marks) > room)
+        return (Building){.number = 29, .length = length_of(marks)};
+    uint8_t flags[16] = {0x55, 0x05}, uid[8];
+    put32(uid, c_crc32(bin, nbin));
+    put32(uid + 4, c_crc32(cfg, ncfg));
+    return (Building){.length = write_image(out, flags, uid, &c, ram, marks), .needed = 4096 * pages};
+}

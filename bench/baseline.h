@@ -1,0 +1,42 @@
+/* The C side of the comparison: the algorithms of the proved crates, written as C is usually written. */
+#ifndef BASELINE_H
+#define BASELINE_H
+#include <stddef.h>
+#include <stdint.h>
+
+#define LENT_LIMIT 524288
+#define IMAGE_LIMIT 1048576
+#define SILENCE 65536
+#define CFG_LIMIT 16384
+
+uint8_t c_dowcrc(const uint8_t *s, size_t n);
+uint32_t c_crc324(const uint8_t *s, size_t n);
+uint32_t c_crc32(const uint8_t *s, size_t n);
+
+typedef struct {
+    uint16_t initial_mapping[256];
+    uint8_t initial_permissions[256];
+    uint16_t mapping[256];
+    uint8_t permissions[256];
+    uint16_t flips[256];
+} Cartridge;
+
+void c_reads(const Cartridge *c, const uint16_t *ram, size_t words, const uint16_t *at, size_t n, uint32_t *out);
+void c_writes(Cartridge *c, uint16_t *ram, size_t words, const uint16_t *at, const uint16_t *value, size_t n);
+
+typedef struct {
+    uint32_t number;
+    size_t place, blocks, words;
+    uint8_t compat[5];
+    Cartridge cartridge;
+} Loading;
+
+Loading c_load(const uint8_t *image, size_t n, uint16_t *ram, size_t words);
+
+typedef struct {
+    uint32_t number;
+    size_t place, length, needed;
+} Building;
+
+Building c_build(const uint8_t *bin, size_t nbin, const uint8_t *cfg, size_t ncfg, uint8_t *out, size_t room);
+#endif

@@ -1,0 +1,255 @@
+/* Measures the proved functions beside the C baseline: the same inputs, the same answers, the best of runs that alternate. */
+#include "baseline.h"
+#include "luigi.h"
+#include <stdbool.h>
+#include <stdio.h>
+#include <stdlib.h>
+#include <string.h>
+#include <time.h>
+
+enum { MIB = 1048576, BIN_BYTES = 524288, ROOM = IMAGE_LIMIT, WORDS = LENT_LIMIT };
+enum { SCRIPT = 20000, TIMES = 500 }; /* 10 million accesses: 500 times a script of 20,000 */
+
+/* ---- inputs, from one seed ---- */
+
+static uint8_t bytes[MIB], bin[BIN_BYTES], cfg[CFG_LIMIT];
+static size_t cfg_length;
+static uint8_t image[ROOM], packed[ROOM];
+static size_t image_length, packed_length;
+static uint16_t read_at[SCRIPT], write_at[SCRIPT], value[SCRIPT];
+
+static uint32_t random_bits(void) {
+    static uint32_t x = 12345;
+    x ^= x << 13;
+    x ^= x >> 17;
+    return x ^= x << 5;
+}
+
+/* 64 lines: ROM and RAM in twelve chapters, and 59 pages in nine of them, so 71 pages of 4,096 words. */
+static const int paged[9] = {2, 5, 6, 7, 11, 12, 13, 14, 15};
+
+static void make_cfg(void) {
+    char *s = (char *)cfg;
+    s += sprintf(s, "[memattr]\n$8000 - $9FFF = RAM 16\n$A000 - $AFFF = RAM 8\n");
+    s += sprintf(s, "[mapping]\n$00000 - $00FFF = $2000\n$01000 - $03FFF = $5000\n$04000 - $08FFF = $B000\n");
+    for (int i = 0; i < 59; i++) {
+        unsigned lo = (9 + i) % 64 * 4096;
+        s += sprintf(s, "$%05X - $%05X = $%X000 PAGE %X\n", lo, lo + 4095, paged[i % 9], i / 9);
+    }
+    cfg_length = s - (char *)cfg;
+}
+
+/* Reads anywhere; writes anywhere, and every sixteenth asks for a page. */
+static void make_scripts(void) {
+    for (int i = 0; i < SCRIPT; i++) {
+        read_at[i] = random_bits();
+        write_at[i] = random_bits();
+        value[i] = random_bits();
+        if (i % 16 == 0) {
+            int x = paged[random_bits() % 9];
+            write_at[i] = x * 4096 + 0xFFF;
+            value[i] = x * 4096 + 0xA50 + random_bits() % 16;
+        }
+    }
+}
+
+static void put(uint8_t *s, uint32_t x, int n) {
+    for (int i = 0; i < n; i++)
+        s[i] = x >> 8 * i;
+}
+
+/* A data block of n words: the start byte, the bytes of all words but one, and a 16-bit word. */
+static uint8_t *put_data(uint8_t *s, uint8_t start, int body) {
+    *s++ = start;
+    for (int i = 0; i < body + 2; i++)
+        *s++ = random_bits();
+    return s;
+}
+
+/* The image's header and tables, then 127 hunks of 4,096 words, by turns in 10-bit and in 8-bit data blocks. */
+static void make_packed(void) {
+    memcpy(packed, image, 1320);
+    uint8_t *s = packed + 1320;
+    for (int h = 0; h < 127; h++) {
+        uint8_t *payload = s + 8, *end = payload + 3;
+        put(payload, 4096 * h, 3);
+        for (int i = 0; i < (h % 2 ? 65 : 32); i++)
+            end = h % 2 ? put_data(end, 0x3F, 62) : put_data(end, 0xBF, 159);
+        if (h % 2)
+            end = put_data(end, 0x01, 0);
+        s[0] = 2;
+        put(s + 1, end - payload, 2);
+        s[3] = c_dowcrc(s, 3);
+        put(s + 4, c_crc324(payload, end - payload), 4);
+        s = end;
+    }
+    *s++ = 0xFF;
+    packed_length = s - packed;
+}
+
+static bool make_inputs(void) {
+    for (int i = 0; i < MIB; i++)
+        bytes[i] = random_bits();
+    for (int i = 0; i < BIN_BYTES; i++)
+        bin[i] = random_bits();
+    make_cfg();
+    make_scripts();
+    Building b = c_build(bin, BIN_BYTES, cfg, cfg_length, image, ROOM);
+    image_length = b.length;
+    make_packed();
+    return b.number == 0;
+}
+
+/* ---- what each side answers: 0 is the proved side, 1 is C ---- */
+
+static uint32_t sum[2];
+static Loaded loaded;
+static Loading loading;
+static Built built;
+static Building building;
+static uint8_t made[2][ROOM];
+static uint16_t ram[2][WORDS];
+static Cartridge cartridge[2];
+static uint32_t heard[2][SCRIPT];
+
+static void proved_dowcrc(void) { sum[0] = luigi_dowcrc(bytes, MIB); }
+static void plain_dowcrc(void) { sum[1] = c_dowcrc(bytes, MIB); }
+static void proved_crc324(void) { sum[0] = luigi_crc324(bytes, MIB); }
+static void plain_crc324(void) { sum[1] = c_crc324(bytes, MIB); }
+static void proved_crc32(void) { sum[0] = luigi_crc32(bytes, MIB); }
+static void plain_crc32(void) { sum[1] = c_crc32(bytes, MIB); }
+static bool same_sum(void) { return sum[0] == sum[1]; }
+
+static void proved_load(void) { luigi_load(&loaded, image, image_length, ram[0], WORDS); }
+static void plain_load(void) { loading = c_load(image, image_length, ram[1], WORDS); }
+static void proved_load_packed(void) { luigi_load(&loaded, packed, packed_length, ram[0], WORDS); }
+static void plain_load_packed(void) { loading = c_load(packed, packed_length, ram[1], WORDS); }
+
+static bool same_load(void) {
+    const Cartridge *c = &loading.cartridge;
+    return loaded.number == 0 && loading.number == 0 && loaded.blocks == loading.blocks && loaded.words == loading.words
+        && !memcmp(loaded.compat, loading.compat, 5) && !memcmp(loaded.mapping, c->mapping, sizeof c->mapping)
+        && !memcmp(loaded.permissions, c->permissions, sizeof c->permissions) && !memcmp(loaded.flips, c->flips, sizeof c->flips)
+        && !memcmp(ram[0], ram[1], sizeof ram[0]);
+}
+
+static void proved_build(void) { luigi_build(&built, bin, BIN_BYTES, cfg, cfg_length, made[0], ROOM); }
+static void plain_build(void) { building = c_build(bin, BIN_BYTES, cfg, cfg_length, made[1], ROOM); }
+
+static bool same_build(void) {
+    return built.number == 0 && building.number == 0 && built.length == building.length && built.needed == building.needed
+        && !memcmp(made[0], made[1], ROOM);
+}
+
+static void proved_reads(void) {
+    const Cartridge *c = &cartridge[0];
+    for (int i = 0; i < TIMES; i++)
+        luigi_reads(c->mapping, c->permissions, ram[0], WORDS, read_at, SCRIPT, heard[0], SCRIPT);
+}
+
+static void proved_reads_by_value(void) {
+    const Cartridge *c = &cartridge[0];
+    for (int i = 0; i < TIMES; i++)
+        luigi_reads_by_value(c->mapping, c->permissions, c->flips, ram[0], WORDS, read_at, SCRIPT, heard[0], SCRIPT);
+}
+
+static void plain_reads(void) {
+    for (int i = 0; i < TIMES; i++)
+        c_reads(&cartridge[1], ram[1], WORDS, read_at, SCRIPT, heard[1]);
+}
+
+static bool same_heard(void) { return !memcmp(heard[0], heard[1], sizeof heard[0]); }
+
+static void proved_writes(void) {
+    Cartridge *c = &cartridge[0];
+    for (int i = 0; i < TIMES; i++)
+        luigi_writes(c->mapping, c->permissions, c->flips, ram[0], WORDS, write_at, SCRIPT, value, SCRIPT);
+}
+
+static void proved_writes_by_value(void) {
+    Cartridge *c = &cartridge[0];
+    for (int i = 0; i < TIMES; i++) {
+        Active a;
+        luigi_writes_by_value(&a, c->mapping, c->permissions, c->flips, ram[0], WORDS, write_at, SCRIPT, value, SCRIPT);
+        memcpy(c->mapping, a.mapping, sizeof a.mapping);
+        memcpy(c->permissions, a.permissions, sizeof a.permissions);
+    }
+}
+
+static void plain_writes(void) {
+    for (int i = 0; i < TIMES; i++)
+        c_writes(&cartridge[1], ram[1], WORDS, write_at, value, SCRIPT);
+}
+
+static bool same_worlds(void) {
+    return !memcmp(&cartridge[0], &cartridge[1], sizeof cartridge[0]) && !memcmp(ram[0], ram[1], sizeof ram[0]);
+}
+
+/* ---- measuring ---- */
+
+typedef struct {
+    const char *name;
+    int runs;
+    void (*proved)(void), (*plain)(void);
+    bool (*same)(void);
+    double per; /* accesses in a run, where a rate is of interest */
+} Row;
+
+static const Row rows[] = {
+    {"DOWCRC over 1 MiB", 25, proved_dowcrc, plain_dowcrc, same_sum, 0},
+    {"CRC32/4 over 1 MiB", 25, proved_crc324, plain_crc324, same_sum, 0},
+    {"CRC32 over 1 MiB", 25, proved_crc32, plain_crc32, same_sum, 0},
+    {"loading 600 KB in 8-bit and 10-bit data blocks", 25, proved_load_packed, plain_load_packed, same_load, 0},
+    {"loading 600 KB in 16-bit data blocks", 25, proved_load, plain_load, same_load, 0},
+    {"building from a BIN of 512 KB", 25, proved_build, plain_build, same_build, 0},
+    {"10 million bus reads", 9, proved_reads, plain_reads, same_heard, 1e7},
+    {"10 million bus writes, every 16th a flip", 9, proved_writes, plain_writes, same_worlds, 1e7},
+    {"10 million bus reads, the cartridge by value", 3, proved_reads_by_value, plain_reads, same_heard, 1e7},
+    {"10 million bus writes, the cartridge by value", 3, proved_writes_by_value, plain_writes, same_worlds, 1e7},
+};
+
+/* Processor time, so that what else the machine does counts little. */
+static double now(void) {
+    struct timespec t;
+    clock_gettime(CLOCK_PROCESS_CPUTIME_ID, &t);
+    return t.tv_sec * 1e3 + t.tv_nsec / 1e6;
+}
+
+static double timed(void (*f)(void), double best) {
+    double from = now();
+    f();
+    double took = now() - from;
+    return took < best ? took : best;
+}
+
+static bool measure(const Row *r) {
+    double proved = 1e9, plain = 1e9;
+    for (int i = 0; i < r->runs; i++) {
+        proved = timed(r->proved, proved);
+        plain = timed(r->plain, plain);
+    }
+    printf("| %s | %.2f | %.2f ms |", r->name, proved / plain, plain);
+    if (r->per)
+        printf(" %.1f million a second |\n", r->per / proved / 1e3);
+    else
+        printf(" |\n");
+    if (r->same())
+        return true;
+    printf("the two sides differ: %s\n", r->name);
+    return false;
+}
+
+int main(void) {
+    if (!make_inputs()) {
+        printf("the title does not build\n");
+        return 1;
+    }
+    Loading l = c_load(image, image_length, ram[1], WORDS);
+    memcpy(ram[0], ram[1], sizeof ram[0]);
+    cartridge[0] = cartridge[1] = l.cartridge;
+    printf("| what | Rattle / C | C | Rattle's rate |\n|---|---|---|---|\n");
+    bool fine = true;
+    for (size_t i = 0; i < sizeof rows / sizeof rows[0]; i++)
+        fine = measure(&rows[i]) && fine;
+    return fine ? 0 : 1;
+}

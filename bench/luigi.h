@@ -1,0 +1,44 @@
+/* The functions of the static library (crates/exports), as C declares them: a slice is a pointer and a length. */
+#ifndef LUIGI_H
+#define LUIGI_H
+#include <stddef.h>
+#include <stdint.h>
+
+uint8_t luigi_dowcrc(const uint8_t *s, size_t n);
+uint32_t luigi_crc324(const uint8_t *s, size_t n);
+uint32_t luigi_crc32(const uint8_t *s, size_t n);
+
+/* A struct of more than 16 bytes is answered through a pointer that goes first. x86-64's C does the same unseen;
+   written out, it is also what the bitcode does on other machines. */
+typedef struct {
+    uint32_t number;
+    size_t place, blocks, words;
+    uint8_t compat[5];
+    uint16_t mapping[256];
+    uint8_t permissions[256];
+    uint16_t flips[256];
+} Loaded;
+
+Loaded *luigi_load(Loaded *answer, const uint8_t *image, size_t n, uint16_t *ram, size_t words);
+
+typedef struct {
+    uint32_t number, place, with, needed;
+    size_t length;
+} Built;
+
+Built *luigi_build(Built *answer, const uint8_t *bin, size_t nbin, const uint8_t *cfg, size_t ncfg, uint8_t *out, size_t room);
+
+typedef struct {
+    uint16_t mapping[256];
+    uint8_t permissions[256];
+} Active;
+
+void luigi_reads(const uint16_t *mapping, const uint8_t *permissions,
+                 const uint16_t *ram, size_t words, const uint16_t *at, size_t n, uint32_t *out, size_t room);
+void luigi_reads_by_value(const uint16_t *mapping, const uint8_t *permissions, const uint16_t *flips,
+                          const uint16_t *ram, size_t words, const uint16_t *at, size_t n, uint32_t *out, size_t room);
+void luigi_writes(uint16_t *mapping, uint8_t *permissions, const uint16_t *flips,
+                  uint16_t *ram, size_t words, const uint16_t *at, size_t n, const uint16_t *value, size_t m);
+Active *luigi_writes_by_value(Active *answer, const uint16_t *mapping, const uint8_t *permissions, const uint16_t *flips,
+                              uint16_t *ram, size_t words, const uint16_t *at, size_t n, const uint16_t *value, size_t m);
+#endif

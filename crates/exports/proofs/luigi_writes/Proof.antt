@@ -1,0 +1,50 @@
+-- `exports::luigi_writes` meets its contract. The invariant: the lent tables and the RAM are what the first i writes leave.
+use borrow.Author.Needs.{needs}
+use Prim.Native.Nat.{_≤_, _-_}
+use mathlib.Core.Path.{_≡_, _∙_}
+use native.Mathlib.Omega.{arith}
+use native.Mathlib.Nat.{min-le-left, min-le-right}
+use lib.ListN.{length}
+use Rattle.cart.specs.Machine.{actingBy}
+use Rattle.exports.specs.Runs.{written}
+use Rattle.exports.specs.RunsLaws.{Lent, lent-none, lent-one, lent-last}
+use Rattle.exports.proofs.luigi_writes.Statement.{statement}
+use Rattle.exports.proofs.luigi_writes.Tie as tie
+
+abbrev Inv-loop : tie.InvT-loop
+Inv-loop mapping₀ permissions₀ flips ram₀ at value i₀ i-end mapping permissions ram i =
+    (i ≤ i-end) × (i-end ≤ length at) × (i-end ≤ length value) × (length ram ≡ length ram₀)
+    × Lent (written (actingBy mapping₀ permissions₀ flips) ram₀ at value i) mapping permissions flips ram
+
+abbrev μ-loop : tie.MeasureT-loop
+μ-loop mapping₀ permissions₀ flips ram₀ at value i₀ i-end mapping permissions ram i = i-end - i
+
+loop-holds : tie.Need-loop-holds Inv-loop μ-loop
+loop-holds c = search (needs, c .least .ensures, min-le-left, min-le-right, lent-none)
+
+loop-again : tie.Need-loop-again Inv-loop μ-loop
+loop-again c = search (needs, lent-one, c .before .before .write-by .ensures)
+
+returns : tie.Need-returns Inv-loop μ-loop
+returns c =
+    let i : c .before .loop .i ≡ c .before .before .least .result = omega arith in
+    lent-last _ _ _ _ _ _ _ _ _ _ (i ∙ c .before .before .least .ensures) (c .before .loop .inv .4)
+
+pub luigi-writes-spec : {M : Type 1} → statement M
+luigi-writes-spec =
+    tie.close
+    (tie.spec
+    Inv-loop
+    μ-loop
+    (λ c κs. search needs)
+    loop-holds
+    (λ c. search needs)
+    (λ c. search needs)
+    (λ c. search needs)
+    (λ c. search needs)
+    (λ c κs. search needs)
+    (λ c. search needs)
+    (λ c. search needs)
+    loop-again
+    (λ c. search needs)
+    returns)

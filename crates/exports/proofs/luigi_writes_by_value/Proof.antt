@@ -1,0 +1,59 @@
+-- `exports::luigi_writes_by_value` meets its contract. The invariant: c and the RAM are what the first i writes leave.
+use borrow.Author.Needs.{needs}
+use Prim.Native.Nat.{ℕ, _≤_, _-_}
+use mathlib.Core.Path.{_≡_, _∙_}
+use mathlib.Core.List.{List}
+use native.Mathlib.Omega.{arith}
+use native.Mathlib.Nat.{min-le-left, min-le-right}
+use lib.ListN.{length}
+use Rattle.cart.specs.declared.Cartridge.{Cartridge}
+use Rattle.exports.specs.Runs.{writes, written}
+use Rattle.exports.specs.RunsLaws.{cartridge-one, ram-one}
+use Rattle.exports.proofs.luigi_writes_by_value.Statement.{statement}
+use Rattle.exports.proofs.luigi_writes_by_value.Tie as tie
+
+abbrev Inv-loop : tie.InvT-loop
+Inv-loop mapping permissions flips ram₀ at value c₀ i₀ i-end ram c i =
+    (i ≤ i-end) × (i-end ≤ length at) × (i-end ≤ length value) × (length ram ≡ length ram₀) × (c ≡ written c₀ ram₀ at value i .cartridge) × (ram ≡ written c₀ ram₀ at value i .ram)
+
+abbrev μ-loop : tie.MeasureT-loop
+μ-loop mapping permissions flips ram₀ at value c₀ i₀ i-end ram c i = i-end - i
+
+loop-holds : tie.Need-loop-holds Inv-loop μ-loop
+unfolding written writes
+loop-holds c = search (needs, c .least .ensures, min-le-left, min-le-right)
+
+loop-again : tie.Need-loop-again Inv-loop μ-loop
+loop-again c = search (needs, cartridge-one, ram-one, c .before .before .write .ensures)
+
+ram-last : (c d : Cartridge) (ram at v m : List ℕ) (i n : ℕ) → c ≡ d → i ≡ n → m ≡ written c ram at v i .ram → m ≡ written d ram at v n .ram
+ram-last c d ram at v m i n p q e = rw (← p, ← q) e
+
+returns : tie.Need-returns Inv-loop μ-loop
+returns c =
+    let at-end = c .before .before in
+    let made = at-end .before .before .fresh .ensures in
+    let i : at-end .loop .i ≡ at-end .before .least .result = omega arith in
+    let n = i ∙ at-end .before .least .ensures in
+    (rw (← made, ← n, ← at-end .loop .inv .4) (c .active-of .ensures), ram-last _ _ _ _ _ _ _ _ made n (at-end .loop .inv .5))
+
+pub luigi-writes-by-value-spec : {M : Type 1} → statement M
+luigi-writes-by-value-spec =
+    tie.close
+    (tie.spec
+    Inv-loop
+    μ-loop
+    (λ c κs. search needs)
+    (λ c κs. search needs)
+    loop-holds
+    (λ c. search needs)
+    (λ c. search needs)
+    (λ c. search needs)
+    (λ c. search needs)
+    (λ c κs. search needs)
+    (λ c. search needs)
+    (λ c. search needs)
+    loop-again
+    (λ c κs. search needs)
+    (λ c. search needs)
+    returns)

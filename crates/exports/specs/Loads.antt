@@ -1,0 +1,23 @@
+-- What a load answers, as C lays it out (01, Numbers that come back).
+use Prim.Native.Nat.{ℕ}
+use mathlib.Core.List.{List, [], _∷_}
+use Rattle.tables.specs.declared.Compat.{Compat}
+use Rattle.load.specs.declared.Loading.{Loading}
+use Rattle.exports.specs.declared.Loaded.{Loaded}
+
+-- the compatibility fields in 01's order
+abbrev pub fieldsOf : Compat → List ℕ
+fieldsOf c = c .intellivoice ∷ c .ecs ∷ c .intellivision2 ∷ c .keyboard ∷ c .tutorvision ∷ []
+
+abbrev pub loadedOf : Loading → Loaded
+loadedOf l =
+    record {
+      number = l .number;
+      place = l .place;
+      blocks = l .blocks;
+      words = l .words;
+      compat = fieldsOf (l .compat);
+      mapping = l .cartridge .mapping;
+      permissions = l .cartridge .permissions;
+      flips = l .cartridge .flips;
+    }

@@ -1,0 +1,48 @@
+-- Runs of bus accesses whose addresses and values stand in lists (01, The machine).
+use Prim.Native.Nat.{ℕ, zero, suc, min}
+use mathlib.Core.List.{List, [], _∷_, _++_}
+use lib.ListN.{length, getD}
+use Rattle.words.specs.Lists.{laid}
+use Rattle.places.specs.declared.Console.{Console}
+use Rattle.cart.specs.declared.Cartridge.{Cartridge}
+use Rattle.cart.specs.declared.Answer.{Answer}
+use Rattle.cart.specs.declared.Answer.the-variants.{Word, Silence}
+use Rattle.cart.specs.Machine.{readBy}
+use Rattle.cart.specs.Run.{Access, Write, World, after}
+use Rattle.exports.specs.declared.Active.{Active}
+
+-- the tables that act
+abbrev pub activeOf : Cartridge → Active
+activeOf c = record { mapping = c .mapping; permissions = c .permissions }
+
+-- an answer as one number: a word as it is, silence above every word
+abbrev pub heard : Answer → ℕ
+heard (Word w) = w
+heard Silence = 65536
+
+abbrev pub address : List ℕ → ℕ → Console
+address at i = record { 0 = getD at i 0 }
+
+-- the answers to reads at the first n addresses, laid over the first n words of a buffer
+unfoldable pub answered : List ℕ → List ℕ → List ℕ → List ℕ → ℕ → List ℕ → List ℕ
+answered mapping permissions ram at n out = laid 0 n (λ i. heard (readBy mapping permissions ram (address at i))) out
+
+-- as many answers as there are both addresses and places for them
+abbrev pub answersIn : List ℕ → List ℕ → List ℕ → List ℕ → List ℕ → List ℕ
+answersIn mapping permissions ram at out = answered mapping permissions ram at (min (length at) (length out)) out
+
+-- the first n writes
+unfoldable pub writes : List ℕ → List ℕ → ℕ → List Access
+writes at v zero = []
+writes at v (suc n) = writes at v n ++ (Write (address at n) (getD v n 0) ∷ [])
+
+-- what the first n writes leave
+unfoldable pub written : Cartridge → List ℕ → List ℕ → List ℕ → ℕ → World
+written c ram at v n = after (record { cartridge = c; ram = ram }) (writes at v n)
+
+-- what as many writes leave as there are both addresses and values
+abbrev pub activeAfter : Cartridge → List ℕ → List ℕ → List ℕ → Active
+activeAfter c ram at v = activeOf (written c ram at v (min (length at) (length v)) .cartridge)
+
+abbrev pub ramAfter : Cartridge → List ℕ → List ℕ → List ℕ → List ℕ
+ramAfter c ram at v = written c ram at v (min (length at) (length v)) .ram

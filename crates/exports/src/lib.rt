@@ -1,0 +1,239 @@
+// The proved crates as a C program calls them: a slice is a pointer and a length, a struct is laid out as C's.
+ghost use mathlib.Core.Path.{_≡_};
+ghost use Rattle.sums.specs.Crc.{dowcrcOf, crc324Of, crc32Of};
+ghost use Rattle.cart.specs.Machine.{lent, actingBy};
+ghost use Rattle.load.specs.Load.{loadingOf, loadRamOf};
+ghost use Rattle.build.specs.Building.{buildingOf, builtOf};
+ghost use Rattle.exports.specs.Loads.{fieldsOf, loadedOf};
+ghost use Rattle.exports.specs.Builds.{builtAs};
+ghost use Rattle.exports.specs.Runs.{activeOf, heard, answersIn, activeAfter, ramAfter};
+use build::Building;
+use cart::Answer;
+use cart::Cartridge;
+use load::Loading;
+use places::Console;
+use tables::Compat;
+
+// The three checksums.
+#[no_mangle]
+pub extern "C" fn luigi_dowcrc(s: &[u8]) -> u8
+    ensures { λ r. ⌜ r ≡ dowcrcOf (now (s .entry)) ⌝ }
+{
+    sums::dowcrc(s)
+}
+
+#[no_mangle]
+pub extern "C" fn luigi_crc324(s: &[u8]) -> u32
+    ensures { λ r. ⌜ r ≡ crc324Of (now (s .entry)) ⌝ }
+{
+    sums::crc324(s)
+}
+
+#[no_mangle]
+pub extern "C" fn luigi_crc32(s: &[u8]) -> u32
+    ensures { λ r. ⌜ r ≡ crc32Of (now (s .entry)) ⌝ }
+{
+    sums::crc32(s)
+}
+
+// What a load answers, laid out as C's; the compatibility fields in 01's order.
+#[repr(C)]
+pub struct Loaded {
+    pub number: u32,
+    pub place: usize,
+    pub blocks: usize,
+    pub words: usize,
+    pub compat: [u8; 5],
+    pub mapping: [u16; 256],
+    pub permissions: [u8; 256],
+    pub flips: [u16; 256],
+}
+
+fn compat_of(c: Compat) -> [u8; 5]
+    ensures { λ r. ⌜ r ≡ fieldsOf c ⌝ }
+{
+    [
+        c.intellivoice,
+        c.ecs,
+        c.intellivision2,
+        c.keyboard,
+        c.tutorvision,
+    ]
+}
+
+fn answered(l: Loading) -> Loaded
+    ensures { λ r. ⌜ r ≡ loadedOf l ⌝ }
+{
+    let cartridge = l.cartridge;
+    let mapping = cartridge.mapping;
+    let permissions = cartridge.permissions;
+    let flips = cartridge.flips;
+    Loaded {
+        number: l.number,
+        place: l.place,
+        blocks: l.blocks,
+        words: l.words,
+        compat: compat_of(l.compat),
+        mapping,
+        permissions,
+        flips,
+    }
+}
+
+// The load of an image into a lent RAM.
+#[no_mangle]
+pub extern "C" fn luigi_load(image: &[u8], ram: &mut [u16]) -> Loaded
+    ensures { λ r. ⌜ (r ≡ loadedOf (loadingOf (now (image .entry)) (lent (now (ram .entry))))) × (now (ram .exit) ≡ loadRamOf (now (image .entry)) (now (ram .entry))) ⌝ }
+{
+    answered(load::load(image, ram))
+}
+
+// What building answers, laid out as C's.
+#[repr(C)]
+pub struct Built {
+    pub number: u32,
+    pub place: u32,
+    pub with: u32,
+    pub needed: u32,
+    pub length: usize,
+}
+
+fn built_as(b: Building) -> Built
+    ensures { λ r. ⌜ r ≡ builtAs b ⌝ }
+{
+    Built {
+        number: b.number,
+        place: b.place,
+        with: b.with,
+        needed: b.needed,
+        length: b.length,
+    }
+}
+
+// An image from a BIN and a CFG, into the front of a lent buffer.
+#[no_mangle]
+pub extern "C" fn luigi_build(bin: &[u8], cfg: &[u8], out: &mut [u8]) -> Built
+    ensures { λ r. ⌜ (r ≡ builtAs (buildingOf (now (bin .entry)) (now (cfg .entry)) (now (out .entry)))) × (now (out .exit) ≡ builtOf (now (bin .entry)) (now (cfg .entry)) (now (out .entry))) ⌝ }
+{
+    built_as(build::build(bin, cfg, out))
+}
+
+// The active tables, laid out as C's.
+#[repr(C)]
+pub struct Active {
+    pub mapping: [u16; 256],
+    pub permissions: [u8; 256],
+}
+
+// A cartridge as it is loaded with these tables.
+fn fresh<'a>(
+    mapping: &'a [u16; 256],
+    permissions: &'a [u8; 256],
+    flips: &'a [u16; 256],
+) -> Cartridge
+    ensures { λ r. ⌜ r ≡ actingBy (now (mapping .entry)) (now (permissions .entry)) (now (flips .entry)) ⌝ }
+{
+    let m = *mapping;
+    let p = *permissions;
+    let f = *flips;
+    Cartridge {
+        initial_mapping: m,
+        initial_permissions: p,
+        mapping: m,
+        permissions: p,
+        flips: f,
+    }
+}
+
+fn active_of(c: Cartridge) -> Active
+    ensures { λ r. ⌜ r ≡ activeOf c ⌝ }
+{
+    let mapping = c.mapping;
+    let permissions = c.permissions;
+    Active {
+        mapping,
+        permissions,
+    }
+}
+
+// An answer as one number: a word as it is, silence above every word.
+fn heard_as(a: Answer) -> u32
+    ensures { λ r. ⌜ r ≡ heard a ⌝ }
+{
+    match a {
+        Answer::Word(w) => w as u32,
+        Answer::Silence => 65536,
+    }
+}
+
+// Reads at the addresses of `at`, one after the other, by these tables; the answers go to the first words of `out`.
+#[no_mangle]
+pub extern "C" fn luigi_reads<'a>(
+    mapping: &'a [u16; 256],
+    permissions: &'a [u8; 256],
+    ram: &[u16],
+    at: &[u16],
+    out: &mut [u32],
+)
+    ensures { λ _. ⌜ now (out .exit) ≡ answersIn (now (mapping .entry)) (now (permissions .entry)) (now (ram .entry)) (now (at .entry)) (now (out .entry)) ⌝ }
+{
+    for i in 0..words::least(at.len(), out.len()) {
+        out[i] = heard_as(cart::read_by(mapping, permissions, ram, Console(at[i])));
+    }
+}
+
+// The same, with the cartridge by value at each read.
+#[no_mangle]
+pub extern "C" fn luigi_reads_by_value<'a>(
+    mapping: &'a [u16; 256],
+    permissions: &'a [u8; 256],
+    flips: &'a [u16; 256],
+    ram: &[u16],
+    at: &[u16],
+    out: &mut [u32],
+)
+    ensures { λ _. ⌜ now (out .exit) ≡ answersIn (now (mapping .entry)) (now (permissions .entry)) (now (ram .entry)) (now (at .entry)) (now (out .entry)) ⌝ }
+{
+    let c = fresh(mapping, permissions, flips);
+    for i in 0..words::least(at.len(), out.len()) {
+        out[i] = heard_as(cart::read(c, ram, Console(at[i])));
+    }
+}
+
+// Writes of the words of `value` to the addresses of `at`, one after the other, by these tables.
+#[no_mangle]
+pub extern "C" fn luigi_writes(
+    mapping: &mut [u16; 256],
+    permissions: &mut [u8; 256],
+    flips: &[u16; 256],
+    ram: &mut [u16],
+    at: &[u16],
+    value: &[u16],
+)
+    ensures { λ _. ⌜ (now (mapping .exit) ≡ activeAfter (actingBy (now (mapping .entry)) (now (permissions .entry)) (now (flips .entry))) (now (ram .entry)) (now (at .entry)) (now (value .entry)) .mapping)
+        × (now (permissions .exit) ≡ activeAfter (actingBy (now (mapping .entry)) (now (permissions .entry)) (now (flips .entry))) (now (ram .entry)) (now (at .entry)) (now (value .entry)) .permissions)
+        × (now (ram .exit) ≡ ramAfter (actingBy (now (mapping .entry)) (now (permissions .entry)) (now (flips .entry))) (now (ram .entry)) (now (at .entry)) (now (value .entry))) ⌝ }
+{
+    for i in 0..words::least(at.len(), value.len()) {
+        cart::write_by(mapping, permissions, flips, ram, Console(at[i]), value[i]);
+    }
+}
+
+// The same, with the cartridge by value at each write.
+#[no_mangle]
+pub extern "C" fn luigi_writes_by_value<'a>(
+    mapping: &'a [u16; 256],
+    permissions: &'a [u8; 256],
+    flips: &'a [u16; 256],
+    ram: &mut [u16],
+    at: &[u16],
+    value: &[u16],
+) -> Active
+    ensures { λ r. ⌜ (r ≡ activeAfter (actingBy (now (mapping .entry)) (now (permissions .entry)) (now (flips .entry))) (now (ram .entry)) (now (at .entry)) (now (value .entry))) × (now (ram .exit) ≡ ramAfter (actingBy (now (mapping .entry)) (now (permissions .entry)) (now (flips .entry))) (now (ram .entry)) (now (at .entry)) (now (value .entry))) ⌝ }
+{
+    let mut c = fresh(mapping, permissions, flips);
+    for i in 0..words::least(at.len(), value.len()) {
+        c = cart::write(c, ram, Console(at[i]), value[i]);
+    }
+    active_of(c)
+}

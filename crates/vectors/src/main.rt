@@ -1,0 +1,167 @@
+// Runs 001's vectors, and the vector files that the independent second program makes (second/README.md), and compares:
+// a line for each family, and the first case that differs.
+ghost use mathlib.Core.Path.{_≡_};
+ghost use Prim.Native.Nat.{_≤_, _<_};
+ghost use lib.ListN.{length};
+use crate::record::front;
+use crate::tally::Tally;
+
+mod card;
+mod checksums;
+mod digest;
+mod fill;
+mod loads;
+mod play;
+mod record;
+mod tally;
+mod titles;
+mod writes;
+
+pub enum Family {
+    Sums,
+    Load,
+    Card,
+    Machine,
+    Write,
+    Cfg,
+    Build,
+    Bus,
+}
+
+const FAMILIES: usize = 8;
+
+// Room for any family's file, any image or buffer, and any RAM.
+fn byte_room() -> [u8; 1048600]
+    ensures { λ r. ⌜ 1048600 ≡ length r ⌝ }
+{
+    [0; 1048600]
+}
+
+fn word_room() -> [u16; 524300]
+    ensures { λ r. ⌜ 524300 ≡ length r ⌝ }
+{
+    [0; 524300]
+}
+
+// Whether the record, its length and its fields, agrees.
+fn agrees(
+    family: Family,
+    rec: &[u8],
+    ieee: &[u32; 2048],
+    a: &mut [u8],
+    b: &mut [u8],
+    cfg: &mut [u8],
+    ram: &mut [u16],
+) -> bool {
+    match family {
+        Family::Sums => checksums::sums_agree(rec, a),
+        Family::Load => loads::load_agrees(rec, ieee, a, b, ram),
+        Family::Card => card::card_agrees(rec, ieee, a, b, ram),
+        Family::Machine => loads::machine_agrees(rec, ieee, a, b, ram),
+        Family::Write => writes::write_agrees(rec, ieee, a, b, ram),
+        Family::Cfg => titles::build_agrees(rec, ieee, a, cfg, b),
+        Family::Build => titles::build_agrees(rec, ieee, a, cfg, b),
+        Family::Bus => titles::bus_agrees(rec, ieee, a, cfg, b, ram),
+    }
+}
+
+// Where the record at `at` ends; the file's end, where it is cut.
+fn end_of(file: &[u8], at: usize) -> usize
+    requires { ⌜ at < length (now file) ⌝ }
+    ensures { λ r. ⌜ (at < r) × (r ≤ length (now (file .entry))) ⌝ }
+{
+    let n = 4 + record::get32(file, at);
+    if file.len() - at < n {
+        return file.len();
+    }
+    at + n
+}
+
+fn run(
+    family: Family,
+    file: &[u8],
+    ieee: &[u32; 2048],
+    a: &mut [u8],
+    b: &mut [u8],
+    cfg: &mut [u8],
+    ram: &mut [u16],
+) -> Tally {
+    let mut t = tally::nothing();
+    let mut at = 0;
+    while at < file.len() {
+        let end = end_of(file, at);
+        t = tally::counted(t, agrees(family, &file[at..end], ieee, a, b, cfg, ram));
+        at = end;
+    }
+    t
+}
+
+// The family's name; answers its length.
+fn put_name(family: Family, out: &mut [u8]) -> usize {
+    match family {
+        Family::Sums => fill::put(out, 0, b"sums"),
+        Family::Load => fill::put(out, 0, b"load"),
+        Family::Card => fill::put(out, 0, b"card"),
+        Family::Machine => fill::put(out, 0, b"machine"),
+        Family::Write => fill::put(out, 0, b"write"),
+        Family::Cfg => fill::put(out, 0, b"cfg"),
+        Family::Build => fill::put(out, 0, b"build"),
+        Family::Bus => fill::put(out, 0, b"bus"),
+    }
+}
+
+// Runs a family's file, NAME.vec, and prints its line.
+fn run_file(
+    family: Family,
+    ieee: &[u32; 2048],
+    file: &mut [u8],
+    a: &mut [u8],
+    b: &mut [u8],
+    cfg: &mut [u8],
+    ram: &mut [u16],
+) {
+    let mut name = [0u8; 16];
+    let k = put_name(family, &mut name);
+    let end = fill::put(&mut name, k, b".vec");
+    let fd = os::open_read(front(&name, end));
+    if fd < 0 {
+        os::fail(front(&name, end));
+        return;
+    }
+    let n = io::read_full(fd, file);
+    libc::close(fd);
+    let t = run(family, front(file, n), ieee, a, b, cfg, ram);
+    tally::report(front(&name, k), t);
+}
+
+fn family_of(k: usize) -> Family {
+    match k {
+        0 => Family::Sums,
+        1 => Family::Load,
+        2 => Family::Card,
+        3 => Family::Machine,
+        4 => Family::Write,
+        5 => Family::Cfg,
+        6 => Family::Build,
+        _ => Family::Bus,
+    }
+}
+
+fn run_files(file: &mut [u8], a: &mut [u8], b: &mut [u8], cfg: &mut [u8], ram: &mut [u16]) {
+    let ieee = sums::tables(sums::IEEE);
+    let mut k = 0;
+    while k < FAMILIES {
+        run_file(family_of(k), &ieee, file, a, b, cfg, ram);
+        k += 1;
+    }
+}
+
+fn main() {
+    let mut file = byte_room();
+    let mut a = byte_room();
+    let mut b = byte_room();
+    let mut cfg = [0u8; 20480];
+    let mut ram = word_room();
+    tally::report(b"001", checksums::vectors());
+    run_files(&mut file, &mut a, &mut b, &mut cfg, &mut ram);
+}

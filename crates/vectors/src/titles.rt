@@ -1,0 +1,95 @@
+// A case of each family on titles: a BIN and a CFG built, and a built image played beside the plain cartridge.
+use crate::digest::digest;
+use crate::fill::take_buffer;
+use crate::fill::take_bytes;
+use crate::loads::run_image;
+use crate::loads::same_ram;
+use crate::record::ends;
+use crate::record::front;
+use crate::record::get32;
+use crate::record::has8;
+use crate::record::has32;
+use build::Building;
+use words::both;
+use words::least;
+
+// How many bytes the BIN and the CFG have, and the place of the record's next field.
+struct Title {
+    bin: usize,
+    cfg: usize,
+    next: usize,
+}
+
+fn take_title(rec: &[u8], bin: &mut [u8], cfg: &mut [u8]) -> Title {
+    let b = take_bytes(rec, 4, bin);
+    let c = take_bytes(rec, b.next, cfg);
+    Title {
+        bin: b.n,
+        cfg: c.n,
+        next: c.next,
+    }
+}
+
+// A build of the title into the first n bytes of a buffer.
+fn build_in(bin: &[u8], cfg: &[u8], t: Title, out: &mut [u8], n: usize) -> Building {
+    let k = least(n, out.len());
+    build::build(front(bin, t.bin), front(cfg, t.cfg), &mut out[0..k])
+}
+
+fn same_building(rec: &[u8], at: usize, b: Building, whole: usize) -> bool {
+    let number = has8(rec, at, 0, b.number as usize);
+    let place = has32(rec, at, 1, b.place as usize);
+    let length = has32(rec, at, 5, b.length);
+    let needed = has32(rec, at, 9, b.needed as usize);
+    let bytes = has32(rec, at, 13, whole);
+    both(
+        both(number, place),
+        both(both(length, needed), both(bytes, ends(rec, at, 17))),
+    )
+}
+
+// A build: the answer, and the whole buffer.
+pub fn build_agrees(
+    rec: &[u8],
+    ieee: &[u32; 2048],
+    bin: &mut [u8],
+    cfg: &mut [u8],
+    out: &mut [u8],
+) -> bool {
+    let t = take_title(rec, bin, cfg);
+    let o = take_buffer(rec, t.next, out);
+    let b = build_in(bin, cfg, t, out, o.n);
+    same_building(rec, o.next, b, digest(ieee, front(out, o.n)))
+}
+
+// A title built: whether it was, the image's length, and the place of the record's next field.
+struct Pressed {
+    good: bool,
+    length: usize,
+    next: usize,
+}
+
+fn press(rec: &[u8], bin: &mut [u8], cfg: &mut [u8], image: &mut [u8]) -> Pressed {
+    let t = take_title(rec, bin, cfg);
+    let b = build_in(bin, cfg, t, image, image.len());
+    Pressed {
+        good: b.number == 0,
+        length: b.length,
+        next: t.next,
+    }
+}
+
+// A title built, loaded and played, the machine's answers beside the plain cartridge's; then the RAM.
+pub fn bus_agrees(
+    rec: &[u8],
+    ieee: &[u32; 2048],
+    bin: &mut [u8],
+    cfg: &mut [u8],
+    image: &mut [u8],
+    ram: &mut [u16],
+) -> bool {
+    let x = press(rec, bin, cfg, image);
+    let r = run_image(rec, x.next, image, x.length, ram);
+    let stored = same_ram(get32(rec, r.next), ieee, ram, r.words, image);
+    both(both(x.good, r.good), both(stored, ends(rec, r.next, 4)))
+}

@@ -1,0 +1,119 @@
+// A case of the family write: an image of marked paragraphs written into a buffer.
+use crate::digest::digest;
+use crate::fill::lay;
+use crate::fill::take_buffer;
+use crate::fill::take_bytes;
+use crate::fill::take_words;
+use crate::record::after;
+use crate::record::ends;
+use crate::record::front;
+use crate::record::front_words;
+use crate::record::get8;
+use crate::record::has8;
+use crate::record::has32;
+use cart::Cartridge;
+use save::Writing;
+use words::both;
+use words::least;
+
+// Paragraph p is bit p mod 8 of byte p div 8.
+fn marks_of(bits: &[u8]) -> [bool; 2048] {
+    let mut marks = [false; 2048];
+    let mut p = 0;
+    while p < 2048 {
+        let b = get8(bits, p / 8);
+        marks[p] = (b >> (p % 8)) % 2 == 1;
+        p += 1;
+    }
+    marks
+}
+
+// The tables and the marks of a record, and the places of its RAM, which stands between them, and of its buffer.
+struct Given {
+    cartridge: Cartridge,
+    marks: [bool; 2048],
+    ram: usize,
+    buffer: usize,
+}
+
+fn take_given(rec: &[u8], room: &mut [u8]) -> Given {
+    let t = take_bytes(rec, 28, room);
+    let cartridge = tables::cartridge_of(front(room, t.n));
+    let m = take_bytes(rec, after(t.next, 8), room);
+    let marks = marks_of(front(room, m.n));
+    Given {
+        cartridge,
+        marks,
+        ram: t.next,
+        buffer: m.next,
+    }
+}
+
+// The flags and the UID stand first in the record.
+fn flags_of(rec: &[u8]) -> [u8; 16] {
+    let mut flags = [0u8; 16];
+    lay(rec, 4, 16, &mut flags, 0);
+    flags
+}
+
+fn uid_of(rec: &[u8]) -> [u8; 8] {
+    let mut uid = [0u8; 8];
+    lay(rec, 20, 8, &mut uid, 0);
+    uid
+}
+
+// A write into the first n bytes of a buffer.
+fn write_in(
+    rec: &[u8],
+    c: Cartridge,
+    marks: &[bool; 2048],
+    ram: &[u16],
+    out: &mut [u8],
+    n: usize,
+) -> Writing {
+    let flags = flags_of(rec);
+    let uid = uid_of(rec);
+    let m = c.mapping;
+    let k = least(n, out.len());
+    save::write(
+        &mut out[0..k],
+        &flags,
+        &uid,
+        &m,
+        &c.permissions,
+        &c.flips,
+        ram,
+        marks,
+    )
+}
+
+fn same_writing(rec: &[u8], at: usize, w: Writing, whole: usize) -> bool {
+    let number = has8(rec, at, 0, w.number as usize);
+    let place = has32(rec, at, 1, w.place as usize);
+    let length = has32(rec, at, 5, w.length);
+    let bytes = has32(rec, at, 9, whole);
+    both(
+        both(number, place),
+        both(length, both(bytes, ends(rec, at, 13))),
+    )
+}
+
+// A write: the answer, and the whole buffer.
+fn write_case(rec: &[u8], g: Given, ieee: &[u32; 2048], ram: &[u16], out: &mut [u8]) -> bool {
+    let b = take_buffer(rec, g.buffer, out);
+    let marks = g.marks;
+    let w = write_in(rec, g.cartridge, &marks, ram, out, b.n);
+    same_writing(rec, b.next, w, digest(ieee, front(out, b.n)))
+}
+
+pub fn write_agrees(
+    rec: &[u8],
+    ieee: &[u32; 2048],
+    room: &mut [u8],
+    out: &mut [u8],
+    ram: &mut [u16],
+) -> bool {
+    let g = take_given(rec, room);
+    let w = take_words(rec, g.ram, ram);
+    write_case(rec, g, ieee, front_words(ram, w.n), out)
+}
