@@ -1,15 +1,15 @@
 -- Each way out of a build: 21, the CFG's refusals, the rules', and the image pressed.
-use Prim.Native.Nat.{ℕ, zero, suc, _+_, _*_, _/_, _%_, _≤_, _<_}
+use Prim.Native.Nat.{ℕ, zero, suc, _%_, _≤_, _<_}
 use mathlib.Core.Path.{_≡_, refl, sym, ap, _∙_}
 use mathlib.Core.List.{List, [], _∷_, _++_, map}
 use mathlib.Core.Bool.{Bool, true, false, cond}
 use mathlib.Core.Logic.{_⊎_, inl, inr}
 use native.Mathlib.Omega.{arith}
-use lib.ListN.{length, take, drop}
+use lib.ListN.{length, take}
 use lib.Dec.{eqb, ltb}
 use borrow.Author.Tests.{ne-eqb, ltb-false}
 use Rattle.words.specs.Tests.{cases, or-false-right}
-use Rattle.words.specs.Tables.{made, table}
+use Rattle.words.specs.Tables.{made}
 use Rattle.words.specs.Refusals.{accepted-exactly as exactly-accepted}
 use Rattle.words.specs.Rows.{Row, firstOf, Gives, here, later, Silent, none, also, gives-first, silent-first, first-by, first-append}
 use Rattle.lines.specs.declared.Line.{Line}
@@ -21,10 +21,10 @@ use Rattle.cfg.specs.EntryLaws.{Holds, accepted-holds, all-typed}
 use Rattle.rules.specs.Rules.{Verdict, passed, outOfRange, misshapen, rival, isSome, breaksPlain, lineRows, shareRows, chapterRows, ruleRows, judgeOf}
 use Rattle.rules.specs.Accepted.{Accepted}
 use Rattle.rules.specs.Exactly.{numberOf, rule-rows}
-use Rattle.rules.specs.Judged.{sharer, judgedOf}
+use Rattle.rules.specs.Judged.{judgedOf}
 use Rattle.rules.specs.declared.Judged.{Judged}
 use Rattle.layout.specs.Layout.{needed}
-use Rattle.build.specs.Building.{imageFor, binLimit, wrongBin, tooShort, readRow, rowsOf, verdictOf, refused, built, builds, buildingOf, builtOf}
+use Rattle.build.specs.Building.{imageFor, binLimit, wrongBin, tooShort, readRow, verdictOf, refused, buildingOf, builtOf}
 use Rattle.build.specs.Answers.{imageOn, Pressed}
 use Rattle.build.specs.declared.Building.{Building}
 

@@ -2,28 +2,25 @@
 -- never come back.
 use Prim.Native.Nat.{ℕ, zero, suc, _+_, _*_, _/_, _%_, _≤_, _<_, min}
 use mathlib.Core.Path.{_≡_, refl, sym, ap, _∙_}
-use mathlib.Core.List.{List, [], _∷_, _++_}
-use mathlib.Core.Bool.{Bool, true, false, cond, _&&_}
+use mathlib.Core.List.{List, _++_}
+use mathlib.Core.Bool.{Bool, true, false, cond}
 use native.Mathlib.Omega.{arith}
 use lib.ListN.{length, getD, drop}
 use lib.Dec.{eqb, ltb}
 use borrow.Author.Tests.{le-ltb}
-use Rattle.words.specs.Tests.{cases, true-is-not-false, and-left, and-right, and-false}
-use Rattle.words.specs.Lists.{part, length-part, getD-part, laid, laid-in, length-laid}
+use Rattle.words.specs.Tests.{cases, true-is-not-false, and-left, and-right}
+use Rattle.words.specs.Lists.{length-part, getD-part, laid-in, length-laid}
 use Rattle.words.specs.Tables.{table, getD-table, table-of}
 use Rattle.words.specs.Counts.{some, some-at, Place}
-use Rattle.words.specs.Rows.{firstOf}
 use Rattle.lines.specs.declared.Line.{Line}
 use Rattle.cart.specs.Machine.{lent}
 use Rattle.tables.specs.Limits.{imageLimit}
-use Rattle.tables.specs.Tables.{unsupported}
-use Rattle.image.specs.Form.{Tables, tables, Hunk, hunk, imageOf}
+use Rattle.image.specs.Form.{tables, imageOf}
 use Rattle.image.specs.Chosen.{chosen, paragraphs}
 use Rattle.save.specs.declared.Writing.{Writing}
-use Rattle.save.specs.Writing.{isMarked, paragraphOf, marked, imageBy, past, refusal, done, refusals, writingOf, writtenOf}
+use Rattle.save.specs.Writing.{isMarked, paragraphOf, marked, imageBy, past, refusal, done, writingOf, writtenOf}
 use Rattle.rules.specs.Accepted.{Accepted}
-use Rattle.rules.specs.RuleLaws.{good}
-use Rattle.layout.specs.Layout.{pages, needed, mappingTable, permissionsTable, flipTable, writtenOf as wordOf, paragraphHeld, lineHeld, covered, paragraphWords}
+use Rattle.layout.specs.Layout.{pages, needed, writtenOf as wordOf, paragraphHeld, lineHeld, covered, paragraphWords}
 use Rattle.layout.specs.Plan.{planOf, wordAt, ramOf}
 use Rattle.layout.specs.declared.Plan.{Plan}
 use Rattle.layout.specs.UseLaws.{covered-below, covered-inside}

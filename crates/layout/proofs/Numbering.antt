@@ -1,5 +1,5 @@
 -- Pages numbered slot by slot: after s slots, each has its page, and each page so far its slot.
-use Prim.Native.Nat.{ℕ, zero, suc, _+_, _≤_, _<_}
+use Prim.Native.Nat.{ℕ, suc, _+_, _≤_, _<_}
 use mathlib.Core.Path.{_≡_, refl, sym, ap, _∙_}
 use mathlib.Core.List.{List}
 use mathlib.Core.Bool.{Bool, true, false, cond, _&&_}
@@ -14,7 +14,6 @@ use Rattle.words.specs.Tables.{table, table-of, Filled, filled-none, filled-mor
 use Rattle.words.specs.Counts.{count}
 use Rattle.layout.specs.Nth.{nth}
 use Rattle.layout.specs.PlanLaws.{isUsed, numberedOf}
-use Rattle.layout.specs.declared.Numbered.{Numbered}
 
 pub record Numbering (used : List Bool) (page slot : List ℕ) (n s : ℕ) : Type 0 where
   pub up : s ≤ 272

@@ -1,6 +1,6 @@
 -- The BIN words that a line puts at a paragraph's addresses.
 use Prim.Native.Nat.{ℕ, _+_, _*_, _-_, _/_, _%_, _≤_, _<_}
-use mathlib.Core.Path.{_≡_, refl, ap, _∙_}
+use mathlib.Core.Path.{_≡_, ap, _∙_}
 use mathlib.Core.List.{List}
 use mathlib.Core.Bool.{cond}
 use mathlib.Core.Option.{none, some}

@@ -7,27 +7,27 @@ use mathlib.Core.Option.{Option, none, some}
 use native.Mathlib.Omega.{arith}
 use lib.ListN.{length, getD, take, length-take}
 use lib.Seq.{getD-take}
-use lib.Dec.{eqb, leb, ltb}
-use borrow.Author.Tests.{eq-eqb, ne-eqb, eqb-true, eqb-false, ltb-true}
-use Rattle.words.specs.Tests.{cases, and-left, and-right}
+use lib.Dec.{eqb, ltb}
+use borrow.Author.Tests.{ne-eqb, eqb-true, eqb-false}
+use Rattle.words.specs.Tests.{cases, and-right}
 use Rattle.words.specs.Lists.{laid, laid-same}
-use Rattle.words.specs.Tables.{table, length-table, getD-table, table-of}
+use Rattle.words.specs.Tables.{table, length-table, getD-table}
 use Rattle.words.specs.Counts.{count, count-most}
 use Rattle.lines.specs.declared.Entry.{Entry}
 use Rattle.lines.specs.declared.Line.{Line}
-use Rattle.lines.specs.Lines.{first, layer, holds}
-use Rattle.lines.specs.LineLaws.{Within, within}
-use Rattle.cart.specs.Machine.{firstK, flipMapping, flipPermissions}
+use Rattle.lines.specs.Lines.{first, layer}
+use Rattle.lines.specs.LineLaws.{within}
+use Rattle.cart.specs.Machine.{flipMapping}
 use Rattle.rules.specs.Rules.{isSome, lineIn, uses, paged, allRom}
 use Rattle.rules.specs.Survey.{later, numberOf, noLine, lineOf, claims, claimsPlace, places, surveyOf}
-use Rattle.rules.specs.NumberLaws.{Owns, number-most, line-owned, some-line, line-taken}
+use Rattle.rules.specs.NumberLaws.{Owns, number-most, some-line, line-taken}
 use Rattle.rules.specs.SurveyLaws.{Few, few-owners, line-by-owner, table-same}
 use Rattle.layout.specs.Nth.{nth}
-use Rattle.layout.specs.Layout.{slots, slotOf, used, pageOf, pages, slotOfPage, permissionOf, answering, entryFor, flipEntry, flippable, plainMapping, plainPermissions, mappingAt, permissionsAt, mappingTable, permissionsTable, flipTable, writtenOf, layerHeld, paragraphHeld, lineHeld, covered}
+use Rattle.layout.specs.Layout.{slots, used, pageOf, pages, slotOfPage, answering, entryFor, flipEntry, flippable, mappingAt, permissionsAt, mappingTable, permissionsTable, flipTable, layerHeld, paragraphHeld, lineHeld, covered}
 use Rattle.layout.specs.Plan.{marked, planOf, wordAt, ramOf}
-use Rattle.layout.specs.PlanLaws.{isUsed, numberedOf, answerBy, answerIn, entryBy, flipsIn, Small, flippableIn, mappingBy, mappingIn, permissionsBy, permissionsIn, paragraphIn, ownerIn, heldIn, marksIn, Slots, writtenIn, Begins, flipsBy, drawn}
+use Rattle.layout.specs.PlanLaws.{isUsed, numberedOf, answerBy, answerIn, entryBy, flipsIn, Small, flippableIn, mappingIn, permissionsIn, paragraphIn, heldIn, marksIn, Slots, writtenIn, Begins, flipsBy, drawn}
 use Rattle.rules.specs.declared.Survey.{Survey}
-use Rattle.layout.specs.declared.Numbered.{Numbered}
+use Rattle.layout.specs.declared.pages.Numbered.{Numbered}
 use Rattle.layout.specs.declared.Plan.{Plan}
 
 -- counting, and the place of a count, by tests that agree

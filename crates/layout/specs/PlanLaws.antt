@@ -1,12 +1,10 @@
 -- The layout by the survey's tables.
-use Prim.Native.Nat.{ℕ, zero, suc, _+_, _*_, _-_, _/_, _%_, _≤_, _<_}
-use mathlib.Core.Path.{_≡_, refl, sym, ap, _∙_}
+use Prim.Native.Nat.{ℕ, _+_, _*_, _-_, _/_, _%_, _≤_, _<_}
+use mathlib.Core.Path.{_≡_}
 use mathlib.Core.List.{List}
-use mathlib.Core.Bool.{Bool, true, false, cond, not, _&&_}
-use mathlib.Core.Option.{Option, none, some}
-use native.Mathlib.Omega.{arith}
-use native.Mathlib.Numerals.{add-one}
-use lib.ListN.{length, getD, take}
+use mathlib.Core.Bool.{Bool, false, cond, not, _&&_}
+use mathlib.Core.Option.{Option}
+use lib.ListN.{getD}
 use lib.Dec.{eqb, leb, ltb}
 use Rattle.words.specs.Tables.{table}
 use Rattle.words.specs.Counts.{count}
@@ -17,7 +15,7 @@ use Rattle.rules.specs.Survey.{noLine, lineOf}
 use Rattle.layout.specs.Nth.{nth}
 use Rattle.layout.specs.Layout.{permissionOf, writtenOf}
 use Rattle.rules.specs.declared.Survey.{Survey}
-use Rattle.layout.specs.declared.Numbered.{Numbered}
+use Rattle.layout.specs.declared.pages.Numbered.{Numbered}
 use Rattle.layout.specs.declared.Plan.{Plan}
 
 abbrev pub isUsed : List Bool → ℕ → Bool

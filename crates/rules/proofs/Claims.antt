@@ -6,7 +6,7 @@ use mathlib.Core.Logic.{inr}
 use native.Mathlib.Omega.{arith}
 use native.Mathlib.Numerals.{add-one}
 use lib.ListN.{length, getD, set, length-set}
-use Rattle.words.specs.Lists.{laid, laid-none, laid-more, laid-out, length-laid}
+use Rattle.words.specs.Lists.{laid, laid-none, laid-more, laid-out}
 use Rattle.rules.specs.NumberLaws.{takes, lesser, leastIn}
 
 pub record Claiming (o₀ : List ℕ) (a k number : ℕ) (j : ℕ) (o : List ℕ) : Type 0 where

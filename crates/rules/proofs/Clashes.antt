@@ -1,24 +1,20 @@
 -- Rule 27, line by line: the owners are those of the lines before line k, and the first clash is among the lines from k on.
 use Prim.Native.Nat.{ℕ, suc, _+_, _-_, _≤_, _<_}
 use mathlib.Core.Path.{_≡_, refl, sym, ap, _∙_}
-use mathlib.Core.List.{List, [], _∷_, _++_}
-use mathlib.Core.Bool.{Bool, true, false, cond, not}
-use mathlib.Core.Option.{Option, none, some}
+use mathlib.Core.List.{List, []}
 use native.Mathlib.Omega.{arith}
 use lib.ListN.{length, getD, take, drop, replicate}
-use lib.Dec.{eqb}
 use borrow.Author.Tests.{eq-eqb, ne-eqb}
 use Rattle.words.specs.Lists.{laid}
 use Rattle.words.specs.Rows.{firstOf}
-use Rattle.lines.specs.declared.Entry.{Entry}
 use Rattle.lines.specs.declared.Line.{Line}
 use Rattle.lines.specs.Typed.{All}
-use Rattle.rules.specs.Rules.{Verdict, passed, shares, rival, isSome, shareRows}
+use Rattle.rules.specs.Rules.{passed, shares, rival, shareRows}
 use Rattle.rules.specs.Shapes.{Fine}
 use Rattle.rules.specs.Survey.{noLine, lineOf, numberOf, claimsParagraph, claimsPage}
-use Rattle.rules.specs.NumberLaws.{Owns, Spans, takes, lesser, leastIn, owns-none, owns-more, number-most, rival-owned, some-line, line-taken}
+use Rattle.rules.specs.NumberLaws.{Owns, Spans, takes, lesser, leastIn, owns-none, owns-more, number-most, rival-owned, line-taken}
 use Rattle.rules.specs.ShareLaws.{rival-number}
-use Rattle.rules.specs.Judged.{sourceOf, sharer, judged}
+use Rattle.rules.specs.Judged.{sharer, judged}
 use Rattle.rules.specs.declared.Judged.{Judged}
 use Rattle.rules.proofs.Lists.{next-line, last-line, passed-line, passed-length, all-line, all-passed}
 

@@ -5,13 +5,12 @@ use mathlib.Core.List.{List, [], _∷_, _++_}
 use mathlib.Core.Bool.{Bool, true, false, cond}
 use mathlib.Core.Logic.{_⊎_, inl, inr}
 use native.Mathlib.Omega.{arith}
-use lib.ListN.{length, getD, take}
+use lib.ListN.{getD}
 use lib.Dec.{eqb}
-use borrow.Author.Tests.{eq-eqb, ne-eqb}
 use Rattle.words.specs.Tables.{made, table, getD-table}
 use Rattle.words.specs.Rows.{Row, firstOf, Gives, Silent, gives-first, silent-first, first-by, first-append}
 use Rattle.lines.specs.declared.Line.{Line}
-use Rattle.rules.specs.Rules.{Verdict, passed, outOfRange, misshapen, rival, isSome, breaksPlain, lineRows, shareRows, chapterRows, ruleRows, judgeOf}
+use Rattle.rules.specs.Rules.{Verdict, passed, outOfRange, misshapen, rival, isSome, breaksPlain, lineRows, shareRows, chapterRows, judgeOf}
 use Rattle.rules.specs.Judged.{sharer, judged, judgedOf}
 use Rattle.rules.specs.SurveyLaws.{table-same}
 use Rattle.rules.specs.declared.Judged.{Judged}

@@ -1,21 +1,20 @@
 -- Owners: the number of a line and the line, owners after one more line, and the first of several owners.
-use Prim.Native.Nat.{ℕ, zero, suc, _+_, _*_, _-_, _≤_, _<_}
-use mathlib.Core.Path.{_≡_, refl, sym, ap, _∙_}
+use Prim.Native.Nat.{ℕ, zero, suc, _+_, _-_, _≤_, _<_}
+use mathlib.Core.Path.{_≡_, refl, sym, _∙_}
 use mathlib.Core.List.{List, [], _∷_, _++_}
-use mathlib.Core.Bool.{Bool, true, false, cond, not, _&&_, _||_}
+use mathlib.Core.Bool.{Bool, true, false, cond, not, _||_}
 use mathlib.Core.Option.{Option, none, some}
 use mathlib.Core.Logic.{_⊎_, inl, inr}
 use native.Mathlib.Omega.{arith}
 use lib.ListN.{length, getD, take, replicate, length-replicate, getD-replicate}
 use lib.Seq.{getD-take}
 use lib.Dec.{eqb, ltb}
-use borrow.Author.Tests.{eq-eqb, ne-eqb, lt-ltb, eqb-true, eqb-false, ltb-true, ltb-false}
+use borrow.Author.Tests.{ne-eqb, lt-ltb, eqb-true, eqb-false, ltb-true, ltb-false}
 use Rattle.words.specs.Tests.{cases}
 use Rattle.words.specs.Lists.{laid, length-laid, laid-in, laid-out}
 use Rattle.words.specs.Counts as Counts
 use Rattle.lines.specs.declared.Entry.{Entry}
 use Rattle.lines.specs.declared.Line.{Line}
-use Rattle.lines.specs.Lines.{lineAt}
 use Rattle.lines.specs.Typed.{All, nil, cons}
 use Rattle.rules.specs.Rules.{shares, rival, isSome, lineIn}
 use Rattle.rules.specs.Survey.{later, numberOf, noLine, lineOf, claims}

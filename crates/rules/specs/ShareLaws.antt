@@ -1,9 +1,9 @@
 -- Rule 27 by owners: the first earlier line with which a line shares is the least owner of the places that it claims.
 use Prim.Native.Nat.{ℕ, suc, _+_, _*_, _-_, _/_, _%_, _≤_, _<_, max}
-use mathlib.Core.Path.{_≡_, refl, sym, ap, _∙_}
+use mathlib.Core.Path.{_≡_, refl, sym, _∙_}
 use mathlib.Core.List.{List}
-use mathlib.Core.Bool.{Bool, true, false, cond, _&&_, _||_}
-use mathlib.Core.Logic.{_⊎_, inl, inr, ⊎-elim}
+use mathlib.Core.Bool.{Bool, true, cond, _||_}
+use mathlib.Core.Logic.{inl, inr, ⊎-elim}
 use native.Mathlib.Omega.{arith}
 use lib.Dec.{eqb, leb, ltb}
 use borrow.Author.Tests.{eq-eqb, ne-eqb, le-leb, leb-true, eqb-true, eqb-false, ltb-true, ltb-false}
@@ -16,7 +16,7 @@ use Rattle.lines.specs.Lines.{first, last, layer, holds}
 use Rattle.lines.specs.Typed.{All}
 use Rattle.lines.specs.LineLaws.{Within, within, holding}
 use Rattle.rules.specs.Rules.{meets, shares}
-use Rattle.rules.specs.Shapes.{PlainLine, PageLine, Fine}
+use Rattle.rules.specs.Shapes.{Fine}
 use Rattle.rules.specs.RuleLaws.{Aligned, aligned}
 use Rattle.rules.specs.Survey.{numberOf, claims, claimsParagraph, claimsPage}
 use Rattle.rules.specs.NumberLaws.{Spans, Owns, lesser, leastIn, least-number, number-or, number-same}

@@ -1,21 +1,15 @@
 -- The places that an entry claims, as a range: paragraphs, pages, and paragraphs of all layers; and rule 27 by them.
-use Prim.Native.Nat.{ℕ, zero, suc, _+_, _*_, _-_, _/_, _%_, _≤_, _<_, min}
-use mathlib.Core.Path.{_≡_, refl, sym, ap, _∙_}
-use mathlib.Core.List.{List, [], _∷_, _++_}
-use mathlib.Core.Bool.{Bool, true, false, cond, not, _&&_, _||_}
+use Prim.Native.Nat.{ℕ, suc, _+_, _*_, _-_, _/_, _%_, _≤_, _<_, min}
+use mathlib.Core.Path.{_≡_, refl, sym, _∙_}
+use mathlib.Core.Bool.{Bool, true, false, _&&_}
 use mathlib.Core.Logic.{_⊎_, inl, inr, ⊎-elim}
 use native.Mathlib.Omega.{arith}
 use lib.Dec.{eqb, leb, ltb}
-use borrow.Author.Tests.{eq-eqb, ne-eqb, le-leb, lt-leb, leb-true, eqb-true, eqb-false, ltb-true, ltb-false}
-use Rattle.words.specs.Tests.{cases, true-is-not-false, and-left, and-right, and-true, or-left, or-right, or-cases, same-test}
-use Rattle.words.specs.Counts as Counts
-use Rattle.words.specs.Counts.{some-of, some-at, Place}
+use borrow.Author.Tests.{eq-eqb, ne-eqb, lt-leb, eqb-true, eqb-false, ltb-true, ltb-false}
+use Rattle.words.specs.Tests.{cases, and-true}
 use Rattle.lines.specs.declared.Entry.{Entry}
 use Rattle.lines.specs.Lines.{first, last, layer, holds}
-use Rattle.lines.specs.LineLaws.{Within, within, holding}
-use Rattle.rules.specs.Rules.{meets, shares}
-use Rattle.rules.specs.Shapes.{PlainLine, PageLine, Fine}
-use Rattle.rules.specs.RuleLaws.{Aligned, aligned}
+use Rattle.lines.specs.LineLaws.{holding}
 use Rattle.rules.specs.Survey.{claims, claimsParagraph, claimsPage, claimsPlace, places}
 use Rattle.rules.specs.NumberLaws.{Spans}
 

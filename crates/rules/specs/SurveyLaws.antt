@@ -1,8 +1,8 @@
 -- What the owners of all places say of the lines: the slots in use, and what covers a chapter's flippable range.
-use Prim.Native.Nat.{ℕ, zero, suc, _+_, _*_, _-_, _/_, _%_, _≤_, _<_}
+use Prim.Native.Nat.{ℕ, zero, suc, _+_, _*_, _/_, _%_, _≤_, _<_}
 use mathlib.Core.Path.{_≡_, refl, sym, ap, _∙_}
 use mathlib.Core.List.{List}
-use mathlib.Core.Bool.{Bool, true, false, cond, not, _&&_, _||_}
+use mathlib.Core.Bool.{Bool, true, false, not, _&&_, _||_}
 use mathlib.Core.Option.{Option}
 use native.Mathlib.Omega.{arith}
 use native.Mathlib.Numerals.{add-one}
@@ -15,9 +15,8 @@ use Rattle.cart.specs.Machine.{firstK}
 use Rattle.rules.specs.Rules.{isSome, isRom, isRamLine, lineIn, uses, paged, throughout, allRom, noRom, noRam, breaksPlain}
 use Rattle.rules.specs.Survey.{lineOf, numberOf, claims, claimsPlace, places, surveyOf}
 use Rattle.rules.specs.NumberLaws.{Owns, number-most, line-owned, some-line, line-taken}
-use Rattle.rules.specs.declared.Survey.{Survey}
-use Rattle.rules.specs.declared.Cover.{Cover}
-use Rattle.rules.specs.declared.Chapters.{Chapters}
+use Rattle.rules.specs.declared.chapters.Cover.{Cover}
+use Rattle.rules.specs.declared.chapters.Chapters.{Chapters}
 
 -- layer t of chapter x is in use; chapter x has PAGE lines; a test passes throughout its flippable range: each by tables
 unfoldable pub usedIn : List ℕ → ℕ → ℕ → Bool

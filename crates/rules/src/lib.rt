@@ -1,30 +1,32 @@
 // Which lines of a CFG a build accepts: rules 25 to 28 (01, "Numbers that come back").
+mod chapters;
+mod owners;
+mod shape;
+
 ghost use mathlib.Core.Path.{_≡_};
 ghost use mathlib.Core.List.{[]};
-ghost use mathlib.Core.Bool.{false, cond, not};
-ghost use mathlib.Core.Option.{none, some};
-ghost use Prim.Native.Nat.{_+_, _-_, _*_, _/_, _%_, _≤_, _<_};
-ghost use lib.ListN.{length, getD, take};
-ghost use lib.Dec.{eqb};
-ghost use Rattle.words.specs.Lists.{laid};
+ghost use mathlib.Core.Bool.{false};
+ghost use Prim.Native.Nat.{_-_, _≤_};
+ghost use lib.ListN.{getD, take};
 ghost use Rattle.words.specs.Rows.{firstOf};
 ghost use Rattle.words.specs.Tables.{table};
-ghost use Rattle.lines.specs.Lines.{first, last, layer};
 ghost use Rattle.lines.specs.Typed.{All};
-ghost use Rattle.rules.specs.Rules.{passed, isRom, isRamLine, lineRows, shareRows, chapterRows};
+ghost use Rattle.rules.specs.Rules.{passed, lineRows, shareRows};
 ghost use Rattle.rules.specs.Shapes.{Fine};
 ghost use Rattle.rules.specs.Judged.{judged, sharer, judgedOf};
-ghost use Rattle.rules.specs.Survey.{claimsParagraph, claimsPage, claimsPlace, places, surveyOf};
-ghost use Rattle.rules.specs.NumberLaws.{takes, lesser, leastIn, Owns, Spans};
-ghost use Rattle.rules.specs.SpanLaws.{Reaches};
-ghost use Rattle.rules.specs.SurveyLaws.{usedIn, pagedIn, coverOf, chaptersOf, Few};
-use lines::Entry;
+ghost use Rattle.rules.specs.Survey.{claimsPlace, places, surveyOf};
+ghost use Rattle.rules.specs.NumberLaws.{Owns};
+use chapters::chapters_of;
+use chapters::paged_of;
+use chapters::used_of;
 use lines::Line;
-use words::both;
-use words::either;
+use owners::claim;
+use owners::least_of;
+use owners::least_owner;
+use owners::page_of;
+use owners::paragraphs_of;
+use owners::places_of;
 use words::least;
-
-mod shape;
 
 // A refusal's number and place, 0 and 0 where nothing is refused; at 27 the earlier line that the named one collides with.
 pub struct Judged {
@@ -72,120 +74,6 @@ fn line_fault(words: u32, n: usize, lines: [Line; 64]) -> Judged
         place: 0,
         with: 0,
     }
-}
-
-// Places that an entry claims: so many, from one on.
-struct Span {
-    from: usize,
-    count: usize,
-}
-
-// The paragraphs whose first words lie among some words.
-fn reached(b: u16, e: usize) -> Span
-    ensures { λ r. ⌜ Reaches b e (r .from) (r .count) ⌝ }
-{
-    let a = (b as usize + 255) / 256;
-    let t = least(e / 256 + 1, 256);
-    if t <= a {
-        return Span { from: 0, count: 0 };
-    }
-    Span {
-        from: a,
-        count: t - a,
-    }
-}
-
-fn reach_of(e: Entry) -> Span
-    ensures { λ r. ⌜ Reaches (first e) (last e) (r .from) (r .count) ⌝ }
-{
-    reached(shape::first_of(e), shape::last_of(e))
-}
-
-// Of a plain entry its paragraphs, of a PAGE entry its chapter and page, of any entry its places among all layers.
-fn paragraphs_of(e: Entry) -> Span
-    ensures { λ r. ⌜ Spans 256 claimsParagraph e (r .from) (r .count) ⌝ }
-{
-    if shape::layer_of(e) != 0 {
-        return Span { from: 0, count: 0 };
-    }
-    reach_of(e)
-}
-
-fn page_of(e: Entry) -> Span
-    ensures { λ r. ⌜ Spans 256 claimsPage e (r .from) (r .count) ⌝ }
-{
-    let t = shape::layer_of(e);
-    if t == 0 {
-        return Span { from: 0, count: 0 };
-    }
-    if 16 < t {
-        return Span { from: 0, count: 0 };
-    }
-    let x = shape::first_of(e) as usize / 4096;
-    Span {
-        from: 16 * x + (t - 1),
-        count: 1,
-    }
-}
-
-fn places_of(e: Entry) -> Span
-    ensures { λ r. ⌜ Spans places claimsPlace e (r .from) (r .count) ⌝ }
-{
-    let t = shape::layer_of(e);
-    if 16 < t {
-        return Span { from: 0, count: 0 };
-    }
-    let s = reach_of(e);
-    Span {
-        from: 256 * t + s.from,
-        count: s.count,
-    }
-}
-
-// A free place takes the number that claims it.
-fn taken(owner: u8, number: u8) -> u8
-    ensures { λ r. ⌜ r ≡ takes number owner ⌝ }
-{
-    if owner == 0 { number } else { owner }
-}
-
-// A line's number, on those of k places from a on that are free.
-fn claim(owners: &mut [u8], a: usize, k: usize, number: u8)
-    requires { ⌜ a + k ≤ length (now owners) ⌝ }
-    ensures { λ _. ⌜ now (owners .exit) ≡ laid a k (λ i. takes number (getD (now (owners .entry)) (a + i) 0)) (now (owners .entry)) ⌝ }
-{
-    let mut j = 0;
-    while j < k {
-        let i = a + j;
-        owners[i] = taken(owners[i], number);
-        j += 1;
-    }
-}
-
-fn least_owner(m: u8, n: u8) -> u8
-    ensures { λ r. ⌜ r ≡ lesser m n ⌝ }
-{
-    if m == 0 {
-        return n;
-    }
-    if n == 0 {
-        return m;
-    }
-    if m < n { m } else { n }
-}
-
-// The least owner of k places from a on.
-fn least_of(owners: &[u8], a: usize, k: usize) -> u8
-    requires { ⌜ a + k ≤ length (now owners) ⌝ }
-    ensures { λ r. ⌜ r ≡ leastIn (now (owners .entry)) a k ⌝ }
-{
-    let mut r = 0;
-    let mut j = 0;
-    while j < k {
-        r = least_owner(owners[a + j], r);
-        j += 1;
-    }
-    r
 }
 
 // 27: the owners of the paragraphs and of the chapters' pages, each line against the earlier ones.
@@ -243,141 +131,11 @@ fn owners_of(n: usize, lines: [Line; 64]) -> [u8; 4352]
     owners
 }
 
-// Whether layer t of chapter x has an owner.
-fn is_used(owners: &[u8; 4352], x: usize, t: usize) -> bool
-    requires { ⌜ (x < 16) × (t < 17) ⌝ }
-    ensures { λ r. ⌜ r ≡ usedIn (now (owners .entry)) x t ⌝ }
-{
-    let mut r = false;
-    let mut k = 0;
-    while k < 16 {
-        r = either(owners[256 * t + (16 * x + k)] != 0, r);
-        k += 1;
-    }
-    r
-}
-
-// The slots in use, 17 to a chapter.
-fn used_of(owners: &[u8; 4352]) -> [bool; 272]
-    ensures { λ r. ⌜ r ≡ table 272 (λ s. usedIn (now (owners .entry)) (s / 17) (s % 17)) ⌝ }
-{
-    let mut used = [false; 272];
-    let mut s = 0;
-    while s < 272 {
-        used[s] = is_used(owners, s / 17, s % 17);
-        s += 1;
-    }
-    used
-}
-
-fn is_paged(used: &[bool; 272], x: usize) -> bool
-    requires { ⌜ x < 16 ⌝ }
-    ensures { λ r. ⌜ r ≡ pagedIn (now (used .entry)) x ⌝ }
-{
-    let mut r = false;
-    let mut y = 0;
-    while y < 16 {
-        r = either(used[17 * x + (y + 1)], r);
-        y += 1;
-    }
-    r
-}
-
-// The chapters with PAGE lines.
-fn paged_of(used: &[bool; 272]) -> [bool; 16]
-    ensures { λ r. ⌜ r ≡ table 16 (pagedIn (now (used .entry))) ⌝ }
-{
-    let mut paged = [false; 16];
-    let mut x = 0;
-    while x < 16 {
-        paged[x] = is_paged(used, x);
-        x += 1;
-    }
-    paged
-}
-
 // The place of the line of a number; any place where the number is 0.
 pub fn place_of(owner: u8) -> usize
     ensures { λ r. ⌜ r ≡ owner - 1 ⌝ }
 {
     if owner == 0 { 0 } else { owner as usize - 1 }
-}
-
-// Whether an owner is ROM; whether it is RAM.
-fn is_rom(owner: u8, l: Line) -> bool
-    ensures { λ r. ⌜ r ≡ isRom (cond (eqb owner 0) none (some l)) ⌝ }
-{
-    let e = l.entry;
-    if owner == 0 {
-        return false;
-    }
-    !shape::is_ram(e)
-}
-
-fn is_ram(owner: u8, l: Line) -> bool
-    ensures { λ r. ⌜ r ≡ isRamLine (cond (eqb owner 0) none (some l)) ⌝ }
-{
-    let e = l.entry;
-    if owner == 0 {
-        return false;
-    }
-    shape::is_ram(e)
-}
-
-// What covers the flippable range of a chapter.
-struct Cover {
-    whole: bool,
-    bare: bool,
-    ramless: bool,
-}
-
-fn cover_of(owners: &[u8; 4352], lines: [Line; 64], x: usize) -> Cover
-    requires { ⌜ (x < 16) × Few (now owners) ⌝ }
-    ensures { λ r. ⌜ r ≡ coverOf (now (owners .entry)) lines x ⌝ }
-{
-    let first = cart::first_k(x);
-    let mut whole = true;
-    let mut bare = true;
-    let mut ramless = true;
-    let mut k = 0;
-    while k < 16 {
-        let o = owners[16 * x + k];
-        let i = place_of(o);
-        let l = lines[i];
-        let rom = is_rom(o, l);
-        let ram = is_ram(o, l);
-        whole = both(either(k < first, rom), whole);
-        bare = both(either(k < first, !rom), bare);
-        ramless = both(either(k < first, !ram), ramless);
-        k += 1;
-    }
-    Cover {
-        whole,
-        bare,
-        ramless,
-    }
-}
-
-// The chapters whose flippable range is all plain ROM, and those that break rule 28.
-struct Chapters {
-    whole: [bool; 16],
-    broken: [bool; 16],
-}
-
-fn chapters_of(owners: &[u8; 4352], lines: [Line; 64], paged: &[bool; 16]) -> Chapters
-    requires { ⌜ Few (now owners) ⌝ }
-    ensures { λ r. ⌜ r ≡ chaptersOf (now (paged .entry)) (now (owners .entry)) lines ⌝ }
-{
-    let mut whole = [false; 16];
-    let mut broken = [false; 16];
-    let mut x = 0;
-    while x < 16 {
-        let c = cover_of(owners, lines, x);
-        whole[x] = c.whole;
-        broken[x] = both(paged[x], !both(either(c.whole, c.bare), c.ramless));
-        x += 1;
-    }
-    Chapters { whole, broken }
 }
 
 pub fn survey_of(count: u32, lines: [Line; 64]) -> Survey

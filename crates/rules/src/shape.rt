@@ -21,14 +21,14 @@ fn above(a: usize, b: usize) -> usize
 }
 
 // The last address that BIN words lo to hi take from an address on.
-pub fn reach(lo: BinWord, hi: BinWord, at: Console) -> usize
+pub(crate) fn reach(lo: BinWord, hi: BinWord, at: Console) -> usize
     ensures { λ r. ⌜ r ≡ at .0 + (hi .0 - lo .0) ⌝ }
 {
     at.0 as usize + above(lo.0 as usize, hi.0 as usize)
 }
 
 // The first and the last address that an entry names, and its layer.
-pub fn first_of(e: Entry) -> u16
+pub(crate) fn first_of(e: Entry) -> u16
     ensures { λ r. ⌜ r ≡ first e ⌝ }
 {
     match e {
@@ -38,7 +38,7 @@ pub fn first_of(e: Entry) -> u16
     }
 }
 
-pub fn last_of(e: Entry) -> usize
+pub(crate) fn last_of(e: Entry) -> usize
     ensures { λ r. ⌜ r ≡ last e ⌝ }
 {
     match e {
@@ -48,7 +48,7 @@ pub fn last_of(e: Entry) -> usize
     }
 }
 
-pub fn layer_of(e: Entry) -> usize
+pub(crate) fn layer_of(e: Entry) -> usize
     ensures { λ r. ⌜ (r ≡ layer e) × (r ≤ 256) ⌝ }
 {
     match e {
@@ -58,7 +58,7 @@ pub fn layer_of(e: Entry) -> usize
     }
 }
 
-pub fn is_ram(e: Entry) -> bool
+pub(crate) fn is_ram(e: Entry) -> bool
     ensures { λ r. ⌜ r ≡ isRam e ⌝ }
 {
     match e {
@@ -78,7 +78,7 @@ fn off_bin(words: u32, lo: BinWord, hi: BinWord, at: Console) -> bool
     )
 }
 
-pub fn out_of_range(words: u32, e: Entry) -> bool
+pub(crate) fn out_of_range(words: u32, e: Entry) -> bool
     ensures { λ r. ⌜ (r ≡ outOfRange words e) × Typed e ⌝ }
 {
     match e {
@@ -151,7 +151,7 @@ fn ram_misshapen(lo: Console, hi: Console) -> bool
     !plain_shape(lo.0 as usize, hi.0 as usize)
 }
 
-pub fn is_misshapen(e: Entry) -> bool
+pub(crate) fn is_misshapen(e: Entry) -> bool
     ensures { λ r. ⌜ r ≡ misshapen e ⌝ }
 {
     match e {

@@ -1,0 +1,44 @@
+-- `rules::chapters::is_used` meets its contract. The loop's invariant: r says whether one of the first k paragraphs has an owner.
+use Prim.Native.Nat.{_+_, _*_, _-_}
+use mathlib.Core.Bool.{not}
+use lib.ListN.{getD}
+use lib.Dec.{eqb}
+use Rattle.rules.specs.SurveyLaws.{usedIn}
+use Rattle.rules.proofs.Joined.{Somewhere, somewhere-none, somewhere-more, somewhere-all}
+use borrow.Author.Needs.{needs}
+use Rattle.rules.proofs.chapters.is_used.Statement.{statement}
+use Rattle.rules.proofs.chapters.is_used.Tie as tie
+
+abbrev Inv-loop : tie.InvT-loop
+Inv-loop owners x t r₀ k₀ r k = Somewhere 16 (λ i. not (eqb (getD owners (256 * t + (16 * x + i)) 0) 0)) k r
+
+abbrev μ-loop : tie.MeasureT-loop
+μ-loop owners x t r₀ k₀ r k = 16 - k
+
+loop-holds : tie.Need-loop-holds Inv-loop μ-loop
+loop-holds c = search (needs, somewhere-none)
+
+loop-again : tie.Need-loop-again Inv-loop μ-loop
+loop-again c = search (needs, somewhere-more)
+
+returns : tie.Need-returns Inv-loop μ-loop
+unfolding usedIn
+returns c = search (needs, somewhere-all)
+
+pub is-used-spec : {M : Type 1} → statement M
+is-used-spec =
+    tie.close
+    (tie.spec
+    Inv-loop
+    μ-loop
+    loop-holds
+    (λ c. search needs)
+    (λ c. search needs)
+    (λ c. search needs)
+    (λ c. search needs)
+    (λ c. search needs)
+    (λ c κs. search needs)
+    (λ c. search needs)
+    (λ c. search needs)
+    loop-again
+    returns)

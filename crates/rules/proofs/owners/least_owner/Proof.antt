@@ -1,0 +1,25 @@
+-- `rules::owners::least_owner` meets its contract.
+use Rattle.words.specs.Tests.{tests}
+use Rattle.rules.proofs.owners.least_owner.Statement.{statement}
+use Rattle.rules.proofs.owners.least_owner.Tie as tie
+
+returns : tie.Need-returns
+returns c = search tests
+
+returns-2 : tie.Need-returns-2
+returns-2 c = search tests
+
+returns-3 : tie.Need-returns-3
+returns-3 c = search tests
+
+returns-4 : tie.Need-returns-4
+returns-4 c = search tests
+
+pub least-owner-spec : {M : Type 1} → statement M
+least-owner-spec =
+    tie.close
+    (tie.spec
+    returns
+    returns-2
+    returns-3
+    returns-4)
