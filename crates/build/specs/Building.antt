@@ -1,19 +1,20 @@
 -- What building answers and what it leaves in the lent buffer (01, How an image is laid out by the builder; Numbers that come back).
 use Prim.Native.Nat.{ℕ, _%_}
-use mathlib.Core.List.{List, [], _∷_, _++_, map}
-use mathlib.Core.Bool.{Bool, cond, _||_}
-use lib.ListN.{length, drop, replicate}
-use lib.Dec.{ltb, eqb}
-use Rattle.words.specs.Bytes.{le32}
-use Rattle.words.specs.Rows.{Row, firstOf}
+use mathlib.Core.List.{List, _∷_, _++_, map, []}
+use mathlib.Core.Bool.{Bool, _||_, cond}
+use lib.ListN.{replicate, length, drop}
+use lib.Dec.{eqb, ltb}
+use Rattle.basics.specs.Bytes.{le32}
+use Rattle.basics.specs.Rows.{Row, firstOf}
+use Rattle.places.specs.Limits.{paragraphs, binLimit}
 use Rattle.sums.specs.Crc.{crc32Of}
+use Rattle.image.specs.Form.{Tables, Hunk, imageOf}
+use Rattle.image.specs.Chosen.{chosen}
 use Rattle.lines.specs.declared.Line.{Line}
 use Rattle.lines.specs.Bin.{binWords}
-use Rattle.image.specs.Form.{Tables, Hunk, imageOf}
-use Rattle.image.specs.Chosen.{chosen, paragraphs}
 use Rattle.cfg.specs.declared.Reading.{Reading}
-use Rattle.cfg.specs.File as File
-use Rattle.rules.specs.Rules.{Verdict, passed, ruleRows}
+use Rattle.cfg.specs.File.{entriesOf, rows}
+use Rattle.rules.specs.Rules.{Verdict, ruleRows, passed}
 use Rattle.rules.specs.Judged.{sharer}
 use Rattle.layout.specs.Layout.{mappingTable, permissionsTable, flipTable, covered, paragraphWords, needed}
 use Rattle.build.specs.declared.Building.{Building}
@@ -34,11 +35,7 @@ hunksFor bin lines = chosen paragraphs (covered lines) (paragraphWords bin lines
 
 -- the image
 unfoldable pub imageFor : List ℕ → List ℕ → List ℕ
-imageFor bin cfg = imageOf flagBytes (uidOf bin cfg) (tablesFor (File.entriesOf cfg)) (hunksFor bin (File.entriesOf cfg))
-
--- 21: the BIN is empty, odd, or over 524,288 bytes
-abbrev pub binLimit : ℕ
-binLimit = 524288
+imageFor bin cfg = imageOf flagBytes (uidOf bin cfg) (tablesFor (entriesOf cfg)) (hunksFor bin (entriesOf cfg))
 
 unfoldable pub wrongBin : List ℕ → Bool
 wrongBin bin = eqb (length bin) 0 || (eqb (length bin % 2) 1 || ltb binLimit (length bin))
@@ -54,7 +51,7 @@ readRow r = (r .0, (r .1 .number, r .1 .place))
 abbrev pub rowsOf : List ℕ → List ℕ → List ℕ → List (Row Verdict)
 rowsOf bin cfg out =
     (wrongBin bin, (21, 0))
-    ∷ (map readRow (File.rows cfg) ++ (ruleRows (binWords bin) (File.entriesOf cfg) ++ ((tooShort bin cfg out, (29, 0)) ∷ [])))
+    ∷ (map readRow (rows cfg) ++ (ruleRows (binWords bin) (entriesOf cfg) ++ ((tooShort bin cfg out, (29, 0)) ∷ [])))
 
 -- the refusal: that of the first row that holds
 unfoldable pub verdictOf : List ℕ → List ℕ → List ℕ → Verdict
@@ -66,7 +63,7 @@ refused bin cfg v =
     record {
       number = v .0;
       place = v .1;
-      with = cond (eqb (v .0) 27) (sharer [] (File.entriesOf cfg)) 0;
+      with = cond (eqb (v .0) 27) (sharer [] (entriesOf cfg)) 0;
       length = cond (eqb (v .0) 29) (length (imageFor bin cfg)) 0;
       needed = 0;
     }
@@ -78,7 +75,7 @@ built bin cfg =
       place = 0;
       with = 0;
       length = length (imageFor bin cfg);
-      needed = needed (File.entriesOf cfg);
+      needed = needed (entriesOf cfg);
     }
 
 abbrev pub builds : List ℕ → List ℕ → List ℕ → Bool

@@ -1,6 +1,3 @@
 pub mod Building
-pub mod Answers
-pub mod BuildLaws
-pub mod ImageLaws
-pub mod PressLaws
-pub mod AnswerLaws
+pub mod Code
+pub mod Laws

@@ -1,16 +1,16 @@
 // The builder: an image from a publisher's BIN and CFG (01, "How an image is laid out by the builder").
-ghost use mathlib.Core.Path.{_≡_};
 ghost use Prim.Native.Nat.{_*_, _≤_, _<_};
+ghost use mathlib.Core.Path.{_≡_};
 ghost use lib.ListN.{length, take};
 ghost use Rattle.cfg.specs.File.{entriesOf};
 ghost use Rattle.rules.specs.Accepted.{Accepted};
 ghost use Rattle.build.specs.Building.{flagBytes, uidOf, wrongBin, buildingOf, builtOf};
-ghost use Rattle.build.specs.Answers.{answeredOf, Pressed};
+ghost use Rattle.build.specs.Code.Answers.{answeredOf, Pressed};
+use basics::either;
+use basics::high;
+use basics::low;
 use lines::Line;
 use save::Writing;
-use words::either;
-use words::high;
-use words::low;
 
 // The most bytes that a BIN may have.
 const BIN_LIMIT: usize = 524288;

@@ -1,20 +1,21 @@
 -- The machine: what a read gets, and what a write and a reset leave (01, The machine).
-use Prim.Native.Nat.{ℕ, _+_, _*_, _/_, _%_, _-_, min}
+use Prim.Native.Nat.{ℕ, _%_, _/_, _*_, _+_, _-_}
+use mathlib.Core.Bool.{Bool, _||_, cond, _&&_, not}
 use mathlib.Core.List.{List}
-use mathlib.Core.Bool.{Bool, cond, not, _&&_, _||_}
-use lib.ListN.{length, getD, set}
-use lib.Dec.{ltb, leb, eqb}
-use Rattle.words.specs.Lists.{laid}
+use lib.Dec.{eqb, ltb, leb}
+use lib.ListN.{getD, set}
+use Rattle.basics.specs.Lists.{laid}
 use Rattle.places.specs.declared.Console.{Console}
 use Rattle.places.specs.declared.Locutus.{Locutus}
-use Rattle.cart.specs.declared.Cartridge.{Cartridge}
+use Rattle.places.specs.Limits.{lent}
+use Rattle.cart.specs.declared.Rights.{Rights}
 use Rattle.cart.specs.declared.Answer.{Answer}
 use Rattle.cart.specs.declared.Answer.the-variants.{Word, Silence}
+use Rattle.cart.specs.declared.Cartridge.{Cartridge}
 use Rattle.cart.specs.declared.Request.{Request}
 use Rattle.cart.specs.declared.Request.the-variants.{Entry, Nothing}
 use Rattle.cart.specs.declared.Taker.{Taker}
 use Rattle.cart.specs.declared.Taker.the-variants.{Flip, Ram}
-use Rattle.cart.specs.declared.Rights.{Rights}
 
 -- the bits of a permission byte, and the bit of a flip entry that makes it act (001, Permissions Table, Page Flipping Table)
 abbrev pub READ : ℕ → Bool
@@ -38,13 +39,6 @@ paragraph at = at .0 / 256
 
 abbrev pub locate : ℕ → Console → Locutus
 locate entry at = record { 0 = (entry * 256 + at .0 % 256) % 524288 }
-
--- of a lent RAM the first 524,288 words at most count
-abbrev pub lentLimit : ℕ
-lentLimit = 524288
-
-abbrev pub lent : List ℕ → ℕ
-lent ram = min (length ram) lentLimit
 
 abbrev pub lies : Locutus → List ℕ → Bool
 lies l ram = ltb (l .0) (lent ram)

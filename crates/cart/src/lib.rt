@@ -1,6 +1,6 @@
 // The cartridge that answers the console: reads, writes and resets over lent RAM (01, "The machine").
-ghost use mathlib.Core.Path.{_≡_};
 ghost use Prim.Native.Nat.{_/_, _≤_};
+ghost use mathlib.Core.Path.{_≡_};
 ghost use Rattle.cart.specs.Machine.{locate, silent, rightsOf, fetched, readBy, readOf, asks, takerOf, firstK, flipMapping, flipPermissions, turned, flipped, stored, storedBy, writeOf, writeRamOf, resetOf, actingBy};
 use places::Console;
 use places::Locutus;

@@ -1,18 +1,17 @@
 -- The bench cases marked (P), of the definitions that the promises use, as one table under one statement (01, Bench cases).
 use Prim.Native.Nat.{ℕ, suc}
-use mathlib.Core.Path.{_≡_, refl}
+use mathlib.Core.Path.{_≡_}
 use mathlib.Core.Bool.{true}
-use Rattle.sums.specs.Cases.{upTo15, four}
-use Rattle.sums.specs.Crc.{crcBit, crcBits, crcByte, crcFrom, dowcrcOf, crc32Of}
 use Rattle.places.specs.declared.Console.{Console}
+use Rattle.places.specs.Limits.{lineLimit}
+use Rattle.sums.specs.Crc.{dowcrcOf, crc32Of}
+use Rattle.sums.specs.Cases.{upTo15, four}
 use Rattle.cart.specs.declared.Request.the-variants.{Entry, Nothing}
 use Rattle.cart.specs.Machine.{flipMapping, flipPermissions, locate, storedWord, asks}
-use Rattle.lines.specs.Limits.{lineLimit}
-use Rattle.grammar.specs.Words.{text, cut}
-use Rattle.grammar.specs.Grammar.{wordsSay, mappingLine, headingLine, romLine, pagedLine, romOf, pagedOf, _>>=_, dollar, page, hexFrom, same}
-use Rattle.cfg.specs.File.{linesOf, saysFrom, entriesFrom, entriesOf, refusal, readingOf}
-use Rattle.cfg.specs.Examples.{entries, case8}
-use Rattle.plays.specs.Bench.{six, Six, case-6, seven, Seven, case-7}
+use Rattle.grammar.specs.Words.{text}
+use Rattle.cfg.specs.File.{entriesOf, readingOf, refusal}
+use Rattle.cfg.specs.Examples.{entries}
+use Rattle.plays.specs.Bench.{six, Six, seven, Seven}
 
 abbrev pub at : ℕ → Console
 at a = record { 0 = a }
@@ -43,26 +42,3 @@ pub record Bench : Type 0 where
   -- 8. 64 entries pass rule 24, 65 don't
   pub entries-64 : readingOf (entries lineLimit) .number ≡ 0
   pub entries-65 : readingOf (entries (suc lineLimit)) ≡ refusal 24 (suc (suc lineLimit))
-
-pub bench : Bench
-unfolding crcFrom crcByte crcBits crcBit asks linesOf saysFrom entriesFrom wordsSay mappingLine headingLine romLine pagedLine romOf pagedOf _>>=_ dollar page hexFrom same cut
-bench =
-    record {
-      dowcrc-16 = refl;
-      dowcrc-4 = refl;
-      crc32-16 = refl;
-      crc32-4 = refl;
-      flip-mapping = refl;
-      flip-permissions = refl;
-      flip-location = refl;
-      narrow = refl;
-      asks-83 = refl;
-      asks-elsewhere = refl;
-      asks-beside = refl;
-      rom-file = refl;
-      rom = case-6;
-      page-file = refl;
-      page-2 = case-7;
-      entries-64 = case8 .0;
-      entries-65 = case8 .2;
-    }

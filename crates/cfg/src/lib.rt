@@ -1,10 +1,11 @@
 // A CFG is read: its entries, or refusal 22, 23 or 24 with its line (01, "What a CFG may say").
+ghost use Prim.Native.Nat.{_+_, _≤_, _<_};
 ghost use mathlib.Core.Path.{_≡_};
 ghost use mathlib.Core.List.{[]};
-ghost use Prim.Native.Nat.{_+_, _≤_, _<_};
 ghost use lib.ListN.{length, drop, getD, set};
-ghost use Rattle.cfg.specs.File.{cfgLimit, allowed, foreignLine, saysOf, shown, refusal, readingOf};
-ghost use Rattle.cfg.specs.Steps.{lineEnd, scanOf, inSection, withEntry, withOutside, noted, judged};
+ghost use Rattle.places.specs.Limits.{cfgLimit};
+ghost use Rattle.cfg.specs.File.{allowed, foreignLine, saysOf, shown, refusal, readingOf};
+ghost use Rattle.cfg.specs.Code.Steps.{lineEnd, scanOf, inSection, withEntry, withOutside, noted, judged};
 use grammar::Says;
 use grammar::Section;
 use lines::Entry;
@@ -239,7 +240,7 @@ fn allowed_at(cfg: &[u8], i: usize) -> bool
         return true;
     }
     if b == b'\r' {
-        return words::byte_at(cfg, i + 1) == b'\n';
+        return basics::byte_at(cfg, i + 1) == b'\n';
     }
     if b < 0x20 {
         return false;

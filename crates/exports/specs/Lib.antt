@@ -1,4 +1,4 @@
 pub mod Loads
 pub mod Builds
 pub mod Runs
-pub mod RunsLaws
+pub mod Laws

@@ -1,6 +1,6 @@
 -- What a load answers, as C lays it out (01, Numbers that come back).
 use Prim.Native.Nat.{ℕ}
-use mathlib.Core.List.{List, [], _∷_}
+use mathlib.Core.List.{List, _∷_, []}
 use Rattle.tables.specs.declared.Compat.{Compat}
 use Rattle.load.specs.declared.Loading.{Loading}
 use Rattle.exports.specs.declared.Loaded.{Loaded}

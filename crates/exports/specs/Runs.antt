@@ -1,8 +1,8 @@
 -- Runs of bus accesses whose addresses and values stand in lists (01, The machine).
-use Prim.Native.Nat.{ℕ, zero, suc, min}
-use mathlib.Core.List.{List, [], _∷_, _++_}
-use lib.ListN.{length, getD}
-use Rattle.words.specs.Lists.{laid}
+use Prim.Native.Nat.{ℕ, min, zero, suc}
+use mathlib.Core.List.{List, [], _++_, _∷_}
+use lib.ListN.{getD, length}
+use Rattle.basics.specs.Lists.{laid}
 use Rattle.places.specs.declared.Console.{Console}
 use Rattle.cart.specs.declared.Cartridge.{Cartridge}
 use Rattle.cart.specs.declared.Answer.{Answer}

@@ -1,7 +1,8 @@
 // The proved crates as a C program calls them: a slice is a pointer and a length, a struct is laid out as C's.
 ghost use mathlib.Core.Path.{_≡_};
+ghost use Rattle.places.specs.Limits.{lent};
 ghost use Rattle.sums.specs.Crc.{dowcrcOf, crc324Of, crc32Of};
-ghost use Rattle.cart.specs.Machine.{lent, actingBy};
+ghost use Rattle.cart.specs.Machine.{actingBy};
 ghost use Rattle.load.specs.Load.{loadingOf, loadRamOf};
 ghost use Rattle.build.specs.Building.{buildingOf, builtOf};
 ghost use Rattle.exports.specs.Loads.{fieldsOf, loadedOf};
@@ -177,7 +178,7 @@ pub extern "C" fn luigi_reads<'a>(
 )
     ensures { λ _. ⌜ now (out .exit) ≡ answersIn (now (mapping .entry)) (now (permissions .entry)) (now (ram .entry)) (now (at .entry)) (now (out .entry)) ⌝ }
 {
-    for i in 0..words::least(at.len(), out.len()) {
+    for i in 0..basics::least(at.len(), out.len()) {
         out[i] = heard_as(cart::read_by(mapping, permissions, ram, Console(at[i])));
     }
 }
@@ -195,7 +196,7 @@ pub extern "C" fn luigi_reads_by_value<'a>(
     ensures { λ _. ⌜ now (out .exit) ≡ answersIn (now (mapping .entry)) (now (permissions .entry)) (now (ram .entry)) (now (at .entry)) (now (out .entry)) ⌝ }
 {
     let c = fresh(mapping, permissions, flips);
-    for i in 0..words::least(at.len(), out.len()) {
+    for i in 0..basics::least(at.len(), out.len()) {
         out[i] = heard_as(cart::read(c, ram, Console(at[i])));
     }
 }
@@ -214,7 +215,7 @@ pub extern "C" fn luigi_writes(
         × (now (permissions .exit) ≡ activeAfter (actingBy (now (mapping .entry)) (now (permissions .entry)) (now (flips .entry))) (now (ram .entry)) (now (at .entry)) (now (value .entry)) .permissions)
         × (now (ram .exit) ≡ ramAfter (actingBy (now (mapping .entry)) (now (permissions .entry)) (now (flips .entry))) (now (ram .entry)) (now (at .entry)) (now (value .entry))) ⌝ }
 {
-    for i in 0..words::least(at.len(), value.len()) {
+    for i in 0..basics::least(at.len(), value.len()) {
         cart::write_by(mapping, permissions, flips, ram, Console(at[i]), value[i]);
     }
 }
@@ -232,7 +233,7 @@ pub extern "C" fn luigi_writes_by_value<'a>(
     ensures { λ r. ⌜ (r ≡ activeAfter (actingBy (now (mapping .entry)) (now (permissions .entry)) (now (flips .entry))) (now (ram .entry)) (now (at .entry)) (now (value .entry))) × (now (ram .exit) ≡ ramAfter (actingBy (now (mapping .entry)) (now (permissions .entry)) (now (flips .entry))) (now (ram .entry)) (now (at .entry)) (now (value .entry))) ⌝ }
 {
     let mut c = fresh(mapping, permissions, flips);
-    for i in 0..words::least(at.len(), value.len()) {
+    for i in 0..basics::least(at.len(), value.len()) {
         c = cart::write(c, ram, Console(at[i]), value[i]);
     }
     active_of(c)

@@ -1,21 +1,22 @@
 -- What one byte does to the words of what is left of a line.
-use Prim.Native.Nat.{ℕ, suc, _+_, _-_, _≤_, _<_}
-use mathlib.Core.Path.{_≡_, refl, sym, ap, _∙_}
+use Prim.Native.Nat.{ℕ, _<_, _+_, suc, _≤_, _-_}
 use mathlib.Core.List.{List, [], _∷_, append-nil}
+use mathlib.Core.Path.{_≡_, ap, _∙_, sym, refl}
 use mathlib.Core.Logic.{_⊎_, ⊎-elim}
 use native.Mathlib.Numerals.{add-one}
 use native.Mathlib.Omega.{arith}
-use denote.Enum.Declared.{tagOf}
-use lib.ListN.{length, drop, getD}
+use lib.ListN.{length, getD, drop}
 use lib.Seq.{drop-cons, drop-length, append-snoc}
-use Rattle.words.specs.Lists.{part}
+use denote.Enum.Declared.{tagOf}
+use Rattle.basics.specs.Lists.{part}
 use Rattle.grammar.specs.declared.Kind.{Kind}
-use Rattle.grammar.specs.declared.Kind.the-variants.{Blank, Sign, Comment, Letter}
+use Rattle.grammar.specs.declared.Kind.the-variants.{Blank, Letter, Sign, Comment}
 use Rattle.grammar.specs.declared.Word.{Word}
-use Rattle.grammar.specs.Words.{kindOf, Cut, cut, before, all, push, nothing, wordsOf, wordAt}
-use Rattle.grammar.specs.Steps.{glue, Skipped, Ended, NextWord}
-use Rattle.grammar.proofs.Kind.{the-type}
+use Rattle.grammar.specs.Words.{kindOf, cut, before, nothing, wordsOf, wordsAfter, Cut, push}
+use Rattle.grammar.specs.Code.Steps.{glue, Skipped, NextWord, Ended}
 use Rattle.grammar.proofs.Lists.{part-none, part-more, part-one}
+use Rattle.grammar.proofs.Kind.{the-type}
+use Rattle.grammar.specs.Code.Words.{wordAt}
 
 -- what is left, by the kind of its first byte
 pub cut-at : (s : List ℕ) (i : ℕ) (k : Kind) → i < length s → kindOf (getD s i 0) ≡ k → cut (drop i s) ≡ before k (getD s i 0) (cut (drop (i + 1) s))
@@ -28,7 +29,7 @@ cut-end s i h l = let e : i ≡ length s = omega arith in rw (e, drop-length)
 
 pub skip-blank : (s : List ℕ) (i : ℕ) (x : List (List ℕ)) (k : Kind) → x ≡ wordsOf (drop i s) → i < length s → k ≡ kindOf (getD s i 0) → k ≡ Blank
     → x ≡ wordsOf (drop (i + 1) s)
-skip-blank s i x k so l p q = so ∙ ap all (cut-at s i Blank l (sym p ∙ q))
+skip-blank s i x k so l p q = so ∙ ap wordsAfter (cut-at s i Blank l (sym p ∙ q))
 
 -- letters gathered one by one
 pub glue-none : (s : List ℕ) (a : ℕ) → cut (drop a s) ≡ glue (part s a a) (cut (drop a s))
@@ -53,8 +54,8 @@ no-letter s i l h =
     ∙ no-front (kindOf (getD s i 0)) (getD s i 0) (cut (drop (i + 1) s)) h
 
 -- letters that a word's end shuts are its first word
-word-shut : (b : ℕ) (w v : List ℕ) (c d : Cut) → c ≡ glue w d → d .front ≡ [] → w ≡ b ∷ v → all c ≡ w ∷ all d
-word-shut b w v c d e f g = ap all e ∙ rw (f, append-nil w, g)
+word-shut : (b : ℕ) (w v : List ℕ) (c d : Cut) → c ≡ glue w d → d .front ≡ [] → w ≡ b ∷ v → wordsAfter c ≡ w ∷ wordsAfter d
+word-shut b w v c d e f g = ap wordsAfter e ∙ rw (f, append-nil w, g)
 
 abbrev tag : Kind → ℕ
 tag k = tagOf the-type k
@@ -89,7 +90,7 @@ module _ (s : List ℕ) (at i : ℕ) (k : Skipped s at i) where
   pub next-sign : (b : Kind) → i < length s → b ≡ kindOf (getD s i 0) → b ≡ Sign → NextWord s at (record { start = i; end = i + 1 })
   next-sign b l p q =
       next-some (i + 1) (omega arith) (omega arith)
-      (ap all (cut-at s i Sign l (sym p ∙ q)) ∙ ap (λ (w : List ℕ). w ∷ wordsOf (drop (i + 1) s)) (sym (part-one s i l)))
+      (ap wordsAfter (cut-at s i Sign l (sym p ∙ q)) ∙ ap (λ (w : List ℕ). w ∷ wordsOf (drop (i + 1) s)) (sym (part-one s i l)))
 
   pub next-letters : (b : Kind) (r : ℕ) → i < length s → b ≡ kindOf (getD s i 0) → b ≡ Letter → Ended s i r → NextWord s at (record { start = i; end = r })
   next-letters b r l p q d =
@@ -100,10 +101,10 @@ module _ (s : List ℕ) (at i : ℕ) (k : Skipped s at i) where
 
   -- the last arm is a comment's: where the blanks end is no blank
   pub next-comment : (b : Kind) → i < length s → b ≡ kindOf (getD s i 0) → (tag b ≡ 0) ⊎ (tag b ≡ 2) → NextWord s at (record { start = i; end = i })
-  next-comment b l p o = next-none (ap all (cut-at s i Comment l (sym p ∙ comment b (λ e. k .stop l (sym p ∙ e)) o)))
+  next-comment b l p o = next-none (ap wordsAfter (cut-at s i Comment l (sym p ∙ comment b (λ e. k .stop l (sym p ∙ e)) o)))
 
   pub next-end : length s ≤ i → NextWord s at (record { start = i; end = i })
-  next-end l = next-none (ap all (cut-end s i l (k .within)))
+  next-end l = next-none (ap wordsAfter (cut-end s i l (k .within)))
 
 -- word k is found by passing k words
 module _ (s : List ℕ) (at n : ℕ) (r : Word) (x : List ℕ) (so : x ≡ wordAt (drop at s) n) (w : NextWord s at r) where

@@ -1,19 +1,19 @@
 -- Numbers read digit by digit, and words compared byte by byte: one law for each way out of the code's loops and tests.
-use Prim.Native.Nat.{ℕ, suc, _+_, _*_, _-_, _^_, _≤_, _<_}
-use mathlib.Core.Path.{_≡_, refl, sym, ap, _∙_}
+use Prim.Native.Nat.{ℕ, _≤_, _<_, _-_, _+_, _^_, _*_, suc}
+use mathlib.Core.Bool.{_&&_, true, false, Bool, cond}
+use mathlib.Core.Path.{_≡_, sym, _∙_, refl, ap}
 use mathlib.Core.Logic.{_⊎_, inl, inr, ⊎-elim}
-use mathlib.Core.Bool.{Bool, true, false, cond, _&&_}
 use mathlib.Core.List.{List, [], _∷_}
-use native.Mathlib.Numerals.{add-one}
-use native.Mathlib.Nat.{eq-or-lt-of-le, pow-suc, pow-le-pow-right}
 use native.Mathlib.Omega.{arith}
-use lib.Dec.{leb, eqb, lit<}
-use lib.ListN.{length, drop, getD, length-drop}
+use native.Mathlib.Nat.{pow-suc, pow-le-pow-right, eq-or-lt-of-le}
+use native.Mathlib.Numerals.{add-one}
+use lib.Dec.{leb, lit<, eqb}
+use lib.ListN.{drop, length, getD, length-drop}
 use lib.Seq.{drop-cons, drop-length}
 use borrow.Author.Tests.{le-leb, lt-leb, eq-eqb, ne-eqb}
-use Rattle.words.specs.Tests.{and-true, and-false}
+use Rattle.basics.specs.Laws.Tests.{and-true, and-false}
 use Rattle.grammar.specs.declared.Number.{Number}
-use Rattle.grammar.specs.declared.Number.the-variants.{Is, Not}
+use Rattle.grammar.specs.declared.Number.the-variants.{Not, Is}
 use Rattle.grammar.specs.Grammar.{digitOf, hexFrom, dollar, same}
 
 inside : (lo hi b : ℕ) → lo ≤ b → b ≤ hi → (leb lo b && leb b hi) ≡ true

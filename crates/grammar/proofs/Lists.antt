@@ -1,11 +1,11 @@
 -- Parts of a list that grow by an element at their end.
-use Prim.Native.Nat.{ℕ, suc, _+_, _-_, _≤_, _<_}
+use Prim.Native.Nat.{ℕ, _-_, _≤_, _<_, _+_, suc}
+use mathlib.Core.List.{List, [], _++_, _∷_}
 use mathlib.Core.Path.{_≡_, _∙_}
-use mathlib.Core.List.{List, [], _∷_, _++_}
 use native.Mathlib.Omega.{arith}
-use lib.ListN.{length, drop, getD, length-drop}
+use lib.ListN.{length, getD, drop, length-drop}
 use lib.Seq.{take-suc, getD-drop}
-use Rattle.words.specs.Lists.{part}
+use Rattle.basics.specs.Lists.{part}
 
 pub part-none : (s : List ℕ) (a : ℕ) → part s a a ≡ []
 part-none s a = let e : a - a ≡ 0 = omega arith in rw e

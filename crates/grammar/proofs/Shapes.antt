@@ -1,39 +1,20 @@
 -- How many words an entry has, told by a word that is not there.
 use Prim.Native.Nat.{ℕ}
-use mathlib.Core.Path.{_≡_, refl, _∙_}
 use mathlib.Core.Bool.{Bool, true, false}
+use mathlib.Core.Path.{_≡_, refl, _∙_}
 use mathlib.Core.List.{List, [], _∷_}
 use native.Mathlib.Omega.{arith}
-use lib.ListN.{length, getD}
+use lib.ListN.{getD, length}
+use Rattle.grammar.specs.declared.Number.the-variants.{Not, Is}
 use Rattle.grammar.specs.declared.Number.{Number}
-use Rattle.grammar.specs.declared.Number.the-variants.{Is, Not}
+use Rattle.grammar.specs.declared.Says.{Says}
+use Rattle.grammar.specs.declared.Says.the-variants.{Outside, Blank}
 use Rattle.grammar.specs.declared.Section.{Section}
 use Rattle.grammar.specs.declared.Section.the-variants.{Nowhere, Mapping, Memattr}
-use Rattle.grammar.specs.declared.Says.{Says}
-use Rattle.grammar.specs.declared.Says.the-variants.{Blank, Outside}
-use Rattle.grammar.specs.Words.{wordsOf, wordAt}
-use Rattle.grammar.specs.Grammar.{
-  dollar,
-  page,
-  bits,
-  same,
-  is,
-  after,
-  romOf,
-  pagedOf,
-  ramOf,
-  romLine,
-  pagedLine,
-  ramLine,
-  mappingLine,
-  memattrLine,
-  headingLine,
-  entryLine,
-  wordsSay,
-  lineSays,
-  _>>=_,
-}
-use Rattle.grammar.proofs.Cuts.{Solid, none, more, solid}
+use Rattle.grammar.specs.Grammar.{after, _>>=_, romOf, pagedOf, ramOf, romLine, dollar, pagedLine, page, is, ramLine, bits, same, mappingLine, memattrLine, wordsSay, headingLine, entryLine, lineSays}
+use Rattle.grammar.proofs.Cuts.{Solid, more, solid, none}
+use Rattle.grammar.specs.Code.Words.{wordAt}
+use Rattle.grammar.specs.Words.{wordsOf}
 
 after-not : (b : Bool) → after b Not ≡ Not
 after-not true = refl

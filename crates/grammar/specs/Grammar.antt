@@ -1,21 +1,21 @@
 -- What a line says, by its words and the section that it stands in (01, What a CFG may say).
-use Prim.Native.Nat.{ℕ, _+_, _*_, _-_}
+use Prim.Native.Nat.{ℕ, _-_, _+_, _*_}
 use Prim.Native.Char.{code}
 use Prim.Native.String.{String}
+use mathlib.Core.Bool.{cond, _&&_, Bool, true, false}
 use mathlib.Core.List.{List, [], _∷_}
-use mathlib.Core.Bool.{Bool, true, false, _&&_, cond}
+use lib.Dec.{leb, eqb}
 use lib.ListN.{length}
-use lib.Dec.{eqb, leb}
-use Rattle.lines.specs.declared.Entry.{Entry}
-use Rattle.lines.specs.declared.Entry.the-variants.{Rom, Paged, Ram}
 use Rattle.lines.specs.declared.Width.{Width}
 use Rattle.lines.specs.declared.Width.the-variants.{Sixteen, Eight}
+use Rattle.lines.specs.declared.Entry.{Entry}
+use Rattle.lines.specs.declared.Entry.the-variants.{Rom, Paged, Ram}
 use Rattle.grammar.specs.declared.Number.{Number}
 use Rattle.grammar.specs.declared.Number.the-variants.{Is, Not}
-use Rattle.grammar.specs.declared.Section.{Section}
-use Rattle.grammar.specs.declared.Section.the-variants.{Nowhere, Mapping, Memattr}
 use Rattle.grammar.specs.declared.Says.{Says}
-use Rattle.grammar.specs.declared.Says.the-variants.{Blank, Heading, Claims, Outside}
+use Rattle.grammar.specs.declared.Says.the-variants.{Outside, Claims, Heading, Blank}
+use Rattle.grammar.specs.declared.Section.the-variants.{Mapping, Memattr, Nowhere}
+use Rattle.grammar.specs.declared.Section.{Section}
 use Rattle.grammar.specs.Words.{text, wordsOf}
 
 -- a hex digit's value, in either case; 16 for any other byte

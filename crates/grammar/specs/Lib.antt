@@ -1,5 +1,4 @@
 pub mod Words
 pub mod Grammar
-pub mod Examples
-pub mod Steps
-pub mod GrammarLaws
+pub mod Code
+pub mod Laws

@@ -1,12 +1,11 @@
 -- The words of a line (01, What a CFG may say): blanks part words, `-` and `=` are words by themselves, and `;` ends the line.
 -- So `$5000PAGE` is one word, which no entry has: that is 01's rule on the blanks around PAGE.
+use Prim.Native.String.{String, [] as no-more, _∷_ as _then_}
 use Prim.Native.Nat.{ℕ}
 use Prim.Native.Char.{code}
-use Prim.Native.String.{String, [] as no-more, _∷_ as _then_}
 use mathlib.Core.List.{List, [], _∷_}
-use mathlib.Core.Bool.{_||_, cond}
+use mathlib.Core.Bool.{cond, _||_}
 use lib.Dec.{eqb}
-use lib.ListN.{getD}
 use Rattle.grammar.specs.declared.Kind.{Kind}
 use Rattle.grammar.specs.declared.Kind.the-variants.{Blank, Sign, Comment, Letter}
 
@@ -43,13 +42,13 @@ abbrev pub push : List ℕ → List (List ℕ) → List (List ℕ)
 push [] ws = ws
 push (b ∷ w) ws = (b ∷ w) ∷ ws
 
-abbrev pub all : Cut → List (List ℕ)
-all c = push (c .front) (c .rest)
+abbrev pub wordsAfter : Cut → List (List ℕ)
+wordsAfter c = push (c .front) (c .rest)
 
 -- one byte before what is cut
 abbrev pub before : Kind → ℕ → Cut → Cut
-before Blank b c = record { front = []; rest = all c }
-before Sign b c = record { front = []; rest = (b ∷ []) ∷ all c }
+before Blank b c = record { front = []; rest = wordsAfter c }
+before Sign b c = record { front = []; rest = (b ∷ []) ∷ wordsAfter c }
 before Comment b c = nothing
 before Letter b c = record { front = b ∷ c .front; rest = c .rest }
 
@@ -59,8 +58,4 @@ cut (b ∷ s) = before (kindOf b) b (cut s)
 
 -- the words of a line
 abbrev pub wordsOf : List ℕ → List (List ℕ)
-wordsOf line = all (cut line)
-
--- word k, counted from 0; no bytes where there are fewer words
-abbrev pub wordAt : List ℕ → ℕ → List ℕ
-wordAt line k = getD (wordsOf line) k []
+wordsOf line = wordsAfter (cut line)

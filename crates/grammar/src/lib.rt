@@ -1,10 +1,11 @@
 // One line of a CFG: its words, and what they say (01, "What a CFG may say").
-ghost use mathlib.Core.Path.{_≡_};
 ghost use Prim.Native.Nat.{_+_, _≤_, _<_};
+ghost use mathlib.Core.Path.{_≡_};
 ghost use lib.ListN.{length, drop};
-ghost use Rattle.grammar.specs.Words.{kindOf, wordAt, wordsOf};
+ghost use Rattle.grammar.specs.Words.{kindOf, wordsOf};
+ghost use Rattle.grammar.specs.Code.Words.{wordAt};
 ghost use Rattle.grammar.specs.Grammar.{digitOf, hexFrom, dollar, page, same, bits, after, widthOf, romOf, pagedOf, ramOf, romLine, pagedLine, ramLine, mappingLine, memattrLine, headingLine, lineSays};
-ghost use Rattle.grammar.specs.Steps.{Skipped, Ended, NextWord, Below};
+ghost use Rattle.grammar.specs.Code.Steps.{Skipped, Ended, NextWord, Below};
 use lines::Entry;
 use lines::Width;
 use places::BinWord;

@@ -1,18 +1,20 @@
 -- Laws of one data block, each with its premises as the code's tests and calls give them.
-use Prim.Native.Nat.{ℕ, _+_, _-_, _*_, _/_, _%_, _^_, _<_, _≤_}
-use mathlib.Core.Path.{_≡_, refl, sym, ap, _∙_}
+use Prim.Native.Nat.{ℕ, _+_, _*_, _<_, _≤_, _/_, _-_, _%_, _^_}
 use mathlib.Core.List.{List}
+use mathlib.Core.Path.{_≡_, sym, _∙_, ap, refl}
 use native.Mathlib.Omega.{arith}
 use native.Mathlib.Nat.{div-one}
-use borrow.Author.Tests.{lt-ltb, le-ltb, le-leb, lt-leb, eq-eqb, ne-eqb}
-use lib.ListN.{length, getD, set}
-use mir.Val.{Fits}
+use lib.ListN.{getD, length, set}
+use borrow.Author.Tests.{le-leb, lt-leb, eq-eqb, ne-eqb, lt-ltb, le-ltb}
 use mir.Syntax.{w64}
-use Rattle.words.specs.Bytes.{at16}
-use Rattle.words.specs.Lists.{laid, laid-none, laid-more, laid-same, laid-add}
+use mir.Val.{Fits}
+use Rattle.basics.specs.Lists.{laid}
+use Rattle.basics.specs.Laws.Lists.{laid-more, laid-none, laid-same, laid-add}
+use Rattle.basics.specs.Bytes.{at16}
 use Rattle.hunk.specs.declared.Block.the-variants.{End, Wrong, Words}
-use Rattle.hunk.specs.Hunk.{address, countOf, sizeOf, decle, word, breaks, blockAt}
-use Rattle.hunk.specs.HunkLaws.{Room, count-most, size-8, size-10, size-16}
+use Rattle.hunk.specs.Hunk.{address, countOf, sizeOf, blockAt, breaks, decle, word}
+use Rattle.hunk.specs.Laws.Hunk.{size-8, size-10, size-16, count-most}
+use Rattle.hunk.specs.Code.Hunk.{Room}
 
 -- the address, from its bytes
 pub address-bytes : (s : List ℕ) (x y z : ℕ) → x ≡ getD s 0 0 → y ≡ getD s 1 0 → z ≡ getD s 2 0 → record { 0 = x + 256 * y + 65536 * z } ≡ address s

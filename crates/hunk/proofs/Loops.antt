@@ -1,22 +1,25 @@
 -- The loops over a hunk's data blocks: with count enough, what is left answers what the whole does.
-use Prim.Native.Nat.{ℕ, zero, suc, _+_, _-_, _^_, _<_, _≤_}
-use mathlib.Core.Path.{_≡_, refl, sym, ap, _∙_}
+use Prim.Native.Nat.{ℕ, _-_, _<_, _+_, _≤_, zero, suc, _^_}
 use mathlib.Core.List.{List, _++_}
+use mathlib.Core.Path.{_≡_, sym, _∙_, ap, refl}
 use native.Mathlib.Omega.{arith}
-use borrow.Author.Tests.{lt-ltb, le-ltb}
 use lib.ListN.{length}
-use mir.Val.{Fits}
+use borrow.Author.Tests.{lt-ltb, le-ltb}
 use mir.Syntax.{w64}
-use Rattle.words.specs.Lists.{laid, length-laid}
-use Rattle.words.specs.Tables.{table, length-table}
+use mir.Val.{Fits}
+use Rattle.basics.specs.Lists.{lay, laid}
+use Rattle.basics.specs.Tables.{table}
+use Rattle.basics.specs.Laws.Tables.{length-table}
+use Rattle.basics.specs.Laws.Lay.{lay-table, lay-append}
+use Rattle.basics.specs.Laws.Lists.{length-laid}
 use Rattle.places.specs.declared.Locutus.{Locutus}
 use Rattle.hunk.specs.declared.Block.{Block}
-use Rattle.hunk.specs.declared.Block.the-variants.{End, Wrong, Words}
+use Rattle.hunk.specs.declared.Block.the-variants.{Words, End, Wrong}
+use Rattle.hunk.specs.declared.Checked.the-variants.{Broken, Whole}
 use Rattle.hunk.specs.declared.Checked.{Checked}
-use Rattle.hunk.specs.declared.Checked.the-variants.{Whole, Broken}
-use Rattle.hunk.specs.Lay.{lay, lay-append, lay-table}
-use Rattle.hunk.specs.Hunk.{address, word, blockAt, checkFrom, checkHunk, wordsFrom, wordsIn, storeHunk}
-use Rattle.hunk.specs.HunkLaws.{Room, Held, block-held, broken-in}
+use Rattle.hunk.specs.Hunk.{blockAt, address, checkFrom, checkHunk, wordsFrom, storeHunk, wordsIn, word}
+use Rattle.hunk.specs.Laws.Hunk.{Held, block-held, broken-in}
+use Rattle.hunk.specs.Code.Hunk.{Room}
 
 -- a data block of n words goes on within the hunk, and its words lie in the RAM
 module _ (s : List ℕ) (m p a n q : ℕ) (b : Block) (eb : b ≡ blockAt s m p a) (ew : b ≡ Words n q) where

@@ -1,6 +1,7 @@
 -- Any two answers that the promise of a public function allows are equal (01, What the promises rule out).
 use denote.Ref.{now}
-use Rattle.words.specs.Same.{OneAnswer, OneLent, same}
+use Rattle.basics.specs.Same.{OneAnswer, OneLent}
+use Rattle.basics.specs.Laws.Same.{same}
 use Rattle.hunk.proofs.check.Reads as check
 use Rattle.hunk.proofs.store.Reads as store
 

@@ -1,12 +1,12 @@
 -- A data hunk's payload: a word address of 24 bits, then data blocks (001, Block Type 0x02: Data Hunk).
-use Prim.Native.Nat.{ℕ, zero, suc, _+_, _-_, _*_, _/_, _%_, _^_}
+use Prim.Native.Nat.{ℕ, _-_, _+_, _/_, _*_, _^_, _%_, zero, suc}
 use mathlib.Core.List.{List, [], _++_}
-use mathlib.Core.Bool.{Bool, cond, _||_}
-use lib.ListN.{length, getD}
+use mathlib.Core.Bool.{cond, Bool, _||_}
 use lib.Dec.{ltb, leb, eqb}
-use Rattle.words.specs.Bytes.{at16, at24}
-use Rattle.words.specs.Tables.{table}
-use Rattle.hunk.specs.Lay.{lay}
+use lib.ListN.{getD, length}
+use Rattle.basics.specs.Bytes.{at24, at16}
+use Rattle.basics.specs.Tables.{table}
+use Rattle.basics.specs.Lists.{lay}
 use Rattle.places.specs.declared.Locutus.{Locutus}
 use Rattle.hunk.specs.declared.Block.{Block}
 use Rattle.hunk.specs.declared.Block.the-variants.{End, Wrong, Words}

@@ -1,4 +1,3 @@
-pub mod Lay
 pub mod Hunk
-pub mod HunkLaws
-pub mod Example
+pub mod Code
+pub mod Laws

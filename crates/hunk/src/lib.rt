@@ -1,14 +1,14 @@
 // Data hunks: a check that names the byte where one breaks, and a store that goes by the same data blocks (001, "Data Hunk").
-ghost use mathlib.Core.Path.{_≡_};
 ghost use Prim.Native.Nat.{_+_, _*_, _/_, _%_, _≤_, _<_};
+ghost use mathlib.Core.Path.{_≡_};
 ghost use lib.ListN.{length, getD};
-ghost use Rattle.words.specs.Bytes.{at16};
-ghost use Rattle.words.specs.Lists.{laid};
+ghost use Rattle.basics.specs.Bytes.{at16};
+ghost use Rattle.basics.specs.Lists.{laid};
 ghost use Rattle.hunk.specs.Hunk.{address, countOf, sizeOf, decle, word, blockAt, checkHunk, storeHunk};
-ghost use Rattle.hunk.specs.HunkLaws.{Room};
+ghost use Rattle.hunk.specs.Code.Hunk.{Room};
+use basics::wide;
+use basics::wide16;
 use places::Locutus;
-use words::wide;
-use words::wide16;
 
 // What stands at a place of a hunk: its end, a data block that breaks it, or one of so many words, with the place of the next.
 pub enum Block {

@@ -1,19 +1,15 @@
 -- Which paragraphs an image names, and with which words: those that a test chooses, rising; and what a list of hunks must be for an image to load.
-use Prim.Native.Nat.{ℕ, zero, suc, _+_, _*_, _<_, _≤_}
+use Prim.Native.Nat.{ℕ, zero, suc, _*_, _+_, _≤_, _<_}
+use mathlib.Core.Bool.{Bool, cond, true}
+use mathlib.Core.List.{List, [], _++_, _∷_}
 use mathlib.Core.Path.{_≡_}
-use mathlib.Core.List.{List, [], _∷_, _++_}
-use mathlib.Core.Bool.{Bool, true, cond}
 use lib.ListN.{length}
-use Rattle.image.specs.Form.{Tables, Hunk, hunk}
+use Rattle.image.specs.Form.{Hunk, hunk, Tables}
 
 -- a hunk for each paragraph below n that is chosen (01, How an image is laid out by the builder)
 unfoldable pub chosen : ℕ → (ℕ → Bool) → (ℕ → List ℕ) → List Hunk
 chosen zero on words = []
 chosen (suc p) on words = chosen p on words ++ cond (on p) (hunk p (words p) ∷ []) []
-
--- the paragraphs of the cartridge's RAM (01, How an image is laid out by the builder)
-abbrev pub paragraphs : ℕ
-paragraphs = 2048
 
 -- the parts of an image have their sizes (01, File layout)
 pub record Sized (flags uid : List ℕ) (t : Tables) : Type 0 where
@@ -27,10 +23,6 @@ pub record Sized (flags uid : List ℕ) (t : Tables) : Type 0 where
 pub record Lies (n : ℕ) (h : Hunk) : Type 0 where
   pub whole : length (h .words) ≡ 256
   pub within : 256 * h .paragraph + 256 ≤ n
-
-pub data Each {A : Type 0} (P : A → Type 0) : List A → Type 0 where
-  none : Each P []
-  also : {x : A} {xs : List A} → P x → Each P xs → Each P (x ∷ xs)
 
 -- so does each paragraph below p that is chosen
 pub record Chosen (n p : ℕ) (on : ℕ → Bool) (words : ℕ → List ℕ) : Type 0 where

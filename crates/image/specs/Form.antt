@@ -1,15 +1,11 @@
 -- What an image looks like: a header, a block with the tables, a block for each hunk, and the end
 -- (01, File layout; How an image is laid out by the builder).
-use Prim.Native.Nat.{ℕ, zero, suc, _+_, _*_, _-_, _/_, _%_}
-use mathlib.Core.List.{List, [], _∷_, _++_}
+use Prim.Native.Nat.{ℕ, _+_, zero, suc, _-_, _/_, _*_}
+use mathlib.Core.List.{List, _∷_, _++_, []}
 use lib.ListN.{length, take, drop}
-use Rattle.words.specs.Bytes.{le16, le32, bytes16}
+use Rattle.basics.specs.Bytes.{le16, le32, bytes16, le24}
+use Rattle.basics.specs.Lists.{joined}
 use Rattle.sums.specs.Crc.{dowcrcOf, crc324Of}
-
--- what f makes of each, one after the other
-unfoldable pub joined : {A : Type 0} → (A → List ℕ) → List A → List ℕ
-joined f [] = []
-joined f (x ∷ xs) = f x ++ joined f xs
 
 -- the header: magic and version, 16 bytes of flags, 8 of the UID, three reserved; then the DOWCRC of all of these (01, File layout)
 unfoldable pub headOf : List ℕ → List ℕ → List ℕ
@@ -61,10 +57,6 @@ pub record Hunk : Type 0 where
 
 abbrev pub hunk : ℕ → List ℕ → Hunk
 hunk p words = record { paragraph = p; words = words }
-
--- its payload: the address of its first word in three bytes, then its data blocks (001, Data Hunk)
-abbrev pub le24 : ℕ → List ℕ
-le24 x = x % 256 ∷ le16 (x / 256)
 
 unfoldable pub hunkPayload : Hunk → List ℕ
 hunkPayload h = le24 (256 * h .paragraph) ++ joined dataOf (cutsOf (h .words))

@@ -1,5 +1,4 @@
 -- The file form of an image, the paragraphs that it names, and their laws.
 pub mod Form
 pub mod Chosen
-pub mod FormLaws
-pub mod ChosenLaws
+pub mod Laws

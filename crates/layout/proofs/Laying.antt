@@ -1,10 +1,11 @@
 -- Words stored one after the other: after i of n.
-use Prim.Native.Nat.{ℕ, _+_, _*_, _≤_, _<_}
-use mathlib.Core.Path.{_≡_, refl, sym, ap, _∙_}
+use Prim.Native.Nat.{ℕ, _≤_, _<_, _+_, _*_}
 use mathlib.Core.List.{List}
+use mathlib.Core.Path.{_≡_, refl, sym, _∙_, ap}
 use native.Mathlib.Omega.{arith}
 use lib.ListN.{length, set, length-set}
-use Rattle.words.specs.Lists.{laid, laid-none, laid-more, laid-add, laid-same, length-laid}
+use Rattle.basics.specs.Lists.{laid}
+use Rattle.basics.specs.Laws.Lists.{laid-none, laid-more, laid-same, laid-add, length-laid}
 
 pub record Laying (m₀ : List ℕ) (a n : ℕ) (w : ℕ → ℕ) (i : ℕ) (m : List ℕ) : Type 0 where
   pub up : i ≤ n

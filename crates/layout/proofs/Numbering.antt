@@ -1,19 +1,19 @@
 -- Pages numbered slot by slot: after s slots, each has its page, and each page so far its slot.
-use Prim.Native.Nat.{ℕ, suc, _+_, _≤_, _<_}
-use mathlib.Core.Path.{_≡_, refl, sym, ap, _∙_}
+use Prim.Native.Nat.{ℕ, _≤_, _<_, _+_, suc}
 use mathlib.Core.List.{List}
-use mathlib.Core.Bool.{Bool, true, false, cond, _&&_}
+use mathlib.Core.Bool.{Bool, cond, true, false, _&&_}
+use mathlib.Core.Path.{_≡_, refl, _∙_, sym, ap}
 use native.Mathlib.Omega.{arith}
 use native.Mathlib.Numerals.{add-one}
-use lib.ListN.{length, getD, set, length-set, replicate, length-replicate, getD-replicate}
-use lib.Seq.{getD-set-same, getD-set-other}
+use lib.ListN.{length, getD, replicate, length-replicate, getD-replicate, set, length-set}
 use lib.Dec.{eqb}
-use borrow.Author.Tests.{eq-eqb, eqb-true, eqb-false, ne-eqb}
-use Rattle.words.specs.Tests.{cases, and-false}
-use Rattle.words.specs.Tables.{table, table-of, Filled, filled-none, filled-more, filled-all}
-use Rattle.words.specs.Counts.{count}
-use Rattle.layout.specs.Nth.{nth}
-use Rattle.layout.specs.PlanLaws.{isUsed, numberedOf}
+use lib.Seq.{getD-set-same, getD-set-other}
+use borrow.Author.Tests.{eqb-true, eq-eqb, eqb-false, ne-eqb}
+use Rattle.basics.specs.Counts.{count, nth}
+use Rattle.basics.specs.Laws.Tables.{Filled, filled-none, filled-more, filled-all, table-of}
+use Rattle.basics.specs.Laws.Tests.{cases, and-false}
+use Rattle.basics.specs.Tables.{table}
+use Rattle.layout.specs.Code.Plan.{isUsed, numberedOf}
 
 pub record Numbering (used : List Bool) (page slot : List ℕ) (n s : ℕ) : Type 0 where
   pub up : s ≤ 272

@@ -1,12 +1,13 @@
 -- The rows of answering pages, and the flip table written from them.
-use Prim.Native.Nat.{ℕ, _+_, _*_, _/_, _%_, _≤_, _<_}
-use mathlib.Core.Path.{_≡_, refl}
-use mathlib.Core.List.{List, []}
+use Prim.Native.Nat.{ℕ, _≤_, _/_, _%_, _<_, _*_, _+_}
 use mathlib.Core.Bool.{Bool, true, false}
+use mathlib.Core.List.{List, []}
+use mathlib.Core.Path.{_≡_, refl}
 use native.Mathlib.Omega.{arith}
-use lib.ListN.{getD, set, replicate}
-use Rattle.words.specs.Tables.{table, getD-table, Filled, filled-none, filled-more, filled-all}
-use Rattle.layout.specs.PlanLaws.{isUsed, answerBy, answerIn, entryBy, rowIn, flipsIn, Small}
+use lib.ListN.{getD, replicate, set}
+use Rattle.basics.specs.Laws.Tables.{Filled, filled-all, filled-none, getD-table, filled-more}
+use Rattle.basics.specs.Tables.{table}
+use Rattle.layout.specs.Code.Plan.{answerBy, rowIn, entryBy, answerIn, Small, isUsed, flipsIn}
 
 most-by : (used : Bool) (page : ℕ) (whole : Bool) (plain : ℕ) → page ≤ 272 → plain ≤ 272 → answerBy used page whole plain ≤ 273
 most-by true page whole plain h l = omega arith

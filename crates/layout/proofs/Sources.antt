@@ -1,21 +1,22 @@
 -- The BIN words that a line puts at a paragraph's addresses.
-use Prim.Native.Nat.{ℕ, _+_, _*_, _-_, _/_, _%_, _≤_, _<_}
-use mathlib.Core.Path.{_≡_, ap, _∙_}
+use Prim.Native.Nat.{ℕ, _≤_, _+_, _-_, _<_, _*_, _/_, _%_}
 use mathlib.Core.List.{List}
+use mathlib.Core.Path.{_≡_, _∙_, ap}
 use mathlib.Core.Bool.{cond}
 use mathlib.Core.Option.{none, some}
 use native.Mathlib.Omega.{arith}
 use lib.ListN.{getD}
 use lib.Dec.{eqb}
-use Rattle.words.specs.Lists.{laid, laid-same}
+use Rattle.basics.specs.Lists.{laid}
+use Rattle.basics.specs.Laws.Lists.{laid-same}
 use Rattle.places.specs.declared.BinWord.{BinWord}
 use Rattle.places.specs.declared.Console.{Console}
 use Rattle.lines.specs.declared.Entry.{Entry}
 use Rattle.lines.specs.declared.Line.{Line}
 use Rattle.lines.specs.Bin.{binWord, binPlace}
-use Rattle.rules.specs.Survey.{noLine}
+use Rattle.rules.specs.Code.Survey.{noLine}
+use Rattle.layout.specs.Code.Plan.{wordIn, paragraphIn, writtenIn}
 use Rattle.layout.specs.Layout.{writtenBy, writtenOf}
-use Rattle.layout.specs.PlanLaws.{wordIn, paragraphIn, writtenIn}
 
 pub copied : (bin : List ℕ) (lo : BinWord) (at a : Console) (w to : ℕ) (m m′ : List ℕ) → at .0 ≤ a .0 → w ≡ lo .0 + (a .0 - at .0) → m′ ≡ laid to 256 (λ i. wordIn bin (w + i)) m
     → m′ ≡ laid to 256 (λ i. binWord bin (binPlace lo at (record { 0 = a .0 + i }))) m

@@ -1,23 +1,22 @@
 -- How the builder lays an image out: Locutus pages, the three tables, and the words of each covered paragraph (01, How an
 -- image is laid out by the builder).
-use Prim.Native.Nat.{ℕ, suc, _+_, _*_, _/_, _%_}
+use Prim.Native.Nat.{ℕ, _*_, _+_, _/_, _%_, suc}
 use mathlib.Core.List.{List}
 use mathlib.Core.Bool.{Bool, cond, _&&_}
 use mathlib.Core.Option.{Option, none, some}
-use lib.Dec.{ltb, leb}
-use Rattle.words.specs.Tables.{table}
-use Rattle.words.specs.Counts.{count}
+use lib.Dec.{leb, ltb}
+use Rattle.basics.specs.Counts.{count, nth}
+use Rattle.basics.specs.Options.{isSome}
+use Rattle.basics.specs.Tables.{table}
 use Rattle.places.specs.declared.Console.{Console}
-use Rattle.places.specs.declared.Locutus.{Locutus}
-use Rattle.lines.specs.declared.Width.the-variants.{Sixteen, Eight}
-use Rattle.lines.specs.declared.Entry.{Entry}
-use Rattle.lines.specs.declared.Entry.the-variants.{Rom, Paged, Ram}
-use Rattle.lines.specs.declared.Line.{Line}
-use Rattle.lines.specs.Bin.{binWord, binPlace}
 use Rattle.cart.specs.declared.Cartridge.{Cartridge}
 use Rattle.cart.specs.Machine.{firstK, flipMapping, flipPermissions}
-use Rattle.rules.specs.Rules.{isSome, lineIn, uses, paged, allRom}
-use Rattle.layout.specs.Nth.{nth}
+use Rattle.lines.specs.declared.Line.{Line}
+use Rattle.lines.specs.declared.Entry.{Entry}
+use Rattle.lines.specs.declared.Entry.the-variants.{Rom, Paged, Ram}
+use Rattle.lines.specs.declared.Width.the-variants.{Sixteen, Eight}
+use Rattle.lines.specs.Bin.{binWord, binPlace}
+use Rattle.rules.specs.Rules.{uses, allRom, paged, lineIn}
 
 -- A slot is a layer of a chapter, in the order of the pages: chapters rising; in each, its plain lines (layer 0), then its
 -- PAGE lines by page number (layer 1 + y).
@@ -43,10 +42,6 @@ slotOfPage lines n = nth (used lines) slots n
 
 abbrev pub needed : List Line → ℕ
 needed lines = 4096 * pages lines
-
--- where layer t keeps the word of an address: words keep their place within the page
-unfoldable pub placeOf : List Line → ℕ → Console → Locutus
-placeOf lines t a = record { 0 = 4096 * pageOf lines (a .0 / 4096) t + a .0 % 4096 }
 
 -- permissions: ROM 1, RAM 16 3, RAM 8 7, and 0 where no line is
 abbrev pub permissionBy : Entry → ℕ

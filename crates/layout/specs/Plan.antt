@@ -1,12 +1,12 @@
 -- What laying out answers, and the words that it leaves in a RAM (01, How an image is laid out by the builder).
-use Prim.Native.Nat.{ℕ, _+_, _*_, _/_, _%_, min}
+use Prim.Native.Nat.{ℕ, _/_, _*_, _+_, _%_, min}
 use mathlib.Core.List.{List}
 use lib.ListN.{length}
-use Rattle.words.specs.Lists.{laid}
-use Rattle.words.specs.Tables.{table}
+use Rattle.basics.specs.Tables.{table}
+use Rattle.basics.specs.Lists.{laid}
 use Rattle.lines.specs.declared.Line.{Line}
-use Rattle.layout.specs.Layout.{pages, mappingTable, permissionsTable, flipTable, writtenOf, paragraphHeld, lineHeld, covered}
 use Rattle.layout.specs.declared.Plan.{Plan}
+use Rattle.layout.specs.Layout.{mappingTable, permissionsTable, flipTable, pages, covered, writtenOf, lineHeld, paragraphHeld}
 
 abbrev pub marked : ℕ
 marked = 2048

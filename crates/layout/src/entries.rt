@@ -1,17 +1,17 @@
 // The entries of the three tables: flips, mapping, permissions.
+ghost use Prim.Native.Nat.{_≤_, _<_};
 ghost use mathlib.Core.Path.{_≡_};
 ghost use mathlib.Core.Bool.{cond, _&&_};
 ghost use mathlib.Core.Option.{none, some};
-ghost use Prim.Native.Nat.{_≤_, _<_};
 ghost use lib.Dec.{eqb, leb};
 ghost use Rattle.cart.specs.Machine.{firstK};
-ghost use Rattle.rules.specs.SurveyLaws.{Few};
+ghost use Rattle.rules.specs.Code.Survey.{Few};
 ghost use Rattle.layout.specs.Layout.{permissionBy};
-ghost use Rattle.layout.specs.PlanLaws.{Small, answerBy, entryBy, rowIn, flipsIn, mappingBy, mappingIn, permissionsBy, permissionsIn};
+ghost use Rattle.layout.specs.Code.Plan.{Small, answerBy, entryBy, rowIn, flipsIn, mappingBy, mappingIn, permissionsBy, permissionsIn};
+use basics::both;
 use lines::Entry;
 use lines::Line;
 use lines::Width;
-use words::both;
 
 // One more than the page that answers: the PAGE line's, else that of plain ROM that covers the flippable range, else none.
 pub(crate) fn answer(used: bool, page: u16, whole: bool, plain: u16) -> u16

@@ -6,9 +6,10 @@ mod pour;
 ghost use mathlib.Core.Path.{_≡_};
 ghost use mathlib.Core.Bool.{cond};
 ghost use lib.ListN.{take};
-ghost use Rattle.rules.specs.SurveyLaws.{Few};
+ghost use Rattle.rules.specs.Code.Survey.{Few};
 ghost use Rattle.layout.specs.Plan.{planOf, ramOf};
-ghost use Rattle.layout.specs.PlanLaws.{Small, Slots, heldIn, marksIn, drawn};
+ghost use Rattle.layout.specs.Code.Plan.{Small, Slots, heldIn, marksIn, drawn};
+use basics::least;
 use entries::flips_of;
 use entries::mapping_of;
 use entries::permissions_of;
@@ -17,7 +18,6 @@ use pages::Numbered;
 use pages::number;
 use pour::write_paragraphs;
 use rules::Survey;
-use words::least;
 
 // The three tables, how many Locutus pages there are, and a mark for each covered Locutus paragraph.
 pub struct Plan {

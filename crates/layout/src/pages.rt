@@ -1,8 +1,8 @@
 // Locutus pages by number: the slots in use, in their order.
+ghost use Prim.Native.Nat.{_≤_};
 ghost use mathlib.Core.Path.{_≡_};
 ghost use mathlib.Core.Bool.{cond};
-ghost use Prim.Native.Nat.{_≤_};
-ghost use Rattle.layout.specs.PlanLaws.{numberedOf};
+ghost use Rattle.layout.specs.Code.Plan.{numberedOf};
 
 // The Locutus page of each slot in use, the slot of each page, and how many pages there are.
 pub(crate) struct Numbered {

@@ -1,22 +1,22 @@
 // The words of each Locutus paragraph, from the BIN or zeros, into a RAM.
+ghost use Prim.Native.Nat.{_+_, _*_, _≤_, _<_};
 ghost use mathlib.Core.Path.{_≡_};
 ghost use mathlib.Core.Bool.{cond};
 ghost use mathlib.Core.Option.{none, some};
-ghost use Prim.Native.Nat.{_+_, _*_, _≤_, _<_};
 ghost use lib.ListN.{length};
 ghost use lib.Dec.{eqb};
-ghost use Rattle.words.specs.Lists.{laid};
+ghost use Rattle.basics.specs.Lists.{laid};
 ghost use Rattle.lines.specs.Lines.{first};
 ghost use Rattle.lines.specs.Bin.{binWord, binPlace};
 ghost use Rattle.layout.specs.Layout.{writtenBy, writtenOf};
-ghost use Rattle.layout.specs.PlanLaws.{Slots, wordIn, writtenIn, Begins};
+ghost use Rattle.layout.specs.Code.Plan.{Slots, wordIn, writtenIn, Begins};
+use basics::byte_at;
+use basics::wide16;
 use lines::Entry;
 use lines::Line;
 use places::BinWord;
 use places::Console;
 use places::Locutus;
-use words::byte_at;
-use words::wide16;
 
 // 256 words from Locutus word `to` on: of the BIN, from word w on; and zeros.
 pub(crate) fn copy(bin: &[u8], w: usize, ram: &mut [u16], to: Locutus)

@@ -1,9 +1,9 @@
 -- The words of a BIN, and the one that a line puts at an address (01, File layout; What a CFG may say).
-use Prim.Native.Nat.{ℕ, _+_, _*_, _/_, _-_}
+use Prim.Native.Nat.{ℕ, _/_, _*_, _+_, _-_}
 use mathlib.Core.List.{List}
 use lib.ListN.{length, getD}
-use Rattle.places.specs.declared.Console.{Console}
 use Rattle.places.specs.declared.BinWord.{BinWord}
+use Rattle.places.specs.declared.Console.{Console}
 
 -- how many words a BIN has; BIN words are big endian
 abbrev pub binWords : List ℕ → ℕ

@@ -1,5 +1,4 @@
 pub mod Lines
-pub mod Limits
 pub mod Bin
 pub mod Typed
-pub mod LineLaws
+pub mod Laws

@@ -1,7 +1,7 @@
 -- What a line names: its addresses, its layer, and the line of a layer that holds an address (01, What a CFG may say).
-use Prim.Native.Nat.{ℕ, suc, _+_, _-_}
+use Prim.Native.Nat.{ℕ, _+_, _-_, suc}
+use mathlib.Core.Bool.{Bool, _&&_, false, true, cond}
 use mathlib.Core.List.{List, [], _∷_}
-use mathlib.Core.Bool.{Bool, true, false, cond, _&&_}
 use mathlib.Core.Option.{Option, none, some}
 use lib.Dec.{leb, eqb}
 use Rattle.lines.specs.declared.Entry.{Entry}

@@ -1,39 +1,39 @@
 -- One law for each return of the functions on one header and one block, its premises as the code's tests and calls give them.
-use Prim.Native.Nat.{ℕ, _+_, _-_, _^_, _<_, _≤_}
-use mathlib.Core.Path.{_≡_, sym, ap, _∙_}
+use Prim.Native.Nat.{ℕ, _<_, _≤_, _+_, _-_, _^_}
 use mathlib.Core.List.{List}
-use mathlib.Core.Bool.{Bool, true, false, not, _&&_, _||_}
+use mathlib.Core.Path.{_≡_, ap, sym, _∙_}
+use mathlib.Core.Bool.{Bool, true, false, _&&_, not, _||_}
 use native.Mathlib.Omega.{arith}
-use borrow.Author.Tests.{lt-ltb, le-ltb, le-leb, lt-leb, eq-eqb, ne-eqb, eqb-false}
 use lib.ListN.{length, getD}
 use lib.Dec.{eqb}
-use mir.Val.{Fits}
+use borrow.Author.Tests.{lt-ltb, le-ltb, ne-eqb, eq-eqb, le-leb, lt-leb, eqb-false}
 use mir.Syntax.{w64}
-use Rattle.words.specs.Bytes.{at16, at32}
-use Rattle.words.specs.Lists.{part}
-use Rattle.words.specs.Tests.{cases}
+use mir.Val.{Fits}
+use Rattle.basics.specs.Rows.{firstOf}
+use Rattle.basics.specs.Lists.{part}
+use Rattle.basics.specs.Bytes.{at16, at32}
+use Rattle.basics.specs.Laws.Tests.{cases}
 use Rattle.sums.specs.Crc.{dowcrcOf, crc324Of}
+use Rattle.cart.specs.declared.Cartridge.{Cartridge}
 use Rattle.hunk.specs.declared.Checked.{Checked}
 use Rattle.hunk.specs.declared.Checked.the-variants.{Whole, Broken}
 use Rattle.hunk.specs.Hunk.{checkHunk}
-use Rattle.cart.specs.declared.Cartridge.{Cartridge}
 use Rattle.tables.specs.declared.Compat.{Compat}
-use Rattle.tables.specs.Flags.{compatOf}
 use Rattle.tables.specs.Tables.{cartridgeOf, unsupported}
+use Rattle.tables.specs.Flags.{compatOf}
+use Rattle.load.specs.declared.Frame.the-variants.{Cut, Framed, Over}
+use Rattle.load.specs.declared.Frame.{Frame}
+use Rattle.load.specs.declared.Judged.the-variants.{Good, Bad}
+use Rattle.load.specs.declared.Judged.{Judged}
+use Rattle.load.specs.declared.Step.the-variants.{Ends, No, Next}
 use Rattle.load.specs.declared.Loading.{Loading}
 use Rattle.load.specs.declared.Verdict.{Verdict}
 use Rattle.load.specs.declared.Verdict.the-variants.{Loads}
-use Rattle.load.specs.declared.Frame.{Frame}
-use Rattle.load.specs.declared.Frame.the-variants.{Over, Cut, Framed}
-use Rattle.load.specs.declared.Judged.{Judged}
-use Rattle.load.specs.declared.Judged.the-variants.{Good, Bad}
-use Rattle.load.specs.declared.Step.the-variants.{Ends, No, Next}
-use Rattle.words.specs.Rows.{firstOf}
-use Rattle.load.specs.Header.{Refusal, refuse, passes, wrongMagic, headerRows}
-use Rattle.load.specs.Blocks.{typeAt, payloadOf, cutAt, frameAt, wrongPayload, wrongTables}
+use Rattle.load.specs.Header.{headerRows, passes, refuse, Refusal, wrongMagic}
+use Rattle.load.specs.Code.Steps.{headerNumber, framedAt, onChecked, FrameIs, judgedOf, tablesWrong, stepOf, tablesAfter, Tabled, tenAt, finishedOf, finishedRamOf, allStored, TabledBy}
+use Rattle.load.specs.Blocks.{frameAt, cutAt, wrongPayload, typeAt, payloadOf, wrongTables}
+use Rattle.load.specs.Laws.Steps.{frame-held}
 use Rattle.load.specs.Load.{refused}
-use Rattle.load.specs.Steps.{headerNumber, framedAt, FrameIs, tablesWrong, onChecked, judgedOf, tablesAfter, stepOf, Tabled, TabledBy, tenAt, finishedOf, allStored, finishedRamOf}
-use Rattle.load.specs.StepsLaws.{frame-held}
 
 -- the header
 by-first : (s : List ℕ) (n : ℕ) → firstOf (headerRows s) passes ≡ refuse n 0 → n ≡ headerNumber s

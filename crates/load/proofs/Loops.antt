@@ -1,33 +1,35 @@
 -- The two passes over an image's blocks: with count enough, what is left answers what the whole does.
-use Prim.Native.Nat.{ℕ, zero, suc, _+_, _-_, _^_, _<_, _≤_}
-use mathlib.Core.Path.{_≡_, refl, sym, ap, _∙_}
-use mathlib.Core.List.{List, [], _∷_, _++_}
-use mathlib.Core.Bool.{Bool, true, false, cond, not, _||_}
+use Prim.Native.Nat.{ℕ, _+_, _≤_, suc, _<_, zero, _-_, _^_}
+use mathlib.Core.List.{List, _∷_, [], _++_}
+use mathlib.Core.Bool.{Bool, not, _||_, cond, true, false}
+use mathlib.Core.Path.{_≡_, _∙_, ap, sym, refl}
 use native.Mathlib.Omega.{arith}
-use borrow.Author.Tests.{ne-eqb, eqb-false}
 use lib.ListN.{length}
 use lib.Dec.{eqb}
-use mir.Val.{Fits}
+use borrow.Author.Tests.{ne-eqb, eqb-false}
 use mir.Syntax.{w64}
-use Rattle.words.specs.Lists.{part}
-use Rattle.words.specs.Tests.{cases, true-is-not-false, or-assoc}
-use Rattle.words.specs.Rows.{Row, firstOf, Gives, Silent, here, gives-first, silent-first, first-append}
+use mir.Val.{Fits}
+use Rattle.basics.specs.Rows.{Row, firstOf, Silent, Gives, here}
+use Rattle.basics.specs.Laws.Rows.{first-append, silent-first, gives-first}
+use Rattle.basics.specs.Laws.Tests.{or-assoc, true-is-not-false, cases}
+use Rattle.basics.specs.Laws.Refusals.{gives-refused}
+use Rattle.basics.specs.Lists.{part}
 use Rattle.hunk.specs.Hunk.{storeHunk}
-use Rattle.load.specs.declared.Frame.{Frame}
-use Rattle.load.specs.declared.Frame.the-variants.{Over, Cut, Framed}
-use Rattle.load.specs.declared.Judged.{Judged}
-use Rattle.load.specs.declared.Judged.the-variants.{Good, Bad}
-use Rattle.load.specs.declared.Step.{Step}
-use Rattle.load.specs.declared.Step.the-variants.{Ends, No, Next}
 use Rattle.load.specs.declared.Verdict.{Verdict}
+use Rattle.load.specs.declared.Judged.the-variants.{Good, Bad}
 use Rattle.load.specs.declared.Verdict.the-variants.{Refused, Loads}
-use Rattle.load.specs.Header.{Refusal, refuse, passes, numberOf}
-use Rattle.load.specs.Blocks.{typeAt, lengthAt, payloadOf, frameAt, onFrame, isTables, blockRows, startsFrom, blocksOf, anyTables, firstTables, blocksRows, isHunk, hunkOf, hunksIn, overlay, wordCount}
+use Rattle.load.specs.declared.Frame.the-variants.{Framed, Over, Cut}
+use Rattle.load.specs.declared.Judged.{Judged}
+use Rattle.load.specs.declared.Step.the-variants.{Next, Ends, No}
+use Rattle.load.specs.declared.Frame.{Frame}
+use Rattle.load.specs.declared.Step.{Step}
+use Rattle.load.specs.Header.{Refusal, refuse, passes}
+use Rattle.load.specs.Blocks.{anyTables, blocksRows, firstTables, wordCount, hunksIn, blocksOf, blockRows, isTables, lengthAt, startsFrom, frameAt, onFrame, overlay, isHunk, hunkOf, payloadOf, typeAt}
+use Rattle.load.specs.Code.Steps.{verdictBy, verdictOf, FrameIs, judgedOf, tablesAfter, Tabled, endedAt, onJudged, stepOf, TabledBy, allStored, blockStored}
 use Rattle.load.specs.Load.{noneRows}
-use Rattle.words.specs.Refusals.{gives-refused}
-use Rattle.load.specs.LoadLaws.{block-named}
-use Rattle.load.specs.Steps.{FrameIs, judgedOf, tablesAfter, onJudged, stepOf, endedAt, verdictBy, verdictOf, Tabled, TabledBy, blockStored, allStored}
-use Rattle.load.specs.StepsLaws.{frame-held, cut-in, Passed, judged-good, judged-bad, passed-count, passed-few, passed-tables}
+use Rattle.load.specs.Laws.Steps.{Passed, judged-good, passed-few, passed-tables, passed-count, frame-held, judged-bad, cut-in}
+use Rattle.load.specs.Laws.Header.{numberOf}
+use Rattle.load.specs.Laws.Load.{block-named}
 
 -- ---- the checking pass
 

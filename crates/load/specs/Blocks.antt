@@ -1,20 +1,19 @@
 -- The blocks of an image: what stands at a place, the judgement of one block, and the blocks and hunks of a file
 -- (01, File layout, Load order; 001, Block Header).
-use Prim.Native.Nat.{ℕ, zero, suc, _+_}
-use mathlib.Core.List.{List, [], _∷_, _++_}
-use mathlib.Core.Bool.{Bool, true, false, cond, not, _&&_, _||_}
-use lib.ListN.{length, getD}
-use lib.Dec.{ltb, leb, eqb}
-use Rattle.words.specs.Bytes.{at16, at32}
-use Rattle.words.specs.Lists.{part}
-use Rattle.words.specs.Rows.{Row}
-use Rattle.sums.specs.Crc.{dowcrcOf, crc324Of}
+use Prim.Native.Nat.{ℕ, _+_, zero, suc}
+use mathlib.Core.List.{List, _∷_, [], _++_}
+use mathlib.Core.Bool.{Bool, _||_, not, cond, _&&_, false, true}
+use lib.ListN.{getD, length}
+use lib.Dec.{leb, eqb, ltb}
+use Rattle.basics.specs.Bytes.{at16, at32}
+use Rattle.basics.specs.Lists.{part, lay}
+use Rattle.basics.specs.Rows.{Row}
 use Rattle.places.specs.declared.Locutus.{Locutus}
+use Rattle.places.specs.Limits.{lentLimit}
+use Rattle.sums.specs.Crc.{dowcrcOf, crc324Of}
 use Rattle.hunk.specs.declared.Checked.{Checked}
 use Rattle.hunk.specs.declared.Checked.the-variants.{Whole, Broken}
-use Rattle.hunk.specs.Lay.{lay}
-use Rattle.hunk.specs.Hunk.{address, checkHunk, wordsIn}
-use Rattle.cart.specs.Machine.{lentLimit}
+use Rattle.hunk.specs.Hunk.{checkHunk, address, wordsIn}
 use Rattle.load.specs.declared.Frame.{Frame}
 use Rattle.load.specs.declared.Frame.the-variants.{Over, Cut, Framed}
 use Rattle.load.specs.Header.{Refusal, refuse}
@@ -139,11 +138,3 @@ overlay (h ∷ hs) ram = overlay hs (lay (h .address .0) (h .words) ram)
 unfoldable pub wordCount : List Hunk → ℕ
 wordCount [] = 0
 wordCount (h ∷ hs) = length (h .words) + wordCount hs
-
--- the set of words that hunks name
-abbrev pub holds : Hunk → ℕ → Bool
-holds h i = leb (h .address .0) i && ltb i (h .address .0 + length (h .words))
-
-abbrev pub named : List Hunk → ℕ → Bool
-named [] i = false
-named (h ∷ hs) i = holds h i || named hs i

@@ -1,21 +1,18 @@
 -- An image's header: refusals 1 to 4, and where its flags stand (01, File layout; 001, Version 1 Header).
 use Prim.Native.Nat.{ℕ}
-use mathlib.Core.List.{List, [], _∷_}
-use mathlib.Core.Bool.{Bool, not, _&&_, _||_}
-use lib.ListN.{length, getD}
+use mathlib.Core.List.{List, _∷_, []}
+use mathlib.Core.Bool.{Bool, _||_, not, _&&_}
 use lib.Dec.{ltb, eqb}
-use Rattle.words.specs.Lists.{part}
-use Rattle.words.specs.Rows.{Row}
+use lib.ListN.{length, getD}
+use Rattle.basics.specs.Lists.{part}
+use Rattle.basics.specs.Rows.{Row}
+use Rattle.places.specs.Limits.{imageLimit}
 use Rattle.sums.specs.Crc.{dowcrcOf}
-use Rattle.tables.specs.Limits.{imageLimit}
 
 -- what comes back of a refusal (01, Numbers that come back); number 0 is none
 pub record Refusal : Type 0 where
   pub number : ℕ
   pub place : ℕ
-
-abbrev pub numberOf : Refusal → ℕ
-numberOf r = r .number
 
 abbrev pub refuse : ℕ → ℕ → Refusal
 refuse n p = record { number = n; place = p }

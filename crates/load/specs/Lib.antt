@@ -2,10 +2,5 @@
 pub mod Header
 pub mod Blocks
 pub mod Load
-pub mod Refusals
-pub mod Ram
-pub mod Cases
-pub mod Steps
-pub mod StepsLaws
-pub mod BlocksLaws
-pub mod LoadLaws
+pub mod Code
+pub mod Laws

@@ -1,17 +1,17 @@
 -- The load: all refusals of an image as one table in 01's order, the answer, and the RAM afterwards (01, Numbers that come back).
 use Prim.Native.Nat.{ℕ}
-use mathlib.Core.List.{List, [], _∷_, _++_}
-use mathlib.Core.Bool.{Bool, false, cond, not}
+use mathlib.Core.List.{List, _∷_, [], _++_}
+use mathlib.Core.Bool.{not, false, Bool, cond}
 use lib.ListN.{length}
 use lib.Dec.{eqb}
-use Rattle.words.specs.Rows.{Row, firstOf}
+use Rattle.basics.specs.Rows.{Row, firstOf}
+use Rattle.places.specs.Limits.{lent}
 use Rattle.cart.specs.declared.Cartridge.{Cartridge}
-use Rattle.cart.specs.Machine.{lent}
+use Rattle.tables.specs.Tables.{cartridgeOf, unsupported, noCartridge}
 use Rattle.tables.specs.Flags.{compatOf, noCompat}
-use Rattle.tables.specs.Tables.{cartridgeOf, noCartridge, unsupported}
 use Rattle.load.specs.declared.Loading.{Loading}
-use Rattle.load.specs.Header.{Refusal, refuse, passes, headerRows, flagsOf}
-use Rattle.load.specs.Blocks.{payloadOf, blocksOf, anyTables, firstTables, blocksRows, hunksOf, overlay, wordCount}
+use Rattle.load.specs.Blocks.{payloadOf, firstTables, blocksOf, anyTables, blocksRows, wordCount, hunksOf, overlay}
+use Rattle.load.specs.Header.{Refusal, refuse, flagsOf, headerRows, passes}
 
 -- the cartridge in an image's first tables block
 abbrev pub cartridgeIn : List ℕ → Cartridge

@@ -1,23 +1,23 @@
 // The load of a version 1 image: a pass that checks and touches no RAM, then one that stores (01, "Load order").
+ghost use Prim.Native.Nat.{_+_, _≤_, _<_};
 ghost use mathlib.Core.Path.{_≡_};
 ghost use mathlib.Core.Bool.{not};
-ghost use Prim.Native.Nat.{_+_, _≤_, _<_};
 ghost use lib.ListN.{length};
 ghost use lib.Dec.{eqb};
-ghost use Rattle.words.specs.Bytes.{at16, at32};
-ghost use Rattle.words.specs.Lists.{part};
+ghost use Rattle.basics.specs.Bytes.{at16, at32};
+ghost use Rattle.basics.specs.Lists.{part};
+ghost use Rattle.places.specs.Limits.{lent, lentLimit};
 ghost use Rattle.sums.specs.Crc.{dowPoly, c324Poly, dowcrcOf, crc324Of};
 ghost use Rattle.sums.specs.Tables.{tablesOf};
 ghost use Rattle.hunk.specs.Hunk.{checkHunk};
-ghost use Rattle.cart.specs.Machine.{lent, lentLimit};
 ghost use Rattle.load.specs.Header.{refuse, wrongMagic};
 ghost use Rattle.load.specs.Blocks.{frameAt, wrongPayload};
 ghost use Rattle.load.specs.Load.{refused, loadingOf, loadRamOf};
-ghost use Rattle.load.specs.Steps.{headerNumber, framedAt, FrameIs, tablesWrong, onChecked, judgedOf, tablesAfter, stepOf, endedAt, verdictOf, Tabled, TabledBy, finishedOf, finishedRamOf, blockStored, allStored, lentRamOf};
+ghost use Rattle.load.specs.Code.Steps.{headerNumber, framedAt, FrameIs, tablesWrong, onChecked, judgedOf, tablesAfter, stepOf, endedAt, verdictOf, Tabled, TabledBy, finishedOf, finishedRamOf, blockStored, allStored, lentRamOf};
+use basics::wide;
 use cart::Cartridge;
 use tables::Compat;
 use tables::IMAGE_LIMIT;
-use words::wide;
 
 // How many words of a lent RAM count.
 const LENT_LIMIT: usize = 524288;
@@ -93,7 +93,7 @@ fn wrong_magic(s: &[u8]) -> bool
     requires { ⌜ 32 ≤ length (now s) ⌝ }
     ensures { λ r. ⌜ r ≡ wrongMagic (now (s .entry)) ⌝ }
 {
-    !words::both(s[0] == 0x4C, words::both(s[1] == 0x54, s[2] == 0x4F))
+    !basics::both(s[0] == 0x4C, basics::both(s[1] == 0x54, s[2] == 0x4F))
 }
 
 // Refusals 1 to 4, or 0.
@@ -395,7 +395,7 @@ fn load_lent(s: &[u8], dow: &[u32; 2048], c324: &[u32; 2048], ram: &mut [u16]) -
 pub fn load(image: &[u8], ram: &mut [u16]) -> Loading
     ensures { λ r. ⌜ (r ≡ loadingOf (now (image .entry)) (lent (now (ram .entry)))) × (now (ram .exit) ≡ loadRamOf (now (image .entry)) (now (ram .entry))) ⌝ }
 {
-    let n = words::least(ram.len(), LENT_LIMIT);
+    let n = basics::least(ram.len(), LENT_LIMIT);
     let dow = sums::tables(sums::DOW);
     let c324 = sums::tables(sums::C324);
     load_lent(image, &dow, &c324, &mut ram[..n])

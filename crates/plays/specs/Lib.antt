@@ -1,10 +1,5 @@
 -- The plain cartridge and what a load leaves; the relation of the two; demand 3 and what follows from it.
 pub mod Plain
 pub mod Loaded
-pub mod ShownLaws
-pub mod Held
-pub mod Tabled
-pub mod Steps
-pub mod Plays
-pub mod Corollaries
 pub mod Bench
+pub mod Laws

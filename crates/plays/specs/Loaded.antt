@@ -1,12 +1,12 @@
 -- A cartridge with a built image loaded: the layout's tables, over a RAM that holds the layout's words.
-use Prim.Native.Nat.{ℕ, _+_, _*_, _≤_, _<_}
-use mathlib.Core.Path.{_≡_}
+use Prim.Native.Nat.{ℕ, _≤_, _<_, _*_, _+_}
 use mathlib.Core.List.{List}
+use mathlib.Core.Path.{_≡_}
 use mathlib.Core.Bool.{true}
 use lib.ListN.{length, getD}
-use Rattle.lines.specs.declared.Line.{Line}
 use Rattle.cart.specs.Run.{World}
-use Rattle.layout.specs.Layout.{needed, cartridgeOf, covered, paragraphWords}
+use Rattle.lines.specs.declared.Line.{Line}
+use Rattle.layout.specs.Layout.{needed, covered, paragraphWords, cartridgeOf}
 
 -- a RAM that has the words needed, and in each covered paragraph the words of its hunk; the rest of it is as it may be
 pub record Loaded (bin : List ℕ) (lines : List Line) (ram : List ℕ) : Type 0 where

@@ -1,19 +1,19 @@
 -- The plain cartridge: sixteen page numbers and RAM, and how they answer the console (01, What a CFG may say).
 use Prim.Native.Nat.{ℕ, suc, _/_, _%_}
-use mathlib.Core.List.{List, [], _∷_, _++_}
-use mathlib.Core.Bool.{Bool, cond, _&&_}
+use mathlib.Core.List.{List, _∷_, [], _++_}
 use mathlib.Core.Option.{Option, none, some}
+use mathlib.Core.Bool.{Bool, _&&_, cond}
 use lib.Dec.{eqb}
 use Rattle.places.specs.declared.Console.{Console}
-use Rattle.lines.specs.declared.Width.the-variants.{Sixteen, Eight}
+use Rattle.cart.specs.declared.Answer.{Answer}
+use Rattle.cart.specs.declared.Answer.the-variants.{Silence, Word}
+use Rattle.cart.specs.Run.{Access, Read, Write, Reset}
 use Rattle.lines.specs.declared.Entry.{Entry}
 use Rattle.lines.specs.declared.Entry.the-variants.{Rom, Paged, Ram}
 use Rattle.lines.specs.declared.Line.{Line}
-use Rattle.lines.specs.Lines.{lineAt}
+use Rattle.lines.specs.declared.Width.the-variants.{Sixteen, Eight}
 use Rattle.lines.specs.Bin.{binWord, binPlace}
-use Rattle.cart.specs.declared.Answer.{Answer}
-use Rattle.cart.specs.declared.Answer.the-variants.{Word, Silence}
-use Rattle.cart.specs.Run.{Access, Read, Write, Reset}
+use Rattle.lines.specs.Lines.{lineAt}
 
 -- the page number of each chapter, and the RAM word at each address
 pub record Plain : Type 0 where

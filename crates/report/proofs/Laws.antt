@@ -1,12 +1,12 @@
 -- The card's two ways out, for the answer and for the RAM.
 use Prim.Native.Nat.{ℕ, _<_, _≤_}
-use mathlib.Core.Path.{_≡_, _∙_}
 use mathlib.Core.List.{List}
-use borrow.Author.Tests.{lt-ltb, le-ltb}
+use mathlib.Core.Path.{_≡_, _∙_}
 use lib.ListN.{length}
+use borrow.Author.Tests.{lt-ltb, le-ltb}
 use Rattle.load.specs.declared.Loading.{Loading}
 use Rattle.load.specs.Load.{loadingOf, loadRamOf}
-use Rattle.report.specs.Report.{printed, tooLong, reportOf, reportRamOf}
+use Rattle.report.specs.Report.{tooLong, reportOf, printed, reportRamOf}
 
 module _ (s : List ℕ) (m : ℕ) where
   pub too-long : 24576 < length s → tooLong ≡ reportOf s m

@@ -2,18 +2,12 @@
 use Prim.Native.Nat.{ℕ}
 use mathlib.Core.List.{List}
 use mathlib.Core.Bool.{cond}
-use lib.ListN.{length}
 use lib.Dec.{ltb}
+use lib.ListN.{length}
+use Rattle.places.specs.Limits.{cardLimit}
 use Rattle.load.specs.declared.Loading.{Loading}
 use Rattle.load.specs.Load.{loadingOf, loadRamOf}
 use Rattle.report.specs.declared.Report.{Report}
-
--- the card takes no longer file (01, refusal 30), and lends this many words
-abbrev pub cardLimit : ℕ
-cardLimit = 24576
-
-abbrev pub cardWords : ℕ
-cardWords = 16384
 
 abbrev pub printed : Loading → Report
 printed r = record { number = r .number; place = r .place; blocks = r .blocks; words = r .words }

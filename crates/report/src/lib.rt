@@ -1,7 +1,7 @@
 // The image card: reads an image from standard input, loads it into a RAM of zeros, and prints what the load did.
 ghost use mathlib.Core.Path.{_≡_};
 ghost use lib.ListN.{length};
-ghost use Rattle.cart.specs.Machine.{lent};
+ghost use Rattle.places.specs.Limits.{lent};
 ghost use Rattle.report.specs.Report.{reportOf, reportRamOf};
 use libc::STDIN_FILENO;
 use libc::STDOUT_FILENO;

@@ -1,19 +1,20 @@
 -- Rules 25 and 26, line by line: the lines before line k pass, and the first fault is that of the lines from k on.
-use Prim.Native.Nat.{ℕ, _+_, _≤_, _<_}
-use mathlib.Core.Path.{_≡_, refl, sym, _∙_}
+use Prim.Native.Nat.{ℕ, _≤_, _<_, _+_}
 use mathlib.Core.List.{List}
+use mathlib.Core.Path.{_≡_, refl, sym, _∙_}
 use mathlib.Core.Bool.{Bool, true, false}
 use native.Mathlib.Omega.{arith}
-use lib.ListN.{length, getD, take, drop}
-use Rattle.words.specs.Rows.{firstOf}
+use lib.ListN.{take, length, drop, getD}
+use Rattle.basics.specs.Rows.{firstOf}
 use Rattle.lines.specs.declared.Line.{Line}
-use Rattle.lines.specs.Typed.{Typed, All, nil}
-use Rattle.rules.specs.Rules.{Verdict, passed, outOfRange, misshapen, lineRows}
-use Rattle.rules.specs.Shapes.{Fine, fine-of}
-use Rattle.rules.specs.Survey.{noLine}
-use Rattle.rules.specs.Judged.{judged}
+use Rattle.lines.specs.Typed.{All, nil, Typed}
 use Rattle.rules.specs.declared.Judged.{Judged}
-use Rattle.rules.proofs.Lists.{next-line, last-line, all-more}
+use Rattle.rules.specs.Rules.{Verdict, lineRows, passed, outOfRange, misshapen}
+use Rattle.rules.specs.Judged.{judged}
+use Rattle.rules.specs.Code.Shapes.{Fine}
+use Rattle.rules.proofs.Lists.{last-line, next-line, all-more}
+use Rattle.rules.specs.Code.Survey.{noLine}
+use Rattle.rules.specs.Laws.Shapes.{fine-of}
 
 -- what is found of the lines
 abbrev pub fault : ℕ → ℕ → List Line → Verdict

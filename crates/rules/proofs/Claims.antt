@@ -1,13 +1,14 @@
 -- The loops that claim places and that seek the least owner: what is so after j of them.
-use Prim.Native.Nat.{ℕ, _+_, _≤_, _<_}
-use mathlib.Core.Path.{_≡_, refl, sym, ap, _∙_}
+use Prim.Native.Nat.{ℕ, _≤_, _+_, _<_}
 use mathlib.Core.List.{List}
+use mathlib.Core.Path.{_≡_, refl, sym, ap, _∙_}
 use mathlib.Core.Logic.{inr}
 use native.Mathlib.Omega.{arith}
 use native.Mathlib.Numerals.{add-one}
 use lib.ListN.{length, getD, set, length-set}
-use Rattle.words.specs.Lists.{laid, laid-none, laid-more, laid-out}
-use Rattle.rules.specs.NumberLaws.{takes, lesser, leastIn}
+use Rattle.basics.specs.Lists.{laid}
+use Rattle.basics.specs.Laws.Lists.{laid-none, laid-out, laid-more}
+use Rattle.rules.specs.Code.Numbers.{takes, leastIn, lesser}
 
 pub record Claiming (o₀ : List ℕ) (a k number : ℕ) (j : ℕ) (o : List ℕ) : Type 0 where
   pub up : j ≤ k

@@ -1,22 +1,24 @@
 -- Rule 27, line by line: the owners are those of the lines before line k, and the first clash is among the lines from k on.
-use Prim.Native.Nat.{ℕ, suc, _+_, _-_, _≤_, _<_}
-use mathlib.Core.Path.{_≡_, refl, sym, ap, _∙_}
+use Prim.Native.Nat.{ℕ, _≤_, _<_, _-_, _+_, suc}
 use mathlib.Core.List.{List, []}
+use mathlib.Core.Path.{_≡_, refl, _∙_, ap, sym}
 use native.Mathlib.Omega.{arith}
-use lib.ListN.{length, getD, take, drop, replicate}
-use borrow.Author.Tests.{eq-eqb, ne-eqb}
-use Rattle.words.specs.Lists.{laid}
-use Rattle.words.specs.Rows.{firstOf}
+use lib.ListN.{take, length, drop, replicate, getD}
+use borrow.Author.Tests.{ne-eqb, eq-eqb}
+use Rattle.basics.specs.Rows.{firstOf}
+use Rattle.basics.specs.Lists.{laid}
 use Rattle.lines.specs.declared.Line.{Line}
 use Rattle.lines.specs.Typed.{All}
-use Rattle.rules.specs.Rules.{passed, shares, rival, shareRows}
-use Rattle.rules.specs.Shapes.{Fine}
-use Rattle.rules.specs.Survey.{noLine, lineOf, numberOf, claimsParagraph, claimsPage}
-use Rattle.rules.specs.NumberLaws.{Owns, Spans, takes, lesser, leastIn, owns-none, owns-more, number-most, rival-owned, line-taken}
-use Rattle.rules.specs.ShareLaws.{rival-number}
-use Rattle.rules.specs.Judged.{sharer, judged}
 use Rattle.rules.specs.declared.Judged.{Judged}
-use Rattle.rules.proofs.Lists.{next-line, last-line, passed-line, passed-length, all-line, all-passed}
+use Rattle.rules.specs.Judged.{judged, sharer}
+use Rattle.rules.specs.Rules.{shareRows, passed, shares, rival}
+use Rattle.rules.specs.Code.Numbers.{Owns, Spans, leastIn, lesser, takes}
+use Rattle.rules.specs.Code.Survey.{claimsParagraph, claimsPage, noLine, lineOf}
+use Rattle.rules.specs.Laws.Numbers.{owns-none, number-most, rival-owned, line-taken, owns-more}
+use Rattle.rules.specs.Code.Shapes.{Fine}
+use Rattle.rules.proofs.Lists.{last-line, all-passed, all-line, passed-length, next-line, passed-line}
+use Rattle.rules.specs.Survey.{numberOf}
+use Rattle.rules.specs.Laws.Shares.{rival-number}
 
 abbrev pub clash : ℕ → List Line → Judged
 clash n lines = judged (firstOf (shareRows [] (take n lines)) passed) (sharer [] (take n lines))

@@ -1,20 +1,19 @@
 -- What covers a chapter's flippable range, paragraph by paragraph; and all chapters.
-use Prim.Native.Nat.{ℕ, _+_, _*_, _-_, _≤_, _<_}
-use mathlib.Core.Path.{_≡_, _∙_}
+use Prim.Native.Nat.{ℕ, _<_, _*_, _+_, _-_, _≤_}
 use mathlib.Core.List.{List}
-use mathlib.Core.Bool.{Bool, true, false, cond, not, _&&_, _||_}
+use mathlib.Core.Bool.{Bool, not, true, cond, _||_, _&&_, false}
+use mathlib.Core.Path.{_≡_, _∙_}
 use mathlib.Core.Option.{none, some}
 use native.Mathlib.Omega.{arith}
 use lib.ListN.{getD, set, length}
 use lib.Dec.{eqb, ltb}
-use Rattle.words.specs.Tables.{Filled, filled-none, filled-more, filled-all}
-use Rattle.lines.specs.declared.Line.{Line}
+use Rattle.basics.specs.Laws.Tables.{Filled, filled-more, filled-all, filled-none}
 use Rattle.cart.specs.Machine.{firstK}
-use Rattle.rules.specs.Rules.{isRom, isRamLine}
-use Rattle.rules.specs.Survey.{noLine}
-use Rattle.rules.specs.SurveyLaws.{passesAt, coveredIn, brokenIn, coverOf, chaptersOf, Few}
+use Rattle.lines.specs.declared.Line.{Line}
 use Rattle.rules.specs.declared.chapters.Cover.{Cover}
 use Rattle.rules.proofs.Joined.{Everywhere, everywhere-none, everywhere-more, everywhere-all}
+use Rattle.rules.specs.Code.Survey.{passesAt, noLine, coverOf, coveredIn, Few, brokenIn, chaptersOf}
+use Rattle.rules.specs.Rules.{isRom, isRamLine}
 
 pub record Covering (o : List ℕ) (lines : List Line) (x first k : ℕ) (whole bare ramless : Bool) : Type 0 where
   pub starts : first ≡ firstK x

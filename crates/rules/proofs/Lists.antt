@@ -1,18 +1,18 @@
 -- The lines of a list one by one: those passed, and those left.
-use Prim.Native.Nat.{ℕ, zero, suc, _+_, _≤_, _<_, min}
-use mathlib.Core.Path.{_≡_, sym, _∙_}
-use mathlib.Core.List.{List, [], _∷_, _++_}
+use Prim.Native.Nat.{ℕ, _≤_, _<_, _+_, zero, suc, min}
+use mathlib.Core.List.{List, _∷_, [], _++_}
+use mathlib.Core.Path.{_≡_, _∙_, sym}
 use native.Mathlib.Omega.{arith}
 use native.Mathlib.Numerals.{add-one}
-use lib.ListN.{length, getD, take, drop, length-take, drop-of-length-le}
-use lib.Seq.{drop-cons, getD-take, take-suc, take-all, take-take}
+use lib.ListN.{length, drop, take, getD, length-take, drop-of-length-le}
+use lib.Seq.{drop-cons, getD-take, take-suc, take-take, take-all}
 use lib.Dec.{leb}
 use borrow.Author.Tests.{leb-true, leb-false}
-use Rattle.words.specs.Tests.{cases}
-use Rattle.lines.specs.declared.Entry.{Entry}
+use Rattle.basics.specs.Laws.Tests.{cases}
 use Rattle.lines.specs.declared.Line.{Line}
+use Rattle.lines.specs.declared.Entry.{Entry}
 use Rattle.lines.specs.Typed.{All, nil, cons}
-use Rattle.rules.specs.Survey.{noLine}
+use Rattle.rules.specs.Code.Survey.{noLine}
 
 module _ (n : ℕ) (lines : List Line) (h : n ≤ length lines) where
   pub next-line : (k : ℕ) → k < n → drop k (take n lines) ≡ getD lines k noLine ∷ drop (k + 1) (take n lines)

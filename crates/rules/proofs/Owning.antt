@@ -1,13 +1,15 @@
 -- The owners of all places, line by line.
-use Prim.Native.Nat.{ℕ, _+_, _≤_, _<_}
-use mathlib.Core.Path.{_≡_}
+use Prim.Native.Nat.{ℕ, _≤_, _<_, _+_}
 use mathlib.Core.List.{List}
+use mathlib.Core.Path.{_≡_}
 use native.Mathlib.Omega.{arith}
-use lib.ListN.{length, getD, take, replicate}
-use Rattle.words.specs.Lists.{laid}
+use lib.ListN.{length, take, replicate, getD}
+use Rattle.basics.specs.Lists.{laid}
 use Rattle.lines.specs.declared.Line.{Line}
-use Rattle.rules.specs.Survey.{noLine, claimsPlace, places}
-use Rattle.rules.specs.NumberLaws.{Owns, Spans, takes, owns-none, owns-more}
+use Rattle.rules.specs.Code.Numbers.{Owns, Spans, takes}
+use Rattle.rules.specs.Survey.{places, claimsPlace}
+use Rattle.rules.specs.Laws.Numbers.{owns-none, owns-more}
+use Rattle.rules.specs.Code.Survey.{noLine}
 use Rattle.rules.proofs.Lists.{passed-line, passed-length}
 
 pub record Owning (n : ℕ) (lines : List Line) (o : List ℕ) (k : ℕ) : Type 0 where

@@ -1,5 +1,6 @@
 -- Any two answers that the promise of a public function allows are equal (01, What the promises rule out).
-use Rattle.words.specs.Same.{OneAnswer, same}
+use Rattle.basics.specs.Same.{OneAnswer}
+use Rattle.basics.specs.Laws.Same.{same}
 use Rattle.rules.proofs.judge.Reads as judge
 use Rattle.rules.proofs.survey_of.Reads as survey-of
 use Rattle.rules.proofs.place_of.Reads as place-of

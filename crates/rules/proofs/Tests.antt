@@ -4,7 +4,7 @@ use mathlib.Core.Path.{_≡_}
 use native.Mathlib.Omega.{arith}
 use lib.Dec.{eqb}
 use borrow.Author.Tests.{eq-eqb, eqb-true}
-use Rattle.words.specs.Tests.{same-test}
+use Rattle.basics.specs.Laws.Tests.{same-test}
 
 pub one-more : (n m k : ℕ) → k ≡ m + 1 → eqb n m ≡ eqb (n + 1) k
 one-more n m k e =

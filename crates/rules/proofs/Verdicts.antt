@@ -1,19 +1,21 @@
 -- The three parts of the table of rules, one after the other; and the search for the lowest chapter.
-use Prim.Native.Nat.{ℕ, zero, suc, _+_, _-_, _≤_, _<_}
-use mathlib.Core.Path.{_≡_, refl, sym, ap, _∙_}
+use Prim.Native.Nat.{ℕ, suc, zero, _≤_, _-_, _<_, _+_}
 use mathlib.Core.List.{List, [], _∷_, _++_}
-use mathlib.Core.Bool.{Bool, true, false, cond}
+use mathlib.Core.Path.{_≡_, ap, refl, _∙_, sym}
 use mathlib.Core.Logic.{_⊎_, inl, inr}
+use mathlib.Core.Bool.{Bool, cond, true, false}
 use native.Mathlib.Omega.{arith}
-use lib.ListN.{getD}
 use lib.Dec.{eqb}
-use Rattle.words.specs.Tables.{made, table, getD-table}
-use Rattle.words.specs.Rows.{Row, firstOf, Gives, Silent, gives-first, silent-first, first-by, first-append}
+use lib.ListN.{getD}
+use Rattle.basics.specs.Rows.{Row, firstOf, Gives, Silent}
+use Rattle.basics.specs.Laws.Rows.{first-by, gives-first, silent-first, first-append}
+use Rattle.basics.specs.Options.{isSome}
+use Rattle.basics.specs.Tables.{made, table}
+use Rattle.basics.specs.Laws.Tables.{table-same, getD-table}
 use Rattle.lines.specs.declared.Line.{Line}
-use Rattle.rules.specs.Rules.{Verdict, passed, outOfRange, misshapen, rival, isSome, breaksPlain, lineRows, shareRows, chapterRows, judgeOf}
-use Rattle.rules.specs.Judged.{sharer, judged, judgedOf}
-use Rattle.rules.specs.SurveyLaws.{table-same}
 use Rattle.rules.specs.declared.Judged.{Judged}
+use Rattle.rules.specs.Rules.{Verdict, passed, lineRows, outOfRange, misshapen, shareRows, rival, judgeOf, chapterRows, breaksPlain}
+use Rattle.rules.specs.Judged.{judged, judgedOf, sharer}
 
 -- a table that refuses something refuses it whatever comes after, and one that refuses nothing leaves it to what comes after
 refuses : (rs : List (Row Verdict)) (d : Verdict) → (firstOf rs passed .0 ≡ 0 → ⊥) → firstOf rs d ≡ firstOf rs passed

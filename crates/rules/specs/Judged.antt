@@ -1,12 +1,13 @@
 -- What judging a CFG's lines answers: the verdict, and at 27 the line that the named one collides with.
 use Prim.Native.Nat.{ℕ}
+use mathlib.Core.Option.{Option, none, some}
 use mathlib.Core.List.{List, [], _∷_, _++_}
 use mathlib.Core.Bool.{cond}
-use mathlib.Core.Option.{Option, none, some}
 use lib.Dec.{eqb}
+use Rattle.basics.specs.Options.{isSome}
 use Rattle.lines.specs.declared.Line.{Line}
-use Rattle.rules.specs.Rules.{Verdict, rival, isSome, judgeOf}
 use Rattle.rules.specs.declared.Judged.{Judged}
+use Rattle.rules.specs.Rules.{rival, Verdict, judgeOf}
 
 abbrev pub sourceOf : Option Line → ℕ
 sourceOf none = 0

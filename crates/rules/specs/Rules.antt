@@ -1,19 +1,20 @@
 -- Rules 25 to 28 of a CFG's lines, each by itself, and the first that is broken (01, What a CFG may say; Numbers that come back).
-use Prim.Native.Nat.{ℕ, suc, _+_, _*_, _/_, _%_, _-_}
+use Prim.Native.Nat.{ℕ, _+_, _-_, _%_, _/_, _*_, suc}
+use mathlib.Core.Bool.{Bool, _||_, _&&_, not, cond, false}
 use mathlib.Core.List.{List, [], _∷_, _++_}
-use mathlib.Core.Bool.{Bool, true, false, cond, not, _&&_, _||_}
 use mathlib.Core.Option.{Option, none, some}
 use lib.Dec.{ltb, leb, eqb}
-use Rattle.words.specs.Tables.{table}
-use Rattle.words.specs.Counts as Counts
-use Rattle.words.specs.Rows.{Row, firstOf}
-use Rattle.places.specs.declared.Console.{Console}
+use Rattle.basics.specs.Counts.{any, all}
+use Rattle.basics.specs.Options.{isSome}
+use Rattle.basics.specs.Rows.{Row, firstOf}
+use Rattle.basics.specs.Tables.{table}
 use Rattle.places.specs.declared.BinWord.{BinWord}
+use Rattle.places.specs.declared.Console.{Console}
+use Rattle.cart.specs.Machine.{firstK}
 use Rattle.lines.specs.declared.Entry.{Entry}
 use Rattle.lines.specs.declared.Entry.the-variants.{Rom, Paged, Ram}
 use Rattle.lines.specs.declared.Line.{Line}
-use Rattle.lines.specs.Lines.{first, last, layer, isRam, lineAt}
-use Rattle.cart.specs.Machine.{firstK}
+use Rattle.lines.specs.Lines.{layer, first, last, lineAt, isRam}
 
 -- 25: lo above hi; in mapping also hi past the BIN, of so many words, or addresses past $FFFF
 abbrev pub offBin : ℕ → BinWord → BinWord → Console → Bool
@@ -52,11 +53,6 @@ misshapen (Rom lo hi at) = not (plainShape (at .0) (at .0 + (hi .0 - lo .0)))
 misshapen (Paged lo hi at y) = leb 16 (y .0) || not (pageShape (at .0) (at .0 + (hi .0 - lo .0)))
 misshapen (Ram lo hi w) = not (plainShape (lo .0) (hi .0))
 
--- there is one
-abbrev pub isSome : {A : Type 0} → Option A → Bool
-isSome none = false
-isSome (some x) = true
-
 -- 27: two lines share a plain word, or chapter and page
 unfoldable pub shares : Entry → Entry → Bool
 shares e f =
@@ -74,14 +70,14 @@ lineIn lines t p = lineAt lines t (256 * p)
 
 -- layer t has words in chapter x; chapter x has PAGE lines
 unfoldable pub uses : List Line → ℕ → ℕ → Bool
-uses lines x t = Counts.some 16 (λ k. isSome (lineIn lines t (16 * x + k)))
+uses lines x t = any 16 (λ k. isSome (lineIn lines t (16 * x + k)))
 
 unfoldable pub paged : List Line → ℕ → Bool
-paged lines x = Counts.some 16 (λ y. uses lines x (suc y))
+paged lines x = any 16 (λ y. uses lines x (suc y))
 
 -- 28: all of the flippable range of chapter x, its paragraphs from k = firstK x on, passes a test
 abbrev pub throughout : ℕ → (ℕ → Bool) → Bool
-throughout x f = Counts.every 16 (λ k. ltb k (firstK x) || f (16 * x + k))
+throughout x f = all 16 (λ k. ltb k (firstK x) || f (16 * x + k))
 
 abbrev pub isRom : Option Line → Bool
 isRom none = false

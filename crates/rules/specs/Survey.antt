@@ -1,18 +1,15 @@
 -- Who owns a place: the first line that claims it, by its number among the lines, from 1 on; 0 where none does (01, Forms for
 -- specific places).
-use Prim.Native.Nat.{ℕ, zero, suc, _*_, _-_, _/_, _%_}
-use mathlib.Core.List.{List, [], _∷_}
+use Prim.Native.Nat.{ℕ, zero, suc, _*_, _/_, _%_}
 use mathlib.Core.Bool.{Bool, cond, _&&_}
-use mathlib.Core.Option.{Option, none, some}
-use lib.ListN.{getD}
+use mathlib.Core.List.{List, [], _∷_}
 use lib.Dec.{eqb}
-use Rattle.words.specs.Tables.{table}
+use Rattle.basics.specs.Tables.{table}
 use Rattle.lines.specs.declared.Entry.{Entry}
-use Rattle.lines.specs.declared.Entry.the-variants.{Rom}
 use Rattle.lines.specs.declared.Line.{Line}
-use Rattle.lines.specs.Lines.{first, layer, holds}
-use Rattle.rules.specs.Rules.{uses, paged, allRom, breaksPlain}
+use Rattle.lines.specs.Lines.{layer, holds}
 use Rattle.rules.specs.declared.Survey.{Survey}
+use Rattle.rules.specs.Rules.{uses, paged, allRom, breaksPlain}
 
 -- a number among the lines after the first is one more among all
 abbrev pub later : ℕ → ℕ
@@ -23,23 +20,9 @@ abbrev pub numberOf : (Entry → Bool) → List Line → ℕ
 numberOf f [] = 0
 numberOf f (l ∷ ls) = cond (f (l .entry)) 1 (later (numberOf f ls))
 
--- the line of a number
-abbrev pub noLine : Line
-noLine = record { source = 0; entry = Rom (record { 0 = 0 }) (record { 0 = 0 }) (record { 0 = 0 }) }
-
-abbrev pub lineOf : List Line → ℕ → Option Line
-lineOf lines n = cond (eqb n 0) none (some (getD lines (n - 1) noLine))
-
 -- an entry claims paragraph p of layer t
 abbrev pub claims : ℕ → ℕ → Entry → Bool
 claims t p e = eqb (layer e) t && holds e (256 * p)
-
--- 27: a plain line claims paragraph p; a PAGE line claims page j % 16 of chapter j / 16
-abbrev pub claimsParagraph : ℕ → Entry → Bool
-claimsParagraph p e = claims 0 p e
-
-abbrev pub claimsPage : ℕ → Entry → Bool
-claimsPage j e = eqb (layer e) (suc (j % 16)) && eqb (first e / 4096) (j / 16)
 
 -- the owners of all paragraphs, layer after layer: place n is that of paragraph n % 256 of layer n / 256
 abbrev pub claimsPlace : ℕ → Entry → Bool

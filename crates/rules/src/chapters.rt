@@ -1,17 +1,17 @@
 // What the owners say of each chapter: its slots in use, whether it has PAGE lines, and what covers its flippable range.
+ghost use Prim.Native.Nat.{_/_, _%_, _<_};
 ghost use mathlib.Core.Path.{_≡_};
 ghost use mathlib.Core.Bool.{cond};
 ghost use mathlib.Core.Option.{none, some};
-ghost use Prim.Native.Nat.{_/_, _%_, _<_};
 ghost use lib.Dec.{eqb};
-ghost use Rattle.words.specs.Tables.{table};
+ghost use Rattle.basics.specs.Tables.{table};
 ghost use Rattle.rules.specs.Rules.{isRom, isRamLine};
-ghost use Rattle.rules.specs.SurveyLaws.{usedIn, pagedIn, coverOf, chaptersOf, Few};
+ghost use Rattle.rules.specs.Code.Survey.{usedIn, pagedIn, coverOf, chaptersOf, Few};
 use crate::place_of;
 use crate::shape;
+use basics::both;
+use basics::either;
 use lines::Line;
-use words::both;
-use words::either;
 
 // Whether layer t of chapter x has an owner.
 pub(crate) fn is_used(owners: &[u8; 4352], x: usize, t: usize) -> bool

@@ -3,19 +3,20 @@ mod chapters;
 mod owners;
 mod shape;
 
+ghost use Prim.Native.Nat.{_-_, _≤_};
 ghost use mathlib.Core.Path.{_≡_};
 ghost use mathlib.Core.List.{[]};
 ghost use mathlib.Core.Bool.{false};
-ghost use Prim.Native.Nat.{_-_, _≤_};
 ghost use lib.ListN.{getD, take};
-ghost use Rattle.words.specs.Rows.{firstOf};
-ghost use Rattle.words.specs.Tables.{table};
+ghost use Rattle.basics.specs.Rows.{firstOf};
+ghost use Rattle.basics.specs.Tables.{table};
 ghost use Rattle.lines.specs.Typed.{All};
 ghost use Rattle.rules.specs.Rules.{passed, lineRows, shareRows};
-ghost use Rattle.rules.specs.Shapes.{Fine};
+ghost use Rattle.rules.specs.Code.Shapes.{Fine};
 ghost use Rattle.rules.specs.Judged.{judged, sharer, judgedOf};
 ghost use Rattle.rules.specs.Survey.{claimsPlace, places, surveyOf};
-ghost use Rattle.rules.specs.NumberLaws.{Owns};
+ghost use Rattle.rules.specs.Code.Numbers.{Owns};
+use basics::least;
 use chapters::chapters_of;
 use chapters::paged_of;
 use chapters::used_of;
@@ -26,7 +27,6 @@ use owners::least_owner;
 use owners::page_of;
 use owners::paragraphs_of;
 use owners::places_of;
-use words::least;
 
 // A refusal's number and place, 0 and 0 where nothing is refused; at 27 the earlier line that the named one collides with.
 pub struct Judged {

@@ -1,15 +1,16 @@
 // Who owns a place: the first line that claims it, by its number from 1 on.
-ghost use mathlib.Core.Path.{_≡_};
 ghost use Prim.Native.Nat.{_+_, _≤_};
+ghost use mathlib.Core.Path.{_≡_};
 ghost use lib.ListN.{length, getD};
-ghost use Rattle.words.specs.Lists.{laid};
+ghost use Rattle.basics.specs.Lists.{laid};
 ghost use Rattle.lines.specs.Lines.{first, last};
-ghost use Rattle.rules.specs.Survey.{claimsParagraph, claimsPage, claimsPlace, places};
-ghost use Rattle.rules.specs.NumberLaws.{takes, lesser, leastIn, Spans};
-ghost use Rattle.rules.specs.SpanLaws.{Reaches};
+ghost use Rattle.rules.specs.Code.Survey.{claimsParagraph, claimsPage};
+ghost use Rattle.rules.specs.Survey.{claimsPlace, places};
+ghost use Rattle.rules.specs.Code.Numbers.{takes, lesser, leastIn, Spans};
+ghost use Rattle.rules.specs.Code.Spans.{Reaches};
 use crate::shape;
+use basics::least;
 use lines::Entry;
-use words::least;
 
 // Places that an entry claims: so many, from one on.
 pub(crate) struct Span {

@@ -1,17 +1,17 @@
 // Rules 25 and 26 of one line: its range, and its shape (01, "What a CFG may say").
+ghost use Prim.Native.Nat.{_+_, _-_, _≤_};
 ghost use mathlib.Core.Path.{_≡_};
 ghost use mathlib.Core.Bool.{_||_, not};
-ghost use Prim.Native.Nat.{_+_, _-_, _≤_};
 ghost use lib.Dec.{leb};
 ghost use Rattle.lines.specs.Lines.{first, last, layer, isRam};
 ghost use Rattle.lines.specs.Typed.{Typed};
 ghost use Rattle.rules.specs.Rules.{offBin, outOfRange, meets, touchesSilent, plainShape, wholePage, halfPage, pageShape, misshapen};
+use basics::both;
+use basics::either;
 use lines::Entry;
 use places::BinWord;
 use places::Console;
 use places::Page;
-use words::both;
-use words::either;
 
 // How far b lies above a; 0 where it does not.
 fn above(a: usize, b: usize) -> usize

@@ -1,19 +1,21 @@
 -- The parts of a block, put in place one after the other: a data block, a hunk's payload, the tables, the header, a frame.
-use Prim.Native.Nat.{ℕ, zero, suc, _+_, _-_, _*_, _/_, _%_, _<_, _≤_, min}
-use mathlib.Core.Path.{_≡_, refl, sym, ap, _∙_}
-use mathlib.Core.List.{List, [], _∷_, _++_, append-assoc, append-nil}
+use Prim.Native.Nat.{ℕ, _+_, _*_, _-_, _≤_, _%_, _/_, _<_, min, zero, suc}
+use mathlib.Core.List.{List, _∷_, [], _++_, append-nil, append-assoc}
+use mathlib.Core.Path.{_≡_, refl, _∙_, ap, sym}
 use native.Mathlib.Omega.{arith}
+use lib.ListN.{length, set, length-set, drop, length-append, length-drop, take, drop-of-length-le, length-take}
 use lib.Dec.{ltb}
-use lib.ListN.{length, set, take, drop, length-append, length-take, length-drop, length-set, drop-of-length-le}
-use lib.Seq.{sets-eq, take-all, take-at, drop-at, drop-drop, length-take-le}
-use borrow.Author.Tests.{ltb-true, ltb-false}
+use lib.Seq.{take-all, drop-drop, sets-eq, length-take-le, drop-at, take-at}
 use borrow.Rule.Slice.PartMut.{putMid}
-use Rattle.words.specs.Tests.{cases}
-use Rattle.words.specs.Bytes.{bytes16, length-bytes16}
-use Rattle.words.specs.Wrote.{Wrote, wrote-none, wrote-set, wrote-part, wrote-all, wrote-long, wrote-again}
-use Rattle.sums.specs.Crc.{dowcrcOf, crc324Of}
-use Rattle.image.specs.Form.{joined, tables, hunk, headOf, headerOf, blockOf, dataOf, pieces, hunkPayload, tablesPayload}
-use Rattle.image.specs.FormLaws.{length-head, length-data, length-hunk, length-pieces, Cut, piece, hunk-pieces}
+use borrow.Author.Tests.{ltb-true, ltb-false}
+use Rattle.basics.specs.Bytes.{bytes16}
+use Rattle.basics.specs.Laws.Bytes.{length-bytes16}
+use Rattle.basics.specs.Laws.Wrote.{Wrote, wrote-set, wrote-none, wrote-all, wrote-part, wrote-again, wrote-long}
+use Rattle.basics.specs.Lists.{joined}
+use Rattle.basics.specs.Laws.Tests.{cases}
+use Rattle.sums.specs.Crc.{crc324Of, dowcrcOf}
+use Rattle.image.specs.Form.{dataOf, pieces, hunkPayload, hunk, blockOf, tablesPayload, tables, headOf, headerOf}
+use Rattle.image.specs.Laws.Form.{Cut, hunk-pieces, length-hunk, length-pieces, piece, length-data, length-head}
 
 -- a data block
 pub data-written :

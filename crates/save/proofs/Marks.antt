@@ -1,23 +1,25 @@
 -- The loops over the marks, and the whole image.
-use Prim.Native.Nat.{ℕ, _+_, _-_, _*_, _<_, _≤_}
-use mathlib.Core.Path.{_≡_, refl, sym, ap, _∙_}
-use mathlib.Core.List.{List, [], _∷_, _++_, append-assoc}
-use mathlib.Core.Bool.{Bool, true, false}
+use Prim.Native.Nat.{ℕ, _<_, _*_, _+_, _≤_, _-_}
+use mathlib.Core.List.{List, _++_, _∷_, [], append-assoc}
+use mathlib.Core.Bool.{Bool, false, true}
+use mathlib.Core.Path.{_≡_, refl, _∙_, ap, sym}
 use native.Mathlib.Omega.{arith}
 use native.Mathlib.Numerals.{add-one}
+use lib.ListN.{getD, length, set, length-append, length-set, take, drop}
 use lib.Dec.{ltb}
-use lib.ListN.{length, getD, set, take, drop, length-append, length-set}
 use borrow.Author.Tests.{lt-ltb, le-ltb}
 use borrow.Rule.Slice.PartMut.{putMid}
-use Rattle.words.specs.Tests.{and-true, and-false}
-use Rattle.words.specs.Counts.{count, count-more}
-use Rattle.words.specs.Wrote.{Wrote, wrote-none, wrote-set, wrote-part, wrote-all, wrote-long}
-use Rattle.cart.specs.Machine.{lent}
-use Rattle.image.specs.Form.{joined, Tables, hunk, headerOf, tablesBlock, tablesPayload, hunkBlock, hunkPayload, imageOf}
-use Rattle.image.specs.Chosen.{chosen, paragraphs, Sized, Chosen}
-use Rattle.image.specs.FormLaws.{length-header, length-block, length-tables, length-hunk, length-hunks}
-use Rattle.image.specs.ChosenLaws.{chosen-below, chosen-off, blocks-on, length-chosen, chosen-lie}
-use Rattle.save.specs.Writing.{isMarked, paragraphOf, marked, imageBy, past}
+use Rattle.basics.specs.Laws.Tests.{and-true, and-false}
+use Rattle.basics.specs.Counts.{count}
+use Rattle.basics.specs.Lists.{joined}
+use Rattle.basics.specs.Laws.Wrote.{Wrote, wrote-none, wrote-long, wrote-all, wrote-set, wrote-part}
+use Rattle.basics.specs.Laws.Counts.{count-more}
+use Rattle.places.specs.Limits.{paragraphs, lent}
+use Rattle.image.specs.Form.{hunkBlock, hunk, hunkPayload, Tables, headerOf, tablesBlock, imageOf, tablesPayload}
+use Rattle.image.specs.Chosen.{chosen, Chosen, Sized}
+use Rattle.image.specs.Laws.Form.{length-hunks, length-block, length-hunk, length-header, length-tables}
+use Rattle.image.specs.Laws.Chosen.{chosen-lie, chosen-below, length-chosen, chosen-off, blocks-on}
+use Rattle.save.specs.Writing.{isMarked, past, paragraphOf, marked, imageBy}
 
 -- a mark as the code reads it
 module _ (marks : List Bool) (p : ℕ) where

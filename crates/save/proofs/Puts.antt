@@ -1,13 +1,14 @@
 -- Words and bytes that a loop puts one after the other into a part of just their size.
-use Prim.Native.Nat.{ℕ, _+_, _*_, _/_, _%_, _<_, _≤_}
-use mathlib.Core.Path.{_≡_, refl, sym, ap, _∙_}
-use mathlib.Core.List.{List, [], _∷_, _++_, append-assoc}
+use Prim.Native.Nat.{ℕ, _≤_, _*_, _<_, _+_, _%_, _/_}
+use mathlib.Core.List.{List, _++_, _∷_, [], append-assoc}
+use mathlib.Core.Path.{_≡_, ap, _∙_, sym, refl}
 use native.Mathlib.Omega.{arith}
 use native.Mathlib.Numerals.{add-one}
-use lib.ListN.{length, getD, set, take, length-append, length-set}
-use lib.Seq.{take-all, take-suc, length-take-le}
-use Rattle.words.specs.Bytes.{bytes16, length-bytes16, bytes16-append}
-use Rattle.words.specs.Wrote.{Wrote, wrote-none, wrote-set, wrote-all}
+use lib.ListN.{length, take, getD, set, length-set, length-append}
+use lib.Seq.{take-all, length-take-le, take-suc}
+use Rattle.basics.specs.Laws.Wrote.{Wrote, wrote-all, wrote-none, wrote-set}
+use Rattle.basics.specs.Bytes.{bytes16}
+use Rattle.basics.specs.Laws.Bytes.{length-bytes16, bytes16-append}
 
 -- the first i of the words are put, k bytes each, by f
 pub record Putting (k : ℕ) (f : List ℕ → List ℕ) (ws out₀ out : List ℕ) (i : ℕ) : Type 0 where

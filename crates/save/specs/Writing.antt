@@ -1,18 +1,16 @@
 -- What the plain writer answers and what it leaves in the lent buffer (01, How an image is laid out by the builder; Numbers that come back).
-use Prim.Native.Nat.{ℕ, _+_, _*_}
-use mathlib.Core.List.{List, [], _∷_, _++_}
-use mathlib.Core.Bool.{Bool, false, cond, _&&_}
-use lib.ListN.{length, getD, drop}
+use Prim.Native.Nat.{ℕ, _*_, _+_}
+use mathlib.Core.List.{List, _∷_, [], _++_}
+use mathlib.Core.Bool.{Bool, false, _&&_, cond}
+use lib.ListN.{getD, length, drop}
 use lib.Dec.{ltb, eqb}
-use Rattle.words.specs.Lists.{part}
-use Rattle.words.specs.Counts.{some}
-use Rattle.words.specs.Rows.{Row, firstOf}
-use Rattle.cart.specs.Machine.{lent}
-use Rattle.tables.specs.Limits.{imageLimit}
+use Rattle.basics.specs.Lists.{part}
+use Rattle.basics.specs.Rows.{Row, firstOf}
+use Rattle.basics.specs.Counts.{any, lowest}
+use Rattle.places.specs.Limits.{paragraphs, lent, imageLimit}
 use Rattle.tables.specs.Tables.{unsupported}
-use Rattle.image.specs.Form.{Tables, Hunk, imageOf}
-use Rattle.image.specs.Chosen.{chosen, paragraphs}
-use Rattle.save.specs.Lowest.{lowest}
+use Rattle.image.specs.Form.{Hunk, Tables, imageOf}
+use Rattle.image.specs.Chosen.{chosen}
 use Rattle.save.specs.declared.Writing.{Writing}
 
 -- the marked paragraphs of a RAM, and the image that is to be written
@@ -43,7 +41,7 @@ done length = record { number = 0; place = 0; length = length }
 abbrev pub refusals : List ℕ → List ℕ → List ℕ → Tables → List ℕ → List Bool → List (Row Writing)
 refusals out flags uid t ram marks =
     (unsupported flags (t .permissions) (t .flips), refusal 10 0 0)
-    ∷ (some paragraphs (past marks (lent ram)), refusal 9 (lowest paragraphs (past marks (lent ram))) 0)
+    ∷ (any paragraphs (past marks (lent ram)), refusal 9 (lowest paragraphs (past marks (lent ram))) 0)
     ∷ (ltb imageLimit (length (imageBy flags uid t ram marks)), refusal 1 0 0)
     ∷ (ltb (length out) (length (imageBy flags uid t ram marks)), refusal 29 0 (length (imageBy flags uid t ram marks)))
     ∷ []

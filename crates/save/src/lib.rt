@@ -1,18 +1,18 @@
 // The plain writer: an image of the marked paragraphs of a RAM (01, "How an image is laid out by the builder").
+ghost use Prim.Native.Nat.{_+_, _*_, _≤_, _<_};
 ghost use mathlib.Core.Path.{_≡_};
 ghost use mathlib.Core.Bool.{false};
 ghost use mathlib.Core.List.{_++_, _∷_, []};
-ghost use Prim.Native.Nat.{_+_, _*_, _≤_, _<_};
 ghost use lib.ListN.{length, drop};
-ghost use Rattle.words.specs.Bytes.{bytes16};
-ghost use Rattle.words.specs.Counts.{count};
+ghost use Rattle.basics.specs.Bytes.{bytes16};
+ghost use Rattle.basics.specs.Counts.{count, lowest};
+ghost use Rattle.basics.specs.Lists.{joined};
+ghost use Rattle.places.specs.Limits.{lent, paragraphs};
 ghost use Rattle.sums.specs.Crc.{dowPoly, c324Poly, dowcrcOf, crc324Of};
 ghost use Rattle.sums.specs.Tables.{tablesOf};
-ghost use Rattle.cart.specs.Machine.{lent};
 ghost use Rattle.tables.specs.Tables.{unsupported};
-ghost use Rattle.image.specs.Form.{tables, hunk, blockOf, dataOf, dataWords, hunkPayload, tablesPayload, headOf, headerOf, tablesBlock, hunkBlock, joined};
-ghost use Rattle.image.specs.Chosen.{paragraphs, Sized, Chosen};
-ghost use Rattle.save.specs.Lowest.{lowest};
+ghost use Rattle.image.specs.Form.{tables, hunk, blockOf, dataOf, dataWords, hunkPayload, tablesPayload, headOf, headerOf, tablesBlock, hunkBlock};
+ghost use Rattle.image.specs.Chosen.{Sized, Chosen};
 ghost use Rattle.save.specs.Writing.{isMarked, paragraphOf, marked, imageBy, past, refusal, writingOf, writtenOf};
 
 // What writing answers: a refusal's number and place, 0 where there is none; the image's length, also where the
@@ -63,8 +63,8 @@ fn put_words(out: &mut [u8], words: &[u16])
     let mut i = 0;
     while i < words.len() {
         let w = words[i];
-        out[2 * i] = words::low(w);
-        out[2 * i + 1] = words::high(w);
+        out[2 * i] = basics::low(w);
+        out[2 * i + 1] = basics::high(w);
         i += 1;
     }
 }
@@ -85,12 +85,12 @@ fn put_hunk(out: &mut [u8], p: u16, words: &[u16])
     ensures { λ _. ⌜ now (out .exit) ≡ hunkPayload (hunk p (now (words .entry))) ⌝ }
 {
     out[0] = 0;
-    out[1] = words::low(p);
-    out[2] = words::high(p);
+    out[1] = basics::low(p);
+    out[2] = basics::high(p);
     let mut at = 3;
     let mut i = 0;
     while i < words.len() {
-        let n = words::least(image::DATA_WORDS, words.len() - i);
+        let n = basics::least(image::DATA_WORDS, words.len() - i);
         let e = at + (1 + 2 * n);
         let j = i + n;
         put_data(&mut out[at..e], &words[i..j]);
@@ -110,14 +110,14 @@ fn frame(out: &mut [u8], t: u8, dow: &[u32; 2048], crc: &[u32; 2048])
     let lower = (sum % 65536) as u16;
     let upper = (sum / 65536) as u16;
     out[0] = t;
-    out[1] = words::low(long);
-    out[2] = words::high(long);
+    out[1] = basics::low(long);
+    out[2] = basics::high(long);
     let start = header_sum(dow, &out[..3]);
     out[3] = start;
-    out[4] = words::low(lower);
-    out[5] = words::high(lower);
-    out[6] = words::low(upper);
-    out[7] = words::high(upper);
+    out[4] = basics::low(lower);
+    out[5] = basics::high(lower);
+    out[6] = basics::low(upper);
+    out[7] = basics::high(upper);
 }
 
 // The header's first 31 bytes; then all 32, with their checksum.
@@ -285,7 +285,7 @@ fn write_parts(
     ensures { λ r. ⌜ (r ≡ writingOf (now (out .entry)) (now (flags .entry)) (now (uid .entry)) (tables (now (mapping .entry)) (now (permissions .entry)) (now (flips .entry))) (now (ram .entry)) (now (marks .entry)))
         × (now (out .exit) ≡ writtenOf (now (out .entry)) (now (flags .entry)) (now (uid .entry)) (tables (now (mapping .entry)) (now (permissions .entry)) (now (flips .entry))) (now (ram .entry)) (now (marks .entry))) ⌝ }
 {
-    let first = lowest_past(marks, words::least(ram.len(), 256 * image::PARAGRAPHS));
+    let first = lowest_past(marks, basics::least(ram.len(), 256 * image::PARAGRAPHS));
     if first < image::PARAGRAPHS {
         return answer(9, first as u32, 0);
     }

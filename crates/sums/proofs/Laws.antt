@@ -1,16 +1,16 @@
 -- What one turn of each loop does: one entry more of the tables; eight bytes more of a sum, or one.
-use Prim.Native.Nat.{ℕ, _+_, _-_, _*_, _/_, _%_, _<_, _≤_}
-use mathlib.Core.Path.{_≡_, sym, ap, _∙_}
+use Prim.Native.Nat.{ℕ, _<_, _+_, _≤_, _-_, _/_, _%_, _*_}
 use mathlib.Core.List.{List}
-use native.Mathlib.Numerals.{add-one}
+use mathlib.Core.Path.{_≡_, _∙_, sym, ap}
 use native.Mathlib.Omega.{arith}
-use lib.ListN.{length, getD, set, drop, drop-of-length-le}
-use lib.Seq.{drop-cons}
+use native.Mathlib.Numerals.{add-one}
+use lib.ListN.{set, getD, length, drop, drop-of-length-le}
 use lib.Bits.{bitXor}
-use Rattle.words.specs.Tables.{Filled, filled-more}
+use lib.Seq.{drop-cons}
+use Rattle.basics.specs.Laws.Tables.{Filled, filled-more}
+use Rattle.sums.specs.Tables.{entryOf, byEights, byEight, byBytes, entryAt}
 use Rattle.sums.specs.Crc.{crcBits}
-use Rattle.sums.specs.Tables.{entryOf, entryAt, byBytes, byEight, byEights}
-use Rattle.sums.specs.TablesLaws.{entry-first, entry-next}
+use Rattle.sums.specs.Laws.Tables.{entry-first, entry-next}
 
 -- the first i entries of the tables of p stand in t
 abbrev pub Tabled : ℕ → ℕ → List ℕ → Type 0

@@ -1,5 +1,6 @@
 -- Any two answers that the promise of a public function allows are equal (01, What the promises rule out).
-use Rattle.words.specs.Same.{OneAnswer, same}
+use Rattle.basics.specs.Same.{OneAnswer}
+use Rattle.basics.specs.Laws.Same.{same}
 use Rattle.sums.proofs.tables.Reads as tables
 use Rattle.sums.proofs.sum_by.Reads as sum-by
 use Rattle.sums.proofs.dowcrc_by.Reads as dowcrc-by

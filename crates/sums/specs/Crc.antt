@@ -1,6 +1,6 @@
 -- Right-shifting checksums: one definition over the polynomial, and the three that a LUIGI image has
 -- (01, File layout; 001, the three "Reference Implementation" sections).
-use Prim.Native.Nat.{ℕ, zero, suc, _/_, _%_}
+use Prim.Native.Nat.{ℕ, _/_, _%_, zero, suc}
 use mathlib.Core.Bool.{cond}
 use mathlib.Core.List.{List, [], _∷_}
 use lib.Bits.{bitXor}

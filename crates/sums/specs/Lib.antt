@@ -2,7 +2,4 @@
 pub mod Crc
 pub mod Tables
 pub mod Cases
-pub mod Lists
-pub mod Xor
-pub mod CrcLaws
-pub mod TablesLaws
+pub mod Laws

@@ -1,9 +1,9 @@
 -- The tables of a polynomial, and a sum by lent tables: eight bytes at a time while eight are left, then byte by byte.
-use Prim.Native.Nat.{ℕ, zero, suc, _+_, _*_, _/_, _%_}
+use Prim.Native.Nat.{ℕ, _*_, _/_, _+_, _%_, zero, suc}
 use mathlib.Core.List.{List, [], _∷_}
-use lib.ListN.{length, getD, drop}
+use lib.ListN.{getD, length, drop}
 use lib.Bits.{bitXor}
-use Rattle.words.specs.Tables.{table}
+use Rattle.basics.specs.Tables.{table}
 use Rattle.sums.specs.Crc.{crcBits}
 
 -- eight tables of 256 in one list: entry k of table j is what a byte k comes to when j bytes follow it

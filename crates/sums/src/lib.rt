@@ -1,8 +1,8 @@
 // DOWCRC, CRC32/4 and IEEE CRC32: one maker of tables over the polynomial, and one sum over lent tables.
-ghost use mathlib.Core.Path.{_≡_};
 ghost use Prim.Native.Nat.{_+_, _/_, _%_, _<_, _≤_};
+ghost use mathlib.Core.Path.{_≡_};
 ghost use lib.ListN.{length};
-ghost use Rattle.words.specs.Tables.{Filled};
+ghost use Rattle.basics.specs.Laws.Tables.{Filled};
 ghost use Rattle.sums.specs.Crc.{crcBit, crcBits, dowcrcOf, crc324Of, crc32Of};
 ghost use Rattle.sums.specs.Tables.{entryOf, tablesOf, entryAt, byBytes, byEight, byEights, byTables};
 

@@ -1,5 +1,6 @@
 -- Any two answers that the promise of a public function allows are equal (01, What the promises rule out).
-use Rattle.words.specs.Same.{OneAnswer, same}
+use Rattle.basics.specs.Same.{OneAnswer}
+use Rattle.basics.specs.Laws.Same.{same}
 use Rattle.tables.proofs.compat_of.Reads as compat-of
 use Rattle.tables.proofs.no_compat.Reads as no-compat
 use Rattle.tables.proofs.cartridge_of.Reads as cartridge-of

@@ -1,9 +1,9 @@
 -- The 16 flag bytes of a header: flag n is bit n mod 8 of byte n div 8 (01, File layout; 001, Feature Flags).
-use Prim.Native.Nat.{ℕ, _/_, _%_, _^_}
+use Prim.Native.Nat.{ℕ, _/_, _^_, _%_}
 use mathlib.Core.List.{List}
 use mathlib.Core.Bool.{Bool}
-use lib.ListN.{getD}
 use lib.Dec.{eqb}
+use lib.ListN.{getD}
 use Rattle.tables.specs.declared.Compat.{Compat}
 
 abbrev pub flag : List ℕ → ℕ → Bool

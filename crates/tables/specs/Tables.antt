@@ -4,12 +4,12 @@ use mathlib.Core.List.{List}
 use mathlib.Core.Bool.{Bool, not, _||_}
 use lib.ListN.{getD, replicate}
 use lib.Dec.{eqb}
-use Rattle.words.specs.Bytes.{at16}
-use Rattle.words.specs.Tables.{table}
-use Rattle.words.specs.Counts.{some}
+use Rattle.basics.specs.Tables.{table}
+use Rattle.basics.specs.Bytes.{at16}
+use Rattle.basics.specs.Counts.{any}
 use Rattle.cart.specs.declared.Cartridge.{Cartridge}
 use Rattle.cart.specs.Machine.{PFE}
-use Rattle.tables.specs.Flags.{flag, field}
+use Rattle.tables.specs.Flags.{field, flag}
 
 -- 256 entries of 16 bits, and of 8, that stand at a place
 abbrev pub words256 : List ℕ → ℕ → List ℕ
@@ -43,10 +43,10 @@ BANKSW x = eqb (x / 8 % 2) 1
 
 -- BANKSW on a paragraph divisible by 8, of which there are 32; PFE in chapter 1
 abbrev pub switches : List ℕ → Bool
-switches permissions = some 32 (λ h. BANKSW (getD permissions (8 * h) 0))
+switches permissions = any 32 (λ h. BANKSW (getD permissions (8 * h) 0))
 
 abbrev pub flipsOne : List ℕ → Bool
-flipsOne flips = some 16 (λ y. PFE (getD flips (16 + y) 0))
+flipsOne flips = any 16 (λ y. PFE (getD flips (16 + y) 0))
 
 -- 10: JLP field (flags 16-17) not 0, flag 32 set, or one of these
 unfoldable pub unsupported : List ℕ → List ℕ → List ℕ → Bool

@@ -1,12 +1,12 @@
 // What a header's flags and a tables block say: the compatibility fields, the cartridge, and refusal 10.
-ghost use mathlib.Core.Path.{_≡_};
 ghost use Prim.Native.Nat.{_+_, _*_, _≤_};
-ghost use Rattle.words.specs.Bytes.{at16};
+ghost use mathlib.Core.Path.{_≡_};
+ghost use Rattle.basics.specs.Bytes.{at16};
 ghost use Rattle.tables.specs.Flags.{compatOf, noCompat};
 ghost use Rattle.tables.specs.Tables.{words256, bytes256, cartridgeOf, noCartridge, switches, flipsOne, unsupported};
+use basics::byte_at;
+use basics::wide16;
 use cart::Cartridge;
-use words::byte_at;
-use words::wide16;
 
 // The longest image.
 pub const IMAGE_LIMIT: usize = 1048576;

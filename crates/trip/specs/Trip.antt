@@ -1,21 +1,20 @@
 -- What a load makes of an image of the form, and what comes back of what was written.
-use Prim.Native.Nat.{ℕ, _+_, _*_, _/_, _%_, _<_, _≤_}
-use mathlib.Core.Path.{_≡_}
+use Prim.Native.Nat.{_*_, ℕ, _+_, _/_, _<_, _%_, _≤_}
 use mathlib.Core.List.{List, map}
+use mathlib.Core.Path.{_≡_}
 use mathlib.Core.Bool.{Bool, true, false}
 use mathlib.Core.Logic.{_⊎_}
 use lib.ListN.{length, getD}
-use Rattle.words.specs.Counts.{count}
+use Rattle.basics.specs.Counts.{count}
+use Rattle.places.specs.Limits.{lent, paragraphs}
 use Rattle.cart.specs.declared.Cartridge.{Cartridge}
-use Rattle.cart.specs.Machine.{lent}
-use Rattle.tables.specs.Flags.{compatOf}
 use Rattle.tables.specs.Tables.{fresh}
-use Rattle.image.specs.Form.{Tables, Hunk}
-use Rattle.image.specs.Chosen.{paragraphs}
-use Rattle.save.specs.Writing.{isMarked}
+use Rattle.tables.specs.Flags.{compatOf}
+use Rattle.load.specs.declared.Loading.{Loading}
 use Rattle.load.specs.Blocks.{Hunk as Loaded, overlay}
 use Rattle.load.specs.Load.{loadingOf, loadRamOf}
-use Rattle.load.specs.declared.Loading.{Loading}
+use Rattle.image.specs.Form.{Hunk, Tables}
+use Rattle.save.specs.Writing.{isMarked}
 
 -- where a hunk's words go: from the first word of its paragraph on
 abbrev pub placed : Hunk → Loaded

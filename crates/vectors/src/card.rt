@@ -9,9 +9,9 @@ use crate::record::ends;
 use crate::record::front;
 use crate::record::get16;
 use crate::record::rest;
+use basics::both;
+use basics::least;
 use report::Report;
-use words::both;
-use words::least;
 
 // The card's RAM.
 const CARD_WORDS: usize = 16384;

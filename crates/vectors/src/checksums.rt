@@ -7,7 +7,7 @@ use crate::record::has32;
 use crate::tally::Tally;
 use crate::tally::counted;
 use crate::tally::nothing;
-use words::both;
+use basics::both;
 
 fn three(t: Tally, s: &[u8], dow: u8, c324: u32, ieee: u32) -> Tally {
     let a = counted(t, sums::dowcrc(s) == dow);

@@ -22,8 +22,8 @@ fn pack(words: &[u16], out: &mut [u8]) -> usize {
     let mut i = 0;
     while i < words.len() {
         let w = words[i];
-        put_at(out, 2 * i, words::low(w));
-        put_at(out, 2 * i + 1, words::high(w));
+        put_at(out, 2 * i, basics::low(w));
+        put_at(out, 2 * i + 1, basics::high(w));
         i += 1;
     }
     2 * i

@@ -2,8 +2,8 @@
 use crate::record::after;
 use crate::record::get16;
 use crate::record::get32;
-use words::byte_at;
-use words::least;
+use basics::byte_at;
+use basics::least;
 
 // How many bytes or words were made, and the place of the record's next field.
 pub struct Taken {

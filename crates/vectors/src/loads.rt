@@ -11,11 +11,11 @@ use crate::record::front_words;
 use crate::record::get32;
 use crate::record::has8;
 use crate::record::has32;
+use basics::both;
+use basics::least;
 use cart::Cartridge;
 use load::Loading;
 use tables::Compat;
-use words::both;
-use words::least;
 
 fn same_compat(rec: &[u8], at: usize, c: Compat) -> bool {
     let voice = has8(rec, at, 0, c.intellivoice as usize);

@@ -1,7 +1,7 @@
 // Runs 001's vectors, and the vector files that the independent second program makes (second/README.md), and compares:
 // a line for each family, and the first case that differs.
-ghost use mathlib.Core.Path.{_≡_};
 ghost use Prim.Native.Nat.{_≤_, _<_};
+ghost use mathlib.Core.Path.{_≡_};
 ghost use lib.ListN.{length};
 use crate::record::front;
 use crate::tally::Tally;

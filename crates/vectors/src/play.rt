@@ -16,8 +16,8 @@ pub struct Played {
 // Whether a read's answer is the record's: a word that is heard, or silence.
 fn is_answer(answer: Answer, value: u16, heard: usize) -> bool {
     match answer {
-        Answer::Word(w) => words::both(heard == 1, w == value),
-        Answer::Silence => words::both(heard == 0, value == 0),
+        Answer::Word(w) => basics::both(heard == 1, w == value),
+        Answer::Silence => basics::both(heard == 0, value == 0),
     }
 }
 
@@ -61,7 +61,7 @@ fn play(rec: &[u8], at: usize, c: Cartridge, ram: &mut [u16]) -> Played {
     while i < n {
         let before = now.cartridge;
         let done = access(rec, now.next, before, ram);
-        let good = words::both(now.good, done.good);
+        let good = basics::both(now.good, done.good);
         now = done;
         now.good = good;
         i += 1;
@@ -71,6 +71,6 @@ fn play(rec: &[u8], at: usize, c: Cartridge, ram: &mut [u16]) -> Played {
 
 // The accesses on the first n words of a RAM.
 pub fn play_in(rec: &[u8], at: usize, c: Cartridge, ram: &mut [u16], n: usize) -> Played {
-    let k = words::least(n, ram.len());
+    let k = basics::least(n, ram.len());
     play(rec, at, c, &mut ram[0..k])
 }

@@ -1,9 +1,9 @@
 // The fields of a record, each at its place. Past the record's end every byte is 0, so no read can fail: a record that
 // is cut differs in its answers, or in where it ends.
 ghost use Prim.Native.Nat.{_<_};
-use words::byte_at;
-use words::least;
-use words::wide;
+use basics::byte_at;
+use basics::least;
+use basics::wide;
 
 // The place n bytes after a place.
 pub fn after(at: usize, n: usize) -> usize {

@@ -9,9 +9,9 @@ use crate::record::front;
 use crate::record::get32;
 use crate::record::has8;
 use crate::record::has32;
+use basics::both;
+use basics::least;
 use build::Building;
-use words::both;
-use words::least;
 
 // How many bytes the BIN and the CFG have, and the place of the record's next field.
 struct Title {

@@ -11,10 +11,10 @@ use crate::record::front_words;
 use crate::record::get8;
 use crate::record::has8;
 use crate::record::has32;
+use basics::both;
+use basics::least;
 use cart::Cartridge;
 use save::Writing;
-use words::both;
-use words::least;
 
 // Paragraph p is bit p mod 8 of byte p div 8.
 fn marks_of(bits: &[u8]) -> [bool; 2048] {

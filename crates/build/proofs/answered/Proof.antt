@@ -1,5 +1,5 @@
 -- `build::answered` meets its contract.
-use borrow.Author.Tests.{eq-eqb, ne-eqb}
+use borrow.Author.Tests.{ne-eqb, eq-eqb}
 use borrow.Author.Needs.{needs}
 use Rattle.build.proofs.answered.Statement.{statement}
 use Rattle.build.proofs.answered.Tie as tie

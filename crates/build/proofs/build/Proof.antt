@@ -1,8 +1,8 @@
 -- `build::build` meets its contract: each way out by its law.
 use mathlib.Core.Path.{refl}
 use native.Mathlib.Omega.{arith}
-use Rattle.build.specs.AnswerLaws.{bin-small, refused-bin, refused-cfg, refused-lines, accepts, pressed}
 use borrow.Author.Needs.{needs}
+use Rattle.build.specs.Laws.Answers.{refused-bin, refused-cfg, bin-small, refused-lines, accepts, pressed}
 use Rattle.build.proofs.build.Statement.{statement}
 use Rattle.build.proofs.build.Tie as tie
 

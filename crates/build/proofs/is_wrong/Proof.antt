@@ -1,6 +1,6 @@
 -- `build::is_wrong` meets its contract, by what the tests that it joins ensure.
-use Rattle.build.specs.Building.{wrongBin}
 use borrow.Author.Needs.{needs}
+use Rattle.build.specs.Building.{wrongBin}
 use Rattle.build.proofs.is_wrong.Statement.{statement}
 use Rattle.build.proofs.is_wrong.Tie as tie
 

@@ -3,10 +3,10 @@ use Prim.Native.Nat.{ℕ}
 use mathlib.Core.Path.{ap}
 use native.Mathlib.Omega.{arith}
 use lib.ListN.{length-replicate}
-use Rattle.layout.specs.Plan.{planOf}
-use Rattle.layout.specs.Few.{pages-80}
-use Rattle.build.specs.PressLaws.{pressed-as}
 use borrow.Author.Needs.{needs}
+use Rattle.layout.specs.Plan.{planOf}
+use Rattle.layout.specs.Laws.Few.{pages-80}
+use Rattle.build.specs.Laws.Press.{pressed-as}
 use Rattle.build.proofs.press.Statement.{statement}
 use Rattle.build.proofs.press.Tie as tie
 

@@ -1,6 +1,6 @@
 -- `build::uid_of` meets its contract: the bytes of the two sums.
-use Rattle.build.specs.Building.{uidOf}
 use borrow.Author.Needs.{needs}
+use Rattle.build.specs.Building.{uidOf}
 use Rattle.build.proofs.uid_of.Statement.{statement}
 use Rattle.build.proofs.uid_of.Tie as tie
 

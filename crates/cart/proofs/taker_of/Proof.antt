@@ -1,6 +1,6 @@
 -- `cart::taker_of` meets its contract: each return has decided the tests of `takerOf` at the request's entry.
-use Rattle.words.specs.Tests.{tests}
 use borrow.Author.Needs.{needs}
+use Rattle.basics.specs.Laws.Tests.{tests}
 use Rattle.cart.proofs.taker_of.Statement.{statement}
 use Rattle.cart.proofs.taker_of.Tie as tie
 

@@ -1,6 +1,6 @@
 -- `cart::write` meets its contract: who takes the write is decided once, and each case has its law.
-use Rattle.cart.specs.MachineLaws.{writes}
 use borrow.Author.Needs.{needs}
+use Rattle.cart.specs.Laws.Machine.{writes}
 use Rattle.cart.proofs.write.Statement.{statement}
 use Rattle.cart.proofs.write.Tie as tie
 

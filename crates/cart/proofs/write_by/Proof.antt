@@ -1,6 +1,6 @@
 -- `cart::write_by` meets its contract: who takes the write is decided once, and each case has its law.
-use Rattle.cart.specs.MachineLaws.{lent-writes}
 use borrow.Author.Needs.{needs}
+use Rattle.cart.specs.Laws.Machine.{lent-writes}
 use Rattle.cart.proofs.write_by.Statement.{statement}
 use Rattle.cart.proofs.write_by.Tie as tie
 

@@ -2,10 +2,10 @@
 use Prim.Native.Nat.{_-_}
 use native.Mathlib.Omega.{arith}
 use lib.ListN.{length}
-use Rattle.cfg.specs.Steps.{Scanned}
-use Rattle.cfg.proofs.Ends.{end-within}
-use Rattle.cfg.proofs.Scans.{scanned-start, scanned-more, scanned-all, scanned-few}
 use borrow.Author.Needs.{needs}
+use Rattle.cfg.specs.Laws.Steps.{Scanned}
+use Rattle.cfg.proofs.Scans.{scanned-start, scanned-few, scanned-more, scanned-all}
+use Rattle.cfg.proofs.Ends.{end-within}
 use Rattle.cfg.proofs.scan_lines.Statement.{statement}
 use Rattle.cfg.proofs.scan_lines.Tie as tie
 

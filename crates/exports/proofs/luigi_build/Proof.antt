@@ -1,6 +1,6 @@
 -- `exports::luigi_build` meets its contract: it answers what the build answers.
+use mathlib.Core.Path.{_∙_, ap}
 use borrow.Author.Needs.{needs}
-use mathlib.Core.Path.{ap, _∙_}
 use Rattle.exports.specs.Builds.{builtAs}
 use Rattle.exports.proofs.luigi_build.Statement.{statement}
 use Rattle.exports.proofs.luigi_build.Tie as tie

@@ -1,6 +1,6 @@
 -- `exports::luigi_load` meets its contract: it answers what the load answers.
+use mathlib.Core.Path.{_∙_, ap}
 use borrow.Author.Needs.{needs}
-use mathlib.Core.Path.{ap, _∙_}
 use Rattle.exports.specs.Loads.{loadedOf}
 use Rattle.exports.proofs.luigi_load.Statement.{statement}
 use Rattle.exports.proofs.luigi_load.Tie as tie

@@ -1,12 +1,12 @@
 -- `exports::luigi_reads` meets its contract. The invariant: the first i words of `out` are the answers to the first i reads.
-use borrow.Author.Needs.{needs}
 use Prim.Native.Nat.{_≤_, _-_}
 use mathlib.Core.Path.{_≡_}
-use native.Mathlib.Omega.{arith}
 use native.Mathlib.Nat.{min-le-left, min-le-right}
+use native.Mathlib.Omega.{arith}
 use lib.ListN.{length}
+use borrow.Author.Needs.{needs}
 use Rattle.exports.specs.Runs.{answered}
-use Rattle.exports.specs.RunsLaws.{answered-none, answered-one}
+use Rattle.exports.specs.Laws.Runs.{answered-none, answered-one}
 use Rattle.exports.proofs.luigi_reads.Statement.{statement}
 use Rattle.exports.proofs.luigi_reads.Tie as tie
 

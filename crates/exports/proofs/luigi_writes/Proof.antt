@@ -1,13 +1,13 @@
 -- `exports::luigi_writes` meets its contract. The invariant: the lent tables and the RAM are what the first i writes leave.
-use borrow.Author.Needs.{needs}
 use Prim.Native.Nat.{_≤_, _-_}
 use mathlib.Core.Path.{_≡_, _∙_}
-use native.Mathlib.Omega.{arith}
 use native.Mathlib.Nat.{min-le-left, min-le-right}
+use native.Mathlib.Omega.{arith}
 use lib.ListN.{length}
+use borrow.Author.Needs.{needs}
 use Rattle.cart.specs.Machine.{actingBy}
+use Rattle.exports.specs.Laws.Runs.{Lent, lent-none, lent-one, lent-last}
 use Rattle.exports.specs.Runs.{written}
-use Rattle.exports.specs.RunsLaws.{Lent, lent-none, lent-one, lent-last}
 use Rattle.exports.proofs.luigi_writes.Statement.{statement}
 use Rattle.exports.proofs.luigi_writes.Tie as tie
 

@@ -1,14 +1,14 @@
 -- `exports::luigi_writes_by_value` meets its contract. The invariant: c and the RAM are what the first i writes leave.
-use borrow.Author.Needs.{needs}
-use Prim.Native.Nat.{ℕ, _≤_, _-_}
+use Prim.Native.Nat.{_≤_, _-_, ℕ}
 use mathlib.Core.Path.{_≡_, _∙_}
 use mathlib.Core.List.{List}
-use native.Mathlib.Omega.{arith}
 use native.Mathlib.Nat.{min-le-left, min-le-right}
+use native.Mathlib.Omega.{arith}
 use lib.ListN.{length}
+use borrow.Author.Needs.{needs}
 use Rattle.cart.specs.declared.Cartridge.{Cartridge}
-use Rattle.exports.specs.Runs.{writes, written}
-use Rattle.exports.specs.RunsLaws.{cartridge-one, ram-one}
+use Rattle.exports.specs.Runs.{written, writes}
+use Rattle.exports.specs.Laws.Runs.{cartridge-one, ram-one}
 use Rattle.exports.proofs.luigi_writes_by_value.Statement.{statement}
 use Rattle.exports.proofs.luigi_writes_by_value.Tie as tie
 

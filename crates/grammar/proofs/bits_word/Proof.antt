@@ -1,7 +1,7 @@
 -- `grammar::bits_word` meets its contract: the code's tests are the definition's.
+use borrow.Author.Needs.{needs}
 use Rattle.grammar.specs.Grammar.{bits}
 use Rattle.grammar.proofs.Digits.{by-first, by-second, by-neither}
-use borrow.Author.Needs.{needs}
 use Rattle.grammar.proofs.bits_word.Statement.{statement}
 use Rattle.grammar.proofs.bits_word.Tie as tie
 

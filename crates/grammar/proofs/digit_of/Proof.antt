@@ -1,8 +1,8 @@
 -- `grammar::digit_of` meets its contract: a law for each arm of the match.
 use mathlib.Core.Logic.{inl, inr}
 use native.Mathlib.Omega.{arith}
-use Rattle.grammar.proofs.Digits.{decimal, upper, lower, no-digit}
 use borrow.Author.Needs.{needs}
+use Rattle.grammar.proofs.Digits.{decimal, upper, lower, no-digit}
 use Rattle.grammar.proofs.digit_of.Statement.{statement}
 use Rattle.grammar.proofs.digit_of.Tie as tie
 

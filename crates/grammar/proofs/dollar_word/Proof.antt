@@ -1,6 +1,6 @@
 -- `grammar::dollar_word` meets its contract: a law for each way out.
-use Rattle.grammar.proofs.Digits.{dollar-short, dollar-long, dollar-other, dollar-digits}
 use borrow.Author.Needs.{needs}
+use Rattle.grammar.proofs.Digits.{dollar-short, dollar-long, dollar-digits, dollar-other}
 use Rattle.grammar.proofs.dollar_word.Statement.{statement}
 use Rattle.grammar.proofs.dollar_word.Tie as tie
 

@@ -1,11 +1,11 @@
 -- `grammar::hex` meets its contract. The invariant: n is what the digits passed make, and what is left goes on from n.
-use Prim.Native.Nat.{_≤_, _<_, _-_, _^_}
+use Prim.Native.Nat.{_≤_, _<_, _^_, _-_}
 use mathlib.Core.Path.{_≡_}
 use native.Mathlib.Omega.{arith}
 use lib.ListN.{length, drop}
-use Rattle.grammar.specs.Grammar.{hexFrom}
-use Rattle.grammar.proofs.Digits.{hex-start, hex-grows, hex-small, hex-other, hex-digit, hex-end}
 use borrow.Author.Needs.{needs}
+use Rattle.grammar.specs.Grammar.{hexFrom}
+use Rattle.grammar.proofs.Digits.{hex-start, hex-other, hex-small, hex-grows, hex-digit, hex-end}
 use Rattle.grammar.proofs.hex.Statement.{statement}
 use Rattle.grammar.proofs.hex.Tie as tie
 

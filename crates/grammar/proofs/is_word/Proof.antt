@@ -2,9 +2,9 @@
 use Prim.Native.Nat.{_≤_, _-_}
 use mathlib.Core.Path.{_≡_}
 use lib.ListN.{length, drop}
+use borrow.Author.Needs.{needs}
 use Rattle.grammar.specs.Grammar.{same}
 use Rattle.grammar.proofs.Digits.{same-byte, same-other, same-longer, same-end}
-use borrow.Author.Needs.{needs}
 use Rattle.grammar.proofs.is_word.Statement.{statement}
 use Rattle.grammar.proofs.is_word.Tie as tie
 

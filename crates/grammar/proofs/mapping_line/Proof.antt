@@ -1,6 +1,6 @@
 -- `grammar::mapping_line` meets its contract: which words there are tells the entry's shape.
-use Rattle.grammar.proofs.Shapes.{mapping-plain, mapping-paged, mapping-more}
 use borrow.Author.Needs.{needs}
+use Rattle.grammar.proofs.Shapes.{mapping-plain, mapping-paged, mapping-more}
 use Rattle.grammar.proofs.mapping_line.Statement.{statement}
 use Rattle.grammar.proofs.mapping_line.Tie as tie
 

@@ -1,6 +1,6 @@
 -- `grammar::memattr_line` meets its contract: which words there are tells the entry's shape.
-use Rattle.grammar.proofs.Shapes.{memattr-ram, memattr-more}
 use borrow.Author.Needs.{needs}
+use Rattle.grammar.proofs.Shapes.{memattr-ram, memattr-more}
 use Rattle.grammar.proofs.memattr_line.Statement.{statement}
 use Rattle.grammar.proofs.memattr_line.Tie as tie
 

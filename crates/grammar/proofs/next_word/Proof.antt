@@ -1,6 +1,6 @@
 -- `grammar::next_word` meets its contract: a law for each kind of byte that stands where the blanks end.
-use Rattle.grammar.proofs.Cuts.{next-sign, next-letters, next-comment, next-end}
 use borrow.Author.Needs.{needs}
+use Rattle.grammar.proofs.Cuts.{next-sign, next-letters, next-comment, next-end}
 use Rattle.grammar.proofs.next_word.Statement.{statement}
 use Rattle.grammar.proofs.next_word.Tie as tie
 

@@ -1,7 +1,7 @@
 -- `grammar::page_word` meets its contract: the code's test is the definition's.
-use Rattle.words.specs.Tests.{tests}
-use Rattle.grammar.specs.Grammar.{page}
 use borrow.Author.Needs.{needs}
+use Rattle.basics.specs.Laws.Tests.{tests}
+use Rattle.grammar.specs.Grammar.{page}
 use Rattle.grammar.proofs.page_word.Statement.{statement}
 use Rattle.grammar.proofs.page_word.Tie as tie
 

@@ -1,7 +1,7 @@
 -- `grammar::paged_line` meets its contract: straight calls, so what each ensures is put in.
-use Rattle.grammar.specs.Grammar.{pagedLine}
-use Rattle.grammar.specs.GrammarLaws.{after-fits, page-fits}
 use borrow.Author.Needs.{needs}
+use Rattle.grammar.specs.Grammar.{pagedLine}
+use Rattle.grammar.specs.Laws.Grammar.{after-fits, page-fits}
 use Rattle.grammar.proofs.paged_line.Statement.{statement}
 use Rattle.grammar.proofs.paged_line.Tie as tie
 

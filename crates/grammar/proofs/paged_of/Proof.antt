@@ -1,7 +1,7 @@
 -- `grammar::paged_of` meets its contract: each number that is taken apart decides a step of the definition.
+use borrow.Author.Needs.{needs}
 use Rattle.grammar.specs.Grammar.{pagedOf}
 use Rattle.grammar.proofs.Shapes.{bind-is, bind-not}
-use borrow.Author.Needs.{needs}
 use Rattle.grammar.proofs.paged_of.Statement.{statement}
 use Rattle.grammar.proofs.paged_of.Tie as tie
 

@@ -1,7 +1,7 @@
 -- `grammar::ram_line` meets its contract: straight calls, so what each ensures is put in.
-use Rattle.grammar.specs.Grammar.{ramLine}
-use Rattle.grammar.specs.GrammarLaws.{address-fits, after-fits}
 use borrow.Author.Needs.{needs}
+use Rattle.grammar.specs.Grammar.{ramLine}
+use Rattle.grammar.specs.Laws.Grammar.{address-fits, after-fits}
 use Rattle.grammar.proofs.ram_line.Statement.{statement}
 use Rattle.grammar.proofs.ram_line.Tie as tie
 

@@ -1,7 +1,7 @@
 -- `grammar::ram_of` meets its contract: each number that is taken apart decides a step of the definition.
+use borrow.Author.Needs.{needs}
 use Rattle.grammar.specs.Grammar.{ramOf}
 use Rattle.grammar.proofs.Shapes.{bind-is, bind-not}
-use borrow.Author.Needs.{needs}
 use Rattle.grammar.proofs.ram_of.Statement.{statement}
 use Rattle.grammar.proofs.ram_of.Tie as tie
 

@@ -1,6 +1,6 @@
 -- `grammar::read_line` meets its contract: no word, one word, or an entry by its section.
-use Rattle.grammar.proofs.Shapes.{says-blank, says-heading, says-nowhere, says-mapping, says-memattr}
 use borrow.Author.Needs.{needs}
+use Rattle.grammar.proofs.Shapes.{says-blank, says-heading, says-nowhere, says-mapping, says-memattr}
 use Rattle.grammar.proofs.read_line.Statement.{statement}
 use Rattle.grammar.proofs.read_line.Tie as tie
 

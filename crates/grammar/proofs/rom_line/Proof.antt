@@ -1,7 +1,7 @@
 -- `grammar::rom_line` meets its contract: straight calls, so what each ensures is put in.
-use Rattle.grammar.specs.Grammar.{romLine}
-use Rattle.grammar.specs.GrammarLaws.{after-fits}
 use borrow.Author.Needs.{needs}
+use Rattle.grammar.specs.Grammar.{romLine}
+use Rattle.grammar.specs.Laws.Grammar.{after-fits}
 use Rattle.grammar.proofs.rom_line.Statement.{statement}
 use Rattle.grammar.proofs.rom_line.Tie as tie
 

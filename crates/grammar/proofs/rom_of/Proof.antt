@@ -1,7 +1,7 @@
 -- `grammar::rom_of` meets its contract: each number that is taken apart decides a step of the definition.
+use borrow.Author.Needs.{needs}
 use Rattle.grammar.specs.Grammar.{romOf}
 use Rattle.grammar.proofs.Shapes.{bind-is, bind-not}
-use borrow.Author.Needs.{needs}
 use Rattle.grammar.proofs.rom_of.Statement.{statement}
 use Rattle.grammar.proofs.rom_of.Tie as tie
 

@@ -4,10 +4,10 @@ use mathlib.Core.Path.{_≡_, _∙_}
 use mathlib.Core.Logic.{⊎-elim}
 use native.Mathlib.Omega.{arith}
 use lib.ListN.{length, drop}
+use borrow.Author.Needs.{needs}
 use Rattle.grammar.specs.declared.Kind.the-variants.{Blank}
 use Rattle.grammar.specs.Words.{wordsOf}
 use Rattle.grammar.proofs.Cuts.{skip-blank}
-use borrow.Author.Needs.{needs}
 use Rattle.grammar.proofs.skip.Statement.{statement}
 use Rattle.grammar.proofs.skip.Tie as tie
 

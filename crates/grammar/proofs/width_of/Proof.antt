@@ -1,5 +1,5 @@
 -- `grammar::width_of` meets its contract: the code's test is the definition's.
-use Rattle.words.specs.Tests.{tests}
+use Rattle.basics.specs.Laws.Tests.{tests}
 use Rattle.grammar.proofs.width_of.Statement.{statement}
 use Rattle.grammar.proofs.width_of.Tie as tie
 

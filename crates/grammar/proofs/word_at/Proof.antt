@@ -2,9 +2,9 @@
 use Prim.Native.Nat.{_≤_}
 use mathlib.Core.Path.{_≡_}
 use lib.ListN.{length, drop}
-use Rattle.grammar.specs.Words.{wordAt}
-use Rattle.grammar.proofs.Cuts.{pass-word, found-word}
 use borrow.Author.Needs.{needs}
+use Rattle.grammar.specs.Code.Words.{wordAt}
+use Rattle.grammar.proofs.Cuts.{pass-word, found-word}
 use Rattle.grammar.proofs.word_at.Statement.{statement}
 use Rattle.grammar.proofs.word_at.Tie as tie
 

@@ -1,15 +1,15 @@
 -- `grammar::word_end` meets its contract. The invariant: what is passed is letters, which stand before what is left.
 use Prim.Native.Nat.{_≤_, _-_}
-use mathlib.Core.Path.{_≡_, ap, _∙_}
+use mathlib.Core.Path.{_≡_, _∙_, ap}
 use mathlib.Core.Logic.{⊎-elim}
 use native.Mathlib.Omega.{arith}
 use lib.ListN.{length, drop}
-use Rattle.words.specs.Lists.{part}
-use Rattle.grammar.specs.declared.Kind.the-variants.{Letter}
-use Rattle.grammar.specs.Words.{Cut, cut}
-use Rattle.grammar.specs.Steps.{glue}
-use Rattle.grammar.proofs.Cuts.{glue-none, glue-letter, no-letter, cut-end}
 use borrow.Author.Needs.{needs}
+use Rattle.basics.specs.Lists.{part}
+use Rattle.grammar.specs.declared.Kind.the-variants.{Letter}
+use Rattle.grammar.specs.Words.{cut, Cut}
+use Rattle.grammar.specs.Code.Steps.{glue}
+use Rattle.grammar.proofs.Cuts.{glue-none, glue-letter, no-letter, cut-end}
 use Rattle.grammar.proofs.word_end.Statement.{statement}
 use Rattle.grammar.proofs.word_end.Tie as tie
 

@@ -1,6 +1,6 @@
 -- `hunk::block_at` meets its contract: one law for each return.
-use Rattle.hunk.proofs.Laws.{blocks}
 use borrow.Author.Needs.{needs}
+use Rattle.hunk.proofs.Laws.{blocks}
 use Rattle.hunk.proofs.block_at.Statement.{statement}
 use Rattle.hunk.proofs.block_at.Tie as tie
 

@@ -1,8 +1,8 @@
 -- `hunk::check` meets its contract. The loop's invariant: the data blocks from p on, with the next word at a, answer what the whole hunk does.
 use Prim.Native.Nat.{_-_}
 use lib.ListN.{length}
-use Rattle.hunk.proofs.Loops.{Checking, check-start, check-more, check-end, check-bad, check-short, less-of, sum-fits}
 use borrow.Author.Needs.{needs}
+use Rattle.hunk.proofs.Loops.{Checking, check-short, check-start, check-end, check-bad, sum-fits, less-of, check-more}
 use Rattle.hunk.proofs.check.Statement.{statement}
 use Rattle.hunk.proofs.check.Tie as tie
 

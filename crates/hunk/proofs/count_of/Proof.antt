@@ -1,8 +1,8 @@
 -- `hunk::count_of` meets its contract: each return has decided the tests of `countOf`.
 use native.Mathlib.Omega.{arith}
-use Rattle.words.specs.Tests.{tests}
-use Rattle.hunk.specs.Hunk.{countOf}
 use borrow.Author.Needs.{needs}
+use Rattle.basics.specs.Laws.Tests.{tests}
+use Rattle.hunk.specs.Hunk.{countOf}
 use Rattle.hunk.proofs.count_of.Statement.{statement}
 use Rattle.hunk.proofs.count_of.Tie as tie
 

@@ -1,6 +1,6 @@
 -- `hunk::decle_at` meets its contract: one law for each decle of a packet.
-use Rattle.hunk.proofs.Laws.{decles}
 use borrow.Author.Needs.{needs}
+use Rattle.hunk.proofs.Laws.{decles}
 use Rattle.hunk.proofs.decle_at.Statement.{statement}
 use Rattle.hunk.proofs.decle_at.Tie as tie
 

@@ -1,8 +1,8 @@
 -- `hunk::packet` meets its contract: four stores are the four decles laid.
 use native.Mathlib.Omega.{arith}
 use lib.ListN.{length-set}
-use Rattle.hunk.proofs.Laws.{packet-laid}
 use borrow.Author.Needs.{needs}
+use Rattle.hunk.proofs.Laws.{packet-laid}
 use Rattle.hunk.proofs.packet.Statement.{statement}
 use Rattle.hunk.proofs.packet.Tie as tie
 

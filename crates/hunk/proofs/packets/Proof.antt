@@ -1,10 +1,11 @@
 -- `hunk::packets` meets its contract. The loop's invariant: the decles of j packets are laid.
-use Prim.Native.Nat.{_*_, _-_, _≤_}
+use Prim.Native.Nat.{_≤_, _*_, _-_}
 use mathlib.Core.Path.{_≡_}
 use lib.ListN.{length}
-use Rattle.words.specs.Lists.{laid, laid-none}
-use Rattle.hunk.proofs.Laws.{packed, packed-turn, laid-done-4}
 use borrow.Author.Needs.{needs}
+use Rattle.basics.specs.Lists.{laid}
+use Rattle.basics.specs.Laws.Lists.{laid-none}
+use Rattle.hunk.proofs.Laws.{packed, packed-turn, laid-done-4}
 use Rattle.hunk.proofs.packets.Statement.{statement}
 use Rattle.hunk.proofs.packets.Tie as tie
 

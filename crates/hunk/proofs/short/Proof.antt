@@ -1,11 +1,12 @@
 -- `hunk::short` meets its contract. The loop's invariant: i of the n decles are laid.
-use Prim.Native.Nat.{_-_, _≤_}
+use Prim.Native.Nat.{_≤_, _-_}
 use mathlib.Core.Path.{_≡_}
 use lib.ListN.{length}
-use Rattle.hunk.specs.Hunk.{decle}
-use Rattle.words.specs.Lists.{laid, laid-none, laid-more}
-use Rattle.hunk.proofs.Laws.{laid-done}
 use borrow.Author.Needs.{needs}
+use Rattle.basics.specs.Lists.{laid}
+use Rattle.basics.specs.Laws.Lists.{laid-none, laid-more}
+use Rattle.hunk.specs.Hunk.{decle}
+use Rattle.hunk.proofs.Laws.{laid-done}
 use Rattle.hunk.proofs.short.Statement.{statement}
 use Rattle.hunk.proofs.short.Tie as tie
 

@@ -1,6 +1,6 @@
 -- `hunk::size_of` meets its contract: one law for each kind of data block.
-use Rattle.hunk.proofs.Laws.{sized}
 use borrow.Author.Needs.{needs}
+use Rattle.hunk.proofs.Laws.{sized}
 use Rattle.hunk.proofs.size_of.Statement.{statement}
 use Rattle.hunk.proofs.size_of.Tie as tie
 

@@ -1,8 +1,8 @@
 -- `hunk::store` meets its contract. The loop's invariant: the words of the data blocks from p on, laid at a over what the RAM holds now, give what the whole hunk gives.
 use Prim.Native.Nat.{_-_}
 use lib.ListN.{length}
-use Rattle.hunk.proofs.Loops.{Storing, store-start, store-more, store-end, store-bad, store-short, room-of, less-of, store-fits}
 use borrow.Author.Needs.{needs}
+use Rattle.hunk.proofs.Loops.{Storing, store-short, store-start, store-end, store-bad, room-of, store-fits, less-of, store-more}
 use Rattle.hunk.proofs.store.Statement.{statement}
 use Rattle.hunk.proofs.store.Tie as tie
 

@@ -1,6 +1,6 @@
 -- `hunk::store10` meets its contract: whole packets, and a short one behind them.
-use Rattle.hunk.proofs.Laws.{packed-all}
 use borrow.Author.Needs.{needs}
+use Rattle.hunk.proofs.Laws.{packed-all}
 use Rattle.hunk.proofs.store10.Statement.{statement}
 use Rattle.hunk.proofs.store10.Tie as tie
 

@@ -1,11 +1,12 @@
 -- `hunk::store16` meets its contract. The loop's invariant: i of the n words are laid.
-use Prim.Native.Nat.{_+_, _*_, _-_, _≤_}
+use Prim.Native.Nat.{_≤_, _+_, _*_, _-_}
 use mathlib.Core.Path.{_≡_}
 use lib.ListN.{length}
-use Rattle.words.specs.Bytes.{at16}
-use Rattle.words.specs.Lists.{laid, laid-none, laid-more}
-use Rattle.hunk.proofs.Laws.{laid-done}
 use borrow.Author.Needs.{needs}
+use Rattle.basics.specs.Lists.{laid}
+use Rattle.basics.specs.Bytes.{at16}
+use Rattle.basics.specs.Laws.Lists.{laid-none, laid-more}
+use Rattle.hunk.proofs.Laws.{laid-done}
 use Rattle.hunk.proofs.store16.Statement.{statement}
 use Rattle.hunk.proofs.store16.Tie as tie
 

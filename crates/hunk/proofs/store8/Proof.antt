@@ -1,10 +1,11 @@
 -- `hunk::store8` meets its contract. The loop's invariant: i of the n bytes are laid.
-use Prim.Native.Nat.{_+_, _-_, _≤_}
+use Prim.Native.Nat.{_≤_, _+_, _-_}
 use mathlib.Core.Path.{_≡_}
 use lib.ListN.{length, getD}
-use Rattle.words.specs.Lists.{laid, laid-none, laid-more}
-use Rattle.hunk.proofs.Laws.{laid-done}
 use borrow.Author.Needs.{needs}
+use Rattle.basics.specs.Lists.{laid}
+use Rattle.basics.specs.Laws.Lists.{laid-none, laid-more}
+use Rattle.hunk.proofs.Laws.{laid-done}
 use Rattle.hunk.proofs.store8.Statement.{statement}
 use Rattle.hunk.proofs.store8.Tie as tie
 

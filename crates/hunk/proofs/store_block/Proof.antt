@@ -1,6 +1,6 @@
 -- `hunk::store_block` meets its contract: one law for each kind of data block, for its words and for where its bytes lie.
-use Rattle.hunk.proofs.Laws.{counted, count-small, lies-16, lies-10, lies-last, two-least, ends-fit, stored-16, stored-8, stored-10}
 use borrow.Author.Needs.{needs}
+use Rattle.hunk.proofs.Laws.{lies-16, stored-16, counted, count-small, ends-fit, two-least, lies-last, stored-8, lies-10, stored-10}
 use Rattle.hunk.proofs.store_block.Statement.{statement}
 use Rattle.hunk.proofs.store_block.Tie as tie
 

@@ -1,6 +1,6 @@
 -- `layout::draw` meets its contract, by what its callees ensure.
-use Rattle.layout.specs.PlanLaws.{draws}
 use borrow.Author.Needs.{needs}
+use Rattle.layout.specs.Laws.Plan.{draws}
 use Rattle.layout.proofs.draw.Statement.{statement}
 use Rattle.layout.proofs.draw.Tie as tie
 

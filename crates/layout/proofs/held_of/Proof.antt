@@ -1,11 +1,11 @@
 -- `layout::held_of` meets its contract. The loop's invariant: the owners of the first p Locutus paragraphs are held.
-use Prim.Native.Nat.{_-_, _/_}
+use Prim.Native.Nat.{_/_, _-_}
 use mathlib.Core.Bool.{cond}
 use native.Mathlib.Omega.{arith}
 use lib.Dec.{ltb}
-use Rattle.words.specs.Tables.{Filled, filled-none, filled-more, filled-all}
-use Rattle.layout.specs.PlanLaws.{ownerIn, heldIn}
 use borrow.Author.Needs.{needs}
+use Rattle.basics.specs.Laws.Tables.{Filled, filled-none, filled-more, filled-all}
+use Rattle.layout.specs.Code.Plan.{ownerIn, heldIn}
 use Rattle.layout.proofs.held_of.Statement.{statement}
 use Rattle.layout.proofs.held_of.Tie as tie
 

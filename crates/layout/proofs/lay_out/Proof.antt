@@ -1,10 +1,10 @@
 -- `layout::lay_out` meets its contract: the survey's plan is the lines' plan.
-use mathlib.Core.Path.{_≡_}
 use Prim.Native.Nat.{_≤_}
+use mathlib.Core.Path.{_≡_}
 use native.Mathlib.Omega.{arith}
 use lib.ListN.{length}
-use Rattle.layout.specs.DrawLaws.{small-slots, pages-ok, draw-ok, begins-ok, plan-ok, ram-ok}
 use borrow.Author.Needs.{needs}
+use Rattle.layout.specs.Laws.Draw.{small-slots, pages-ok, begins-ok, draw-ok, plan-ok, ram-ok}
 use Rattle.layout.proofs.lay_out.Statement.{statement}
 use Rattle.layout.proofs.lay_out.Tie as tie
 

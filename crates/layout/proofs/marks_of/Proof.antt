@@ -1,11 +1,11 @@
 -- `layout::marks_of` meets its contract. The loop's invariant: the first p paragraphs are marked.
 use Prim.Native.Nat.{_-_}
 use mathlib.Core.Bool.{false, not}
-use lib.ListN.{getD}
 use lib.Dec.{eqb}
-use Rattle.words.specs.Tables.{Filled, filled-none, filled-more, filled-all}
-use Rattle.layout.specs.PlanLaws.{marksIn}
+use lib.ListN.{getD}
 use borrow.Author.Needs.{needs}
+use Rattle.basics.specs.Laws.Tables.{Filled, filled-none, filled-more, filled-all}
+use Rattle.layout.specs.Code.Plan.{marksIn}
 use Rattle.layout.proofs.marks_of.Statement.{statement}
 use Rattle.layout.proofs.marks_of.Tie as tie
 

@@ -1,8 +1,8 @@
 -- `load::check_blocks` meets its contract. The loop's invariant: what is left to ask, with what was counted, gives the verdict on the whole.
 use Prim.Native.Nat.{_-_}
 use lib.ListN.{length}
-use Rattle.load.proofs.Loops.{Walking, walk-start, walk-end, walk-no, walk-more, walk-less, blocks-fit, words-fit, tabled-ended}
 use borrow.Author.Needs.{needs}
+use Rattle.load.proofs.Loops.{Walking, walk-start, walk-end, tabled-ended, walk-no, blocks-fit, words-fit, walk-less, walk-more}
 use Rattle.load.proofs.check_blocks.Statement.{statement}
 use Rattle.load.proofs.check_blocks.Tie as tie
 

@@ -1,6 +1,6 @@
 -- `load::ended` meets its contract: each return has decided the test of `endedAt`.
-use Rattle.words.specs.Tests.{tests}
-use Rattle.load.specs.Steps.{endedAt}
+use Rattle.basics.specs.Laws.Tests.{tests}
+use Rattle.load.specs.Code.Steps.{endedAt}
 use Rattle.load.proofs.ended.Statement.{statement}
 use Rattle.load.proofs.ended.Tie as tie
 

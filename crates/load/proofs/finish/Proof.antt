@@ -1,6 +1,6 @@
 -- `load::finish` meets its contract: refused by 10, or stored and answered.
-use Rattle.load.proofs.Laws.{finish-refused, finish-done}
 use borrow.Author.Needs.{needs}
+use Rattle.load.proofs.Laws.{finish-refused, finish-done}
 use Rattle.load.proofs.finish.Statement.{statement}
 use Rattle.load.proofs.finish.Tie as tie
 

@@ -1,6 +1,6 @@
 -- `load::frame_at` meets its contract: one law for each return.
-use Rattle.load.proofs.Laws.{frames}
 use borrow.Author.Needs.{needs}
+use Rattle.load.proofs.Laws.{frames}
 use Rattle.load.proofs.frame_at.Statement.{statement}
 use Rattle.load.proofs.frame_at.Tie as tie
 

@@ -1,6 +1,6 @@
 -- `load::framed` meets its contract: one law for each return.
-use Rattle.load.proofs.Laws.{framed-sum, framed-past, framed-good}
 use borrow.Author.Needs.{needs}
+use Rattle.load.proofs.Laws.{framed-sum, framed-past, framed-good}
 use Rattle.load.proofs.framed.Statement.{statement}
 use Rattle.load.proofs.framed.Tie as tie
 

@@ -1,7 +1,7 @@
 -- `load::head_sum` meets its contract: it lends DOWCRC's own tables.
 use mathlib.Core.Path.{_∙_}
-use Rattle.sums.specs.TablesLaws.{dow-by}
 use borrow.Author.Needs.{needs}
+use Rattle.sums.specs.Laws.Tables.{dow-by}
 use Rattle.load.proofs.head_sum.Statement.{statement}
 use Rattle.load.proofs.head_sum.Tie as tie
 

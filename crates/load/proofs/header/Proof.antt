@@ -1,6 +1,6 @@
 -- `load::header` meets its contract: one law for each return.
-use Rattle.load.proofs.Laws.{headers}
 use borrow.Author.Needs.{needs}
+use Rattle.load.proofs.Laws.{headers}
 use Rattle.load.proofs.header.Statement.{statement}
 use Rattle.load.proofs.header.Tie as tie
 

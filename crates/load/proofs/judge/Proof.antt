@@ -1,6 +1,6 @@
 -- `load::judge` meets its contract: one law for each row, in the order of the rows.
-use Rattle.load.proofs.Laws.{judges}
 use borrow.Author.Needs.{needs}
+use Rattle.load.proofs.Laws.{judges}
 use Rattle.load.proofs.judge.Statement.{statement}
 use Rattle.load.proofs.judge.Tie as tie
 

@@ -1,6 +1,6 @@
 -- `load::judge_hunk` meets its contract: by the cases of the hunk's check.
-use Rattle.load.proofs.Laws.{hunk-whole, hunk-breaks}
 use borrow.Author.Needs.{needs}
+use Rattle.load.proofs.Laws.{hunk-whole, hunk-breaks}
 use Rattle.load.proofs.judge_hunk.Statement.{statement}
 use Rattle.load.proofs.judge_hunk.Tie as tie
 

@@ -1,6 +1,6 @@
 -- `load::load` meets its contract: a load into the words that count, with the others behind them.
-use Rattle.load.specs.LoadLaws.{lent-count, lent-most, lent-load}
 use borrow.Author.Needs.{needs}
+use Rattle.load.specs.Laws.Load.{lent-count, lent-most, lent-load}
 use Rattle.load.proofs.load.Statement.{statement}
 use Rattle.load.proofs.load.Tie as tie
 

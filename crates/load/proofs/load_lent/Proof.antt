@@ -1,7 +1,7 @@
 -- `load::load_lent` meets its contract: one law for the answer and one for the RAM, for each way out.
-use Rattle.load.specs.LoadLaws.{header-answer, header-ram, header-enough, block-answer, block-ram, done-answer, done-ram}
-use Rattle.load.proofs.Laws.{tabled-of}
 use borrow.Author.Needs.{needs}
+use Rattle.load.specs.Laws.Load.{header-answer, header-ram, header-enough, block-answer, block-ram, done-answer, done-ram}
+use Rattle.load.proofs.Laws.{tabled-of}
 use Rattle.load.proofs.load_lent.Statement.{statement}
 use Rattle.load.proofs.load_lent.Tie as tie
 

@@ -1,7 +1,7 @@
 -- `load::pay_sum` meets its contract: it lends CRC32/4's own tables.
 use mathlib.Core.Path.{_∙_}
-use Rattle.sums.specs.TablesLaws.{c324-by}
 use borrow.Author.Needs.{needs}
+use Rattle.sums.specs.Laws.Tables.{c324-by}
 use Rattle.load.proofs.pay_sum.Statement.{statement}
 use Rattle.load.proofs.pay_sum.Tie as tie
 

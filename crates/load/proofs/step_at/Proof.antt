@@ -1,6 +1,6 @@
 -- `load::step_at` meets its contract: one law for each way out.
-use Rattle.load.proofs.Laws.{steps, step-frame}
 use borrow.Author.Needs.{needs}
+use Rattle.load.proofs.Laws.{step-frame, steps}
 use Rattle.load.proofs.step_at.Statement.{statement}
 use Rattle.load.proofs.step_at.Tie as tie
 

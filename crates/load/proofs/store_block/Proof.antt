@@ -1,7 +1,7 @@
 -- `load::store_block` meets its contract: a hunk is stored, and any other block leaves the RAM.
-use Rattle.words.specs.Tests.{tests}
-use Rattle.load.specs.Steps.{blockStored}
 use borrow.Author.Needs.{needs}
+use Rattle.basics.specs.Laws.Tests.{tests}
+use Rattle.load.specs.Code.Steps.{blockStored}
 use Rattle.load.proofs.store_block.Statement.{statement}
 use Rattle.load.proofs.store_block.Tie as tie
 

@@ -1,8 +1,8 @@
 -- `load::store_blocks` meets its contract. The loop's invariant: the hunks that are left, over what the RAM holds now, give what all hunks give.
 use Prim.Native.Nat.{_-_}
 use lib.ListN.{length}
-use Rattle.load.proofs.Loops.{Storing, store-start, stored-over, stored-cut, store-starts, store-ends, stored-less, stored-more}
 use borrow.Author.Needs.{needs}
+use Rattle.load.proofs.Loops.{Storing, store-start, stored-over, stored-cut, store-starts, store-ends, stored-less, stored-more}
 use Rattle.load.proofs.store_blocks.Statement.{statement}
 use Rattle.load.proofs.store_blocks.Tie as tie
 

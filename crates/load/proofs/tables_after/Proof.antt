@@ -1,6 +1,6 @@
 -- `load::tables_after` meets its contract: each return has decided the test of `tablesAfter`.
-use Rattle.words.specs.Tests.{tests}
-use Rattle.load.specs.Steps.{tablesAfter}
+use Rattle.basics.specs.Laws.Tests.{tests}
+use Rattle.load.specs.Code.Steps.{tablesAfter}
 use Rattle.load.proofs.tables_after.Statement.{statement}
 use Rattle.load.proofs.tables_after.Tie as tie
 

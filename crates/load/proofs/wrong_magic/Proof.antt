@@ -1,6 +1,6 @@
 -- `load::wrong_magic` meets its contract: three bytes.
-use Rattle.load.proofs.Laws.{magic-bytes}
 use borrow.Author.Needs.{needs}
+use Rattle.load.proofs.Laws.{magic-bytes}
 use Rattle.load.proofs.wrong_magic.Statement.{statement}
 use Rattle.load.proofs.wrong_magic.Tie as tie
 

@@ -1,6 +1,6 @@
 -- `load::wrong_payload` meets its contract: no other type is asked, and of types 1 and 2 the checksum.
-use Rattle.load.proofs.Laws.{payload-other, payload-sum}
 use borrow.Author.Needs.{needs}
+use Rattle.load.proofs.Laws.{payload-other, payload-sum}
 use Rattle.load.proofs.wrong_payload.Statement.{statement}
 use Rattle.load.proofs.wrong_payload.Tie as tie
 

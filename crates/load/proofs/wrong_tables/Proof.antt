@@ -1,6 +1,6 @@
 -- `load::wrong_tables` meets its contract: each return has decided the tests of `tablesWrong`.
-use Rattle.words.specs.Tests.{tests}
-use Rattle.load.specs.Steps.{tablesWrong}
+use Rattle.basics.specs.Laws.Tests.{tests}
+use Rattle.load.specs.Code.Steps.{tablesWrong}
 use Rattle.load.proofs.wrong_tables.Statement.{statement}
 use Rattle.load.proofs.wrong_tables.Tie as tie
 

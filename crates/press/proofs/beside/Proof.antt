@@ -1,5 +1,4 @@
 -- `press::beside` meets its contract: stores keep a length.
-use Prim.Native.Nat.{ℕ}
 use mathlib.Core.Path.{_≡_, sym}
 use lib.ListN.{length, length-set}
 use borrow.Author.Needs.{needs}

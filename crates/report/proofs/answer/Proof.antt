@@ -1,6 +1,6 @@
 -- `report::answer` meets its contract: 30, or what a load answers.
-use Rattle.report.proofs.Laws.{too-long, too-long-ram, loaded, loaded-ram}
 use borrow.Author.Needs.{needs}
+use Rattle.report.proofs.Laws.{too-long, too-long-ram, loaded, loaded-ram}
 use Rattle.report.proofs.answer.Statement.{statement}
 use Rattle.report.proofs.answer.Tie as tie
 

@@ -1,7 +1,7 @@
 -- `rules::first_broken` meets its contract. The loop's invariant: no chapter below x breaks the rule.
 use Prim.Native.Nat.{_-_}
-use Rattle.rules.proofs.Verdicts.{Unbroken, unbroken-none, broken-here, unbroken-more, unbroken-all}
 use borrow.Author.Needs.{needs}
+use Rattle.rules.proofs.Verdicts.{Unbroken, unbroken-none, broken-here, unbroken-more, unbroken-all}
 use Rattle.rules.proofs.first_broken.Statement.{statement}
 use Rattle.rules.proofs.first_broken.Tie as tie
 

@@ -1,8 +1,8 @@
 -- `rules::first_clash` meets its contract. The loop's invariant: the owners are those of the lines before line k.
 use Prim.Native.Nat.{_-_}
 use native.Mathlib.Omega.{arith}
-use Rattle.rules.proofs.Clashes.{Clashing, clashing-none, clashing-all, clash-below, clash-hit, clashing-more}
 use borrow.Author.Needs.{needs}
+use Rattle.rules.proofs.Clashes.{Clashing, clashing-none, clash-below, clash-hit, clashing-more, clashing-all}
 use Rattle.rules.proofs.first_clash.Statement.{statement}
 use Rattle.rules.proofs.first_clash.Tie as tie
 

@@ -1,16 +1,16 @@
 -- `rules::judge` meets its contract: 25 and 26, then 27, then 28.
-use mathlib.Core.Path.{_≡_, sym, ap, _∙_}
+use mathlib.Core.Path.{_≡_, _∙_, ap, sym}
 use mathlib.Core.List.{List}
 use native.Mathlib.Omega.{arith}
 use lib.ListN.{length, take}
-use Rattle.words.specs.Tables.{table}
+use borrow.Author.Needs.{needs}
+use Rattle.basics.specs.Tables.{table}
 use Rattle.lines.specs.declared.Line.{Line}
-use Rattle.rules.specs.Rules.{breaksPlain}
-use Rattle.rules.specs.Survey.{surveyOf}
+use Rattle.rules.proofs.Verdicts.{refused-lines, refused-shares, judged-chapters}
 use Rattle.rules.specs.Judged.{judgedOf}
 use Rattle.rules.proofs.Lists.{all-lines}
-use Rattle.rules.proofs.Verdicts.{refused-lines, refused-shares, judged-chapters}
-use borrow.Author.Needs.{needs}
+use Rattle.rules.specs.Survey.{surveyOf}
+use Rattle.rules.specs.Rules.{breaksPlain}
 use Rattle.rules.proofs.judge.Statement.{statement}
 use Rattle.rules.proofs.judge.Tie as tie
 

@@ -1,7 +1,7 @@
 -- `rules::line_fault` meets its contract. The loop's invariant: the lines before line k pass 25 and 26.
 use Prim.Native.Nat.{_-_}
-use Rattle.rules.proofs.Checked.{Checked, checked-none, checked-25, checked-26, checked-more, checked-all}
 use borrow.Author.Needs.{needs}
+use Rattle.rules.proofs.Checked.{Checked, checked-none, checked-25, checked-26, checked-more, checked-all}
 use Rattle.rules.proofs.line_fault.Statement.{statement}
 use Rattle.rules.proofs.line_fault.Tie as tie
 

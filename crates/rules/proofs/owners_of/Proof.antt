@@ -1,7 +1,7 @@
 -- `rules::owners_of` meets its contract. The loop's invariant: the owners are those of the lines before line k.
 use Prim.Native.Nat.{_-_}
-use Rattle.rules.proofs.Owning.{Owning, owning-none, owning-more, owning-all}
 use borrow.Author.Needs.{needs}
+use Rattle.rules.proofs.Owning.{Owning, owning-none, owning-more, owning-all}
 use Rattle.rules.proofs.owners_of.Statement.{statement}
 use Rattle.rules.proofs.owners_of.Tie as tie
 

@@ -1,10 +1,10 @@
 -- `rules::survey_of` meets its contract, by what its callees ensure.
 use mathlib.Core.Path.{_≡_, ap, _∙_}
 use lib.ListN.{length}
-use Rattle.rules.specs.Survey.{surveyOf}
-use Rattle.rules.specs.SurveyLaws.{few-owners, surveyed}
-use Rattle.rules.proofs.Lists.{all-lines, few-lines}
 use borrow.Author.Needs.{needs}
+use Rattle.rules.specs.Laws.Survey.{few-owners, surveyed}
+use Rattle.rules.proofs.Lists.{few-lines, all-lines}
+use Rattle.rules.specs.Survey.{surveyOf}
 use Rattle.rules.proofs.survey_of.Statement.{statement}
 use Rattle.rules.proofs.survey_of.Tie as tie
 

@@ -1,8 +1,8 @@
 -- `save::count_marks` meets its contract. The loop's invariant: n of the paragraphs below p are marked.
 use Prim.Native.Nat.{_-_}
 use mathlib.Core.Logic.{⊎-elim}
-use Rattle.save.proofs.Marks.{Counting, count-none, count-on, count-off, count-end}
 use borrow.Author.Needs.{needs}
+use Rattle.save.proofs.Marks.{Counting, count-none, count-on, count-off, count-end}
 use Rattle.save.proofs.count_marks.Statement.{statement}
 use Rattle.save.proofs.count_marks.Tie as tie
 

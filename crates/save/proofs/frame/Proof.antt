@@ -1,8 +1,8 @@
 -- `save::frame` meets its contract: eight stores before the payload.
 use native.Mathlib.Omega.{arith}
 use lib.ListN.{length-set, length-take}
-use Rattle.save.proofs.Blocks.{frame-written}
 use borrow.Author.Needs.{needs}
+use Rattle.save.proofs.Blocks.{frame-written}
 use Rattle.save.proofs.frame.Statement.{statement}
 use Rattle.save.proofs.frame.Tie as tie
 

@@ -1,8 +1,8 @@
 -- `save::header_sum` meets its contract: the lent tables are DOWCRC's own.
 use mathlib.Core.Path.{_∙_}
-use denote.Ref.{now}
-use Rattle.sums.specs.TablesLaws.{dow-by}
 use borrow.Author.Needs.{needs}
+use denote.Ref.{now}
+use Rattle.sums.specs.Laws.Tables.{dow-by}
 use Rattle.save.proofs.header_sum.Statement.{statement}
 use Rattle.save.proofs.header_sum.Tie as tie
 

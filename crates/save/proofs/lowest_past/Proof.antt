@@ -1,11 +1,11 @@
 -- `save::lowest_past` meets its contract. The loop's invariant: no paragraph below p is what it seeks.
 use Prim.Native.Nat.{_-_}
 use mathlib.Core.Logic.{⊎-elim}
-use Rattle.image.specs.Chosen.{paragraphs}
-use Rattle.save.specs.LowestLaws.{Seeking, seek-none, seek-hit, seek-more, seek-end}
+use borrow.Author.Needs.{needs}
+use Rattle.basics.specs.Laws.Lowest.{Seeking, seek-none, seek-hit, seek-more, seek-end}
+use Rattle.places.specs.Limits.{paragraphs}
 use Rattle.save.specs.Writing.{past}
 use Rattle.save.proofs.Marks.{past-hit, past-fits, past-not}
-use borrow.Author.Needs.{needs}
 use Rattle.save.proofs.lowest_past.Statement.{statement}
 use Rattle.save.proofs.lowest_past.Tie as tie
 

@@ -1,8 +1,8 @@
 -- `save::payload_sum` meets its contract: the lent tables are CRC32/4's own.
 use mathlib.Core.Path.{_∙_}
-use denote.Ref.{now}
-use Rattle.sums.specs.TablesLaws.{c324-by}
 use borrow.Author.Needs.{needs}
+use denote.Ref.{now}
+use Rattle.sums.specs.Laws.Tables.{c324-by}
 use Rattle.save.proofs.payload_sum.Statement.{statement}
 use Rattle.save.proofs.payload_sum.Tie as tie
 

@@ -1,8 +1,8 @@
 -- `save::put_bytes` meets its contract. The loop's invariant: the first i bytes are put.
 use Prim.Native.Nat.{_-_}
 use lib.ListN.{length}
-use Rattle.save.proofs.Puts.{Copying, copy-none, copy-more, copy-all}
 use borrow.Author.Needs.{needs}
+use Rattle.save.proofs.Puts.{Copying, copy-none, copy-more, copy-all}
 use Rattle.save.proofs.put_bytes.Statement.{statement}
 use Rattle.save.proofs.put_bytes.Tie as tie
 

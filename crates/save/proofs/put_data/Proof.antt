@@ -1,10 +1,10 @@
 -- `save::put_data` meets its contract: the count, and the words behind it.
-use mathlib.Core.Path.{sym, ap, _∙_}
+use mathlib.Core.Path.{ap, _∙_, sym}
 use native.Mathlib.Omega.{arith}
-use lib.ListN.{length, length-set, length-take, length-drop}
-use Rattle.image.specs.FormLaws.{length-data}
-use Rattle.save.proofs.Blocks.{data-written}
+use lib.ListN.{length-set, length-take, length-drop, length}
 use borrow.Author.Needs.{needs}
+use Rattle.image.specs.Laws.Form.{length-data}
+use Rattle.save.proofs.Blocks.{data-written}
 use Rattle.save.proofs.put_data.Statement.{statement}
 use Rattle.save.proofs.put_data.Tie as tie
 

@@ -1,6 +1,6 @@
 -- `save::put_head` meets its contract: four parts, one after the other.
-use Rattle.save.proofs.Blocks.{head-written}
 use borrow.Author.Needs.{needs}
+use Rattle.save.proofs.Blocks.{head-written}
 use Rattle.save.proofs.put_head.Statement.{statement}
 use Rattle.save.proofs.put_head.Tie as tie
 

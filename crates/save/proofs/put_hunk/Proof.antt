@@ -2,8 +2,8 @@
 use Prim.Native.Nat.{_-_}
 use native.Mathlib.Omega.{arith}
 use lib.ListN.{length, length-set}
-use Rattle.save.proofs.Blocks.{Hunking, hunking-none, hunking-fits, hunking-same, hunking-more, hunking-end}
 use borrow.Author.Needs.{needs}
+use Rattle.save.proofs.Blocks.{Hunking, hunking-none, hunking-fits, hunking-more, hunking-same, hunking-end}
 use Rattle.save.proofs.put_hunk.Statement.{statement}
 use Rattle.save.proofs.put_hunk.Tie as tie
 

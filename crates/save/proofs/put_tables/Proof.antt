@@ -1,6 +1,6 @@
 -- `save::put_tables` meets its contract: three parts, one after the other.
-use Rattle.save.proofs.Blocks.{tables-written}
 use borrow.Author.Needs.{needs}
+use Rattle.save.proofs.Blocks.{tables-written}
 use Rattle.save.proofs.put_tables.Statement.{statement}
 use Rattle.save.proofs.put_tables.Tie as tie
 

@@ -2,8 +2,8 @@
 use Prim.Native.Nat.{_-_}
 use native.Mathlib.Omega.{arith}
 use lib.ListN.{length, length-set}
-use Rattle.save.proofs.Puts.{Wording, word-none, word-more, word-all}
 use borrow.Author.Needs.{needs}
+use Rattle.save.proofs.Puts.{Wording, word-none, word-more, word-all}
 use Rattle.save.proofs.put_words.Statement.{statement}
 use Rattle.save.proofs.put_words.Tie as tie
 

@@ -1,7 +1,7 @@
 -- `save::write` meets its contract: refusal 10, or what the writer of sized parts answers.
-use Rattle.save.specs.WritingLaws.{answers-10}
 use mathlib.Core.Path.{sym, _∙_}
 use borrow.Author.Needs.{needs}
+use Rattle.save.specs.Laws.Writing.{answers-10}
 use Rattle.save.proofs.write.Statement.{statement}
 use Rattle.save.proofs.write.Tie as tie
 

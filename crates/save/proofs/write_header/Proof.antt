@@ -1,6 +1,6 @@
 -- `save::write_header` meets its contract: the first 31 bytes in their part, then their checksum.
-use Rattle.save.proofs.Blocks.{front-long, header-written}
 use borrow.Author.Needs.{needs}
+use Rattle.save.proofs.Blocks.{front-long, header-written}
 use Rattle.save.proofs.write_header.Statement.{statement}
 use Rattle.save.proofs.write_header.Tie as tie
 

@@ -1,8 +1,8 @@
 -- `save::write_hunk` meets its contract: the payload in its part, then the frame.
 use mathlib.Core.Path.{refl}
 use native.Mathlib.Omega.{arith}
-use Rattle.save.proofs.Blocks.{framed}
 use borrow.Author.Needs.{needs}
+use Rattle.save.proofs.Blocks.{framed}
 use Rattle.save.proofs.write_hunk.Statement.{statement}
 use Rattle.save.proofs.write_hunk.Tie as tie
 

@@ -1,9 +1,9 @@
 -- `save::write_hunks` meets its contract. The loop's invariant: the blocks of the marked paragraphs below p are written.
 use Prim.Native.Nat.{_-_}
-use mathlib.Core.Path.{refl}
 use mathlib.Core.Logic.{⊎-elim}
-use Rattle.save.proofs.Marks.{Marking, mark-none, mark-room, mark-in, mark-more, mark-skip, mark-last, mark-same, mark-end}
+use mathlib.Core.Path.{refl}
 use borrow.Author.Needs.{needs}
+use Rattle.save.proofs.Marks.{Marking, mark-none, mark-room, mark-in, mark-more, mark-skip, mark-last, mark-same, mark-end}
 use Rattle.save.proofs.write_hunks.Statement.{statement}
 use Rattle.save.proofs.write_hunks.Tie as tie
 

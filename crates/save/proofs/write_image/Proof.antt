@@ -1,6 +1,6 @@
 -- `save::write_image` meets its contract: each block in its own part.
-use Rattle.save.proofs.Marks.{image-written}
 use borrow.Author.Needs.{needs}
+use Rattle.save.proofs.Marks.{image-written}
 use Rattle.save.proofs.write_image.Statement.{statement}
 use Rattle.save.proofs.write_image.Tie as tie
 

@@ -1,6 +1,6 @@
 -- `save::write_parts` meets its contract: each return has decided the refusals before it.
-use Rattle.save.specs.WritingLaws.{all-lie, answers-9, answers-1, answers-29, answers-done}
 use borrow.Author.Needs.{needs}
+use Rattle.save.specs.Laws.Writing.{answers-9, answers-1, answers-29, all-lie, answers-done}
 use Rattle.save.proofs.write_parts.Statement.{statement}
 use Rattle.save.proofs.write_parts.Tie as tie
 

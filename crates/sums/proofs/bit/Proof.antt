@@ -1,6 +1,6 @@
 -- `sums::bit` meets its contract: its test is the definition's; an even sum has 0 added.
 use lib.Bits.{xor-zero-r}
-use Rattle.words.specs.Tests.{tests}
+use Rattle.basics.specs.Laws.Tests.{tests}
 use Rattle.sums.specs.Crc.{crcBit}
 use Rattle.sums.proofs.bit.Statement.{statement}
 use Rattle.sums.proofs.bit.Tie as tie

@@ -1,11 +1,11 @@
 -- `sums::bits` meets its contract. The invariant: x is what k bits make of c.
-use borrow.Author.Needs.{needs}
+use Prim.Native.Nat.{_≤_, _-_}
 use mathlib.Core.Path.{_≡_, refl}
-use Prim.Native.Nat.{_-_, _≤_}
 use native.Mathlib.Omega.{arith}
+use borrow.Author.Needs.{needs}
 use Rattle.sums.specs.Crc.{crcBits}
-use Rattle.sums.specs.CrcLaws.{bits-next}
 use Rattle.sums.proofs.bits.Statement.{statement}
+use Rattle.sums.specs.Laws.Crc.{bits-next}
 use Rattle.sums.proofs.bits.Tie as tie
 
 abbrev Inv-loop : tie.InvT-loop

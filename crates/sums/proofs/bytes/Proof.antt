@@ -1,11 +1,11 @@
 -- `sums::bytes` meets its contract. The invariant: the bytes that are left make of x what all make of c.
-use borrow.Author.Needs.{needs}
+use Prim.Native.Nat.{_≤_, _-_}
 use mathlib.Core.Path.{_≡_, refl}
-use Prim.Native.Nat.{_-_, _≤_}
 use lib.ListN.{length, drop}
+use borrow.Author.Needs.{needs}
 use Rattle.sums.specs.Tables.{byBytes}
-use Rattle.sums.proofs.Laws.{bytes-next, bytes-end}
 use Rattle.sums.proofs.bytes.Statement.{statement}
+use Rattle.sums.proofs.Laws.{bytes-next, bytes-end}
 use Rattle.sums.proofs.bytes.Tie as tie
 
 abbrev Inv-loop : tie.InvT-loop

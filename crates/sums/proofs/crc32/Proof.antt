@@ -1,7 +1,7 @@
 -- `sums::crc32` meets its contract: it lends CRC32's own tables.
 use borrow.Author.Needs.{needs}
 use denote.Ref.{now}
-use Rattle.sums.specs.TablesLaws.{ieee-by}
+use Rattle.sums.specs.Laws.Tables.{ieee-by}
 use Rattle.sums.proofs.crc32.Statement.{statement}
 use Rattle.sums.proofs.crc32.Tie as tie
 

@@ -1,8 +1,8 @@
 -- `sums::crc324` meets its contract: it lends CRC32/4's own tables.
-use borrow.Author.Needs.{needs}
 use mathlib.Core.Path.{_∙_}
+use borrow.Author.Needs.{needs}
 use denote.Ref.{now}
-use Rattle.sums.specs.TablesLaws.{c324-by}
+use Rattle.sums.specs.Laws.Tables.{c324-by}
 use Rattle.sums.proofs.crc324.Statement.{statement}
 use Rattle.sums.proofs.crc324.Tie as tie
 

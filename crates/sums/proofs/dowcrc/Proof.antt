@@ -1,8 +1,8 @@
 -- `sums::dowcrc` meets its contract: it lends DOWCRC's own tables.
-use borrow.Author.Needs.{needs}
 use mathlib.Core.Path.{_∙_}
+use borrow.Author.Needs.{needs}
 use denote.Ref.{now}
-use Rattle.sums.specs.TablesLaws.{dow-by}
+use Rattle.sums.specs.Laws.Tables.{dow-by}
 use Rattle.sums.proofs.dowcrc.Statement.{statement}
 use Rattle.sums.proofs.dowcrc.Tie as tie
 

@@ -1,13 +1,13 @@
 -- `sums::eights` meets its contract. The invariant: x is the sum of the first n eights.
-use borrow.Author.Needs.{needs}
+use Prim.Native.Nat.{_≤_, _/_, _-_}
 use mathlib.Core.Path.{_≡_, refl}
-use Prim.Native.Nat.{_/_, _-_, _≤_}
 use native.Mathlib.Omega.{arith}
 use lib.ListN.{length}
+use borrow.Author.Needs.{needs}
 use denote.Ref.{now}
 use Rattle.sums.specs.Tables.{byEights}
-use Rattle.sums.proofs.Laws.{eights-next}
 use Rattle.sums.proofs.eights.Statement.{statement}
+use Rattle.sums.proofs.Laws.{eights-next}
 use Rattle.sums.proofs.eights.Tie as tie
 
 abbrev Inv-loop : tie.InvT-loop

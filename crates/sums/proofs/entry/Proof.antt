@@ -1,6 +1,6 @@
 -- `sums::entry` meets its contract: the place that it reads is the definition's.
-use borrow.Author.Needs.{needs}
 use mathlib.Core.Path.{refl}
+use borrow.Author.Needs.{needs}
 use Rattle.sums.specs.Tables.{entryAt}
 use Rattle.sums.proofs.entry.Statement.{statement}
 use Rattle.sums.proofs.entry.Tie as tie

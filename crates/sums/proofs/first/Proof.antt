@@ -1,11 +1,11 @@
 -- `sums::first` meets its contract. The invariant: the first i entries stand; in the end these are the first table.
-use borrow.Author.Needs.{needs}
+use Prim.Native.Nat.{_≤_, _-_}
 use mathlib.Core.Path.{_≡_}
-use Prim.Native.Nat.{_-_, _≤_}
 use native.Mathlib.Omega.{arith}
-use Rattle.words.specs.Tables.{filled-none}
-use Rattle.sums.specs.Tables.{entryOf}
+use borrow.Author.Needs.{needs}
+use Rattle.basics.specs.Laws.Tables.{filled-none}
 use Rattle.sums.proofs.Laws.{Tabled, first-next}
+use Rattle.sums.specs.Tables.{entryOf}
 use Rattle.sums.proofs.first.Statement.{statement}
 use Rattle.sums.proofs.first.Tie as tie
 

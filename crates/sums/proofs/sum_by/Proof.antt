@@ -1,11 +1,11 @@
 -- `sums::sum_by` meets its contract: all eights, and the bytes from there on.
-use borrow.Author.Needs.{needs}
-use mathlib.Core.Path.{ap₂, _∙_}
 use Prim.Native.Nat.{_*_, _/_}
+use mathlib.Core.Path.{_∙_, ap₂}
 use lib.ListN.{length}
+use borrow.Author.Needs.{needs}
 use denote.Ref.{now}
-use Rattle.words.specs.Lists.{part-rest}
-use Rattle.sums.specs.Tables.{byBytes, byTables}
+use Rattle.basics.specs.Laws.Lists.{part-rest}
+use Rattle.sums.specs.Tables.{byTables, byBytes}
 use Rattle.sums.proofs.sum_by.Statement.{statement}
 use Rattle.sums.proofs.sum_by.Tie as tie
 

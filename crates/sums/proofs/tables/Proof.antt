@@ -1,9 +1,9 @@
 -- `sums::tables` meets its contract. The invariant: the first i entries stand; each that comes is a byte's step from the one 256 before it.
+use Prim.Native.Nat.{_≤_, _-_}
 use borrow.Author.Needs.{needs}
-use Prim.Native.Nat.{_-_, _≤_}
-use Rattle.words.specs.Tables.{filled-all}
-use Rattle.sums.specs.Tables.{entryOf, tablesOf}
+use Rattle.basics.specs.Laws.Tables.{filled-all}
 use Rattle.sums.proofs.Laws.{Tabled, tables-next}
+use Rattle.sums.specs.Tables.{tablesOf}
 use Rattle.sums.proofs.tables.Statement.{statement}
 use Rattle.sums.proofs.tables.Tie as tie
 

@@ -1,8 +1,8 @@
 -- `tables::bytes_at` meets its contract. The loop's invariant: the first i entries are filled.
-use Prim.Native.Nat.{_+_, _-_, _≤_}
+use Prim.Native.Nat.{_≤_, _+_, _-_}
 use lib.ListN.{getD}
-use Rattle.words.specs.Tables.{Filled, filled-none, filled-more, filled-all}
 use borrow.Author.Needs.{needs}
+use Rattle.basics.specs.Laws.Tables.{Filled, filled-none, filled-more, filled-all}
 use Rattle.tables.proofs.bytes_at.Statement.{statement}
 use Rattle.tables.proofs.bytes_at.Tie as tie
 

@@ -1,6 +1,6 @@
 -- `tables::cartridge_of` meets its contract: the three tables, each twice where it is initial and active.
-use Rattle.tables.specs.Tables.{cartridgeOf}
 use borrow.Author.Needs.{needs}
+use Rattle.tables.specs.Tables.{cartridgeOf}
 use Rattle.tables.proofs.cartridge_of.Statement.{statement}
 use Rattle.tables.proofs.cartridge_of.Tie as tie
 

@@ -1,6 +1,6 @@
 -- `tables::compat_of` meets its contract: the fields from two bytes.
-use Rattle.tables.specs.Laws.{compat-bytes}
 use borrow.Author.Needs.{needs}
+use Rattle.tables.specs.Laws.Laws.{compat-bytes}
 use Rattle.tables.proofs.compat_of.Statement.{statement}
 use Rattle.tables.proofs.compat_of.Tie as tie
 

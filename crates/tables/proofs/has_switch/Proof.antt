@@ -1,19 +1,20 @@
 -- `tables::has_switch` meets its contract. The loop's invariant: the first h paragraphs divisible by 8 have no BANKSW.
-use Prim.Native.Nat.{_*_, _-_, _≤_}
+use Prim.Native.Nat.{_≤_, _*_, _-_}
 use mathlib.Core.Path.{_≡_, sym}
 use mathlib.Core.Bool.{false}
 use native.Mathlib.Omega.{arith}
-use borrow.Author.Tests.{eq-eqb, ne-eqb}
 use lib.ListN.{getD}
-use Rattle.words.specs.Counts.{some, some-of}
-use Rattle.tables.specs.Tables.{BANKSW}
-use Rattle.tables.specs.Laws.{some-none, some-more, some-done}
+use borrow.Author.Tests.{eq-eqb, ne-eqb}
 use borrow.Author.Needs.{needs}
+use Rattle.basics.specs.Counts.{any}
+use Rattle.basics.specs.Laws.Counts.{any-of, any-miss, any-missed}
+use Rattle.tables.specs.Tables.{BANKSW}
+use Rattle.tables.specs.Laws.Laws.{some-none}
 use Rattle.tables.proofs.has_switch.Statement.{statement}
 use Rattle.tables.proofs.has_switch.Tie as tie
 
 abbrev Inv-loop : tie.InvT-loop
-Inv-loop permissions h₀ h = (h ≤ 32) × (some h (λ i. BANKSW (getD permissions (8 * i) 0)) ≡ false)
+Inv-loop permissions h₀ h = (h ≤ 32) × (any h (λ i. BANKSW (getD permissions (8 * i) 0)) ≡ false)
 
 abbrev μ-loop : tie.MeasureT-loop
 μ-loop permissions h₀ h = 32 - h
@@ -22,13 +23,13 @@ loop-holds : tie.Need-loop-holds Inv-loop μ-loop
 loop-holds c = (omega arith, some-none _)
 
 returns : tie.Need-returns Inv-loop μ-loop
-returns c = sym (some-of 32 _ (c .before .before .before .loop .h) (omega arith) (eq-eqb _ _ (c .if1 .taken)))
+returns c = sym (any-of 32 _ (c .before .before .before .loop .h) (omega arith) (eq-eqb _ _ (c .if1 .taken)))
 
 loop-again : tie.Need-loop-again Inv-loop μ-loop
-loop-again c = (omega arith, some-more _ _ (c .before .before .before .loop .inv .1) (ne-eqb _ _ (c .if1 .left)))
+loop-again c = (omega arith, any-miss _ _ (c .before .before .before .loop .inv .1) (ne-eqb _ _ (c .if1 .left)))
 
 returns-2 : tie.Need-returns-2 Inv-loop μ-loop
-returns-2 c = search (needs, some-done)
+returns-2 c = search (needs, any-missed)
 
 pub has-switch-spec : {M : Type 1} → statement M
 has-switch-spec =

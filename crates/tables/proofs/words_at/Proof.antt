@@ -1,8 +1,8 @@
 -- `tables::words_at` meets its contract. The loop's invariant: the first i entries are filled.
-use Prim.Native.Nat.{_+_, _*_, _-_, _≤_}
-use Rattle.words.specs.Bytes.{at16}
-use Rattle.words.specs.Tables.{Filled, filled-none, filled-more, filled-all}
+use Prim.Native.Nat.{_≤_, _+_, _*_, _-_}
 use borrow.Author.Needs.{needs}
+use Rattle.basics.specs.Laws.Tables.{Filled, filled-none, filled-more, filled-all}
+use Rattle.basics.specs.Bytes.{at16}
 use Rattle.tables.proofs.words_at.Statement.{statement}
 use Rattle.tables.proofs.words_at.Tie as tie
 

@@ -1,6 +1,6 @@
 -- `byte_room` meets its contract: a repeat has the length that it says, with no element counted.
-use mathlib.Core.Path.{sym}
 use Prim.Native.Nat.{ℕ}
+use mathlib.Core.Path.{sym}
 use lib.ListN.{length-replicate}
 use Rattle.vectors.proofs.byte_room.Statement.{statement}
 use Rattle.vectors.proofs.byte_room.Tie as tie

@@ -1,5 +1,5 @@
 -- `run` is safe and ends: each record ends later than it starts, within the file, and the buffers keep their lengths.
-use Prim.Native.Nat.{_-_, _≤_}
+use Prim.Native.Nat.{_≤_, _-_}
 use mathlib.Core.Path.{_≡_}
 use lib.ListN.{length}
 use borrow.Author.Needs.{needs}

@@ -1,7 +1,7 @@
 -- `layout::entries::flip_entry` meets its contract.
 use borrow.Author.Tests.{not-true, not-false}
-use Rattle.words.specs.Tests.{tests}
 use borrow.Author.Needs.{needs}
+use Rattle.basics.specs.Laws.Tests.{tests}
 use Rattle.layout.proofs.entries.flip_entry.Statement.{statement}
 use Rattle.layout.proofs.entries.flip_entry.Tie as tie
 

@@ -1,8 +1,8 @@
 -- `layout::entries::flips_of` meets its contract. The loops' invariants: the rows of the first x chapters, and the first n entries.
 use Prim.Native.Nat.{_-_}
-use Rattle.words.specs.Tables.{filled-none, filled-more}
-use Rattle.layout.proofs.Rows.{Gathered, Writing, writing-none, writing-most, writing-more, writing-all}
 use borrow.Author.Needs.{needs}
+use Rattle.basics.specs.Laws.Tables.{filled-none, filled-more}
+use Rattle.layout.proofs.Rows.{Gathered, Writing, writing-none, writing-most, writing-more, writing-all}
 use Rattle.layout.proofs.entries.flips_of.Statement.{statement}
 use Rattle.layout.proofs.entries.flips_of.Tie as tie
 

@@ -1,6 +1,6 @@
 -- `layout::entries::mapping_by` meets its contract.
-use Rattle.words.specs.Tests.{tests}
 use borrow.Author.Needs.{needs}
+use Rattle.basics.specs.Laws.Tests.{tests}
 use Rattle.layout.proofs.entries.mapping_by.Statement.{statement}
 use Rattle.layout.proofs.entries.mapping_by.Tie as tie
 

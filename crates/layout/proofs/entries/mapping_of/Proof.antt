@@ -1,10 +1,10 @@
 -- `layout::entries::mapping_of` meets its contract. The loop's invariant: the first p paragraphs are mapped.
-use Prim.Native.Nat.{_*_, _-_, _/_, _%_}
+use Prim.Native.Nat.{_*_, _/_, _%_, _-_}
 use native.Mathlib.Omega.{arith}
 use lib.ListN.{getD}
-use Rattle.words.specs.Tables.{Filled, filled-none, filled-more, filled-all}
-use Rattle.layout.specs.PlanLaws.{flippableIn, mappingBy, mappingIn}
 use borrow.Author.Needs.{needs}
+use Rattle.basics.specs.Laws.Tables.{Filled, filled-none, filled-more, filled-all}
+use Rattle.layout.specs.Code.Plan.{mappingBy, flippableIn, mappingIn}
 use Rattle.layout.proofs.entries.mapping_of.Statement.{statement}
 use Rattle.layout.proofs.entries.mapping_of.Tie as tie
 

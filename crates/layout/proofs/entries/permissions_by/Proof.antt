@@ -1,7 +1,7 @@
 -- `layout::entries::permissions_by` meets its contract.
 use borrow.Author.Tests.{ne-eqb}
-use Rattle.words.specs.Tests.{tests}
 use borrow.Author.Needs.{needs}
+use Rattle.basics.specs.Laws.Tests.{tests}
 use Rattle.layout.proofs.entries.permissions_by.Statement.{statement}
 use Rattle.layout.proofs.entries.permissions_by.Tie as tie
 

@@ -1,11 +1,11 @@
 -- `layout::entries::permissions_of` meets its contract. The loop's invariant: the first p paragraphs have their permissions.
-use Prim.Native.Nat.{_*_, _-_, _/_, _%_}
+use Prim.Native.Nat.{_*_, _/_, _%_, _-_}
 use native.Mathlib.Omega.{arith}
 use lib.ListN.{getD}
-use Rattle.words.specs.Tables.{Filled, filled-none, filled-more, filled-all}
-use Rattle.rules.specs.Survey.{lineOf}
-use Rattle.layout.specs.PlanLaws.{flippableIn, permissionsBy, permissionsIn}
 use borrow.Author.Needs.{needs}
+use Rattle.basics.specs.Laws.Tables.{Filled, filled-none, filled-more, filled-all}
+use Rattle.rules.specs.Code.Survey.{lineOf}
+use Rattle.layout.specs.Code.Plan.{permissionsBy, flippableIn, permissionsIn}
 use Rattle.layout.proofs.entries.permissions_of.Statement.{statement}
 use Rattle.layout.proofs.entries.permissions_of.Tie as tie
 

@@ -1,9 +1,9 @@
 -- `layout::entries::row_of` meets its contract. The loop's invariant: the first y pages are filled in.
 use Prim.Native.Nat.{_-_}
 use native.Mathlib.Omega.{arith}
-use Rattle.words.specs.Tables.{Filled, filled-none, filled-more, filled-all}
-use Rattle.layout.specs.PlanLaws.{answerIn, rowIn}
 use borrow.Author.Needs.{needs}
+use Rattle.basics.specs.Laws.Tables.{Filled, filled-none, filled-more, filled-all}
+use Rattle.layout.specs.Code.Plan.{answerIn, rowIn}
 use Rattle.layout.proofs.entries.row_of.Statement.{statement}
 use Rattle.layout.proofs.entries.row_of.Tie as tie
 

@@ -1,7 +1,7 @@
 -- `layout::pages::number` meets its contract. The loop's invariant: the first s slots are numbered.
 use Prim.Native.Nat.{_-_}
-use Rattle.layout.proofs.Numbering.{Numbering, numbering-none, numbering-more, numbering-all}
 use borrow.Author.Needs.{needs}
+use Rattle.layout.proofs.Numbering.{Numbering, numbering-none, numbering-more, numbering-all}
 use Rattle.layout.proofs.pages.number.Statement.{statement}
 use Rattle.layout.proofs.pages.number.Tie as tie
 

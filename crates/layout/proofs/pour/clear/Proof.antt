@@ -1,7 +1,7 @@
 -- `layout::pour::clear` meets its contract. The loop's invariant: the first i words are zeros.
 use Prim.Native.Nat.{_-_}
-use Rattle.layout.proofs.Laying.{Laying, laying-none, laying-more, laying-all}
 use borrow.Author.Needs.{needs}
+use Rattle.layout.proofs.Laying.{Laying, laying-none, laying-more, laying-all}
 use Rattle.layout.proofs.pour.clear.Statement.{statement}
 use Rattle.layout.proofs.pour.clear.Tie as tie
 

@@ -1,9 +1,9 @@
 -- `layout::pour::copy` meets its contract. The loop's invariant: the first i words are the BIN's.
-use Prim.Native.Nat.{_-_, _+_}
+use Prim.Native.Nat.{_+_, _-_}
 use mathlib.Core.Path.{refl}
-use Rattle.layout.specs.PlanLaws.{wordIn}
-use Rattle.layout.proofs.Laying.{Laying, laying-none, laying-more, laying-all}
 use borrow.Author.Needs.{needs}
+use Rattle.layout.proofs.Laying.{Laying, laying-none, laying-more, laying-all}
+use Rattle.layout.specs.Code.Plan.{wordIn}
 use Rattle.layout.proofs.pour.copy.Statement.{statement}
 use Rattle.layout.proofs.pour.copy.Tie as tie
 

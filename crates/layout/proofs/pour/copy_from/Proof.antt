@@ -1,7 +1,7 @@
 -- `layout::pour::copy_from` meets its contract, by what its callees ensure.
 use mathlib.Core.Path.{refl}
-use Rattle.layout.proofs.Sources.{copied}
 use borrow.Author.Needs.{needs}
+use Rattle.layout.proofs.Sources.{copied}
 use Rattle.layout.proofs.pour.copy_from.Statement.{statement}
 use Rattle.layout.proofs.pour.copy_from.Tie as tie
 

@@ -1,9 +1,9 @@
 -- `layout::pour::write_line` meets its contract, by the kind of the entry.
 use mathlib.Core.Path.{ap}
 use native.Mathlib.Omega.{arith}
+use borrow.Author.Needs.{needs}
 use Rattle.lines.specs.Lines.{first}
 use Rattle.layout.proofs.Sources.{as-entry}
-use borrow.Author.Needs.{needs}
 use Rattle.layout.proofs.pour.write_line.Statement.{statement}
 use Rattle.layout.proofs.pour.write_line.Tie as tie
 

@@ -1,6 +1,6 @@
 -- `layout::pour::write_paragraph` meets its contract.
-use borrow.Author.Tests.{eq-eqb, ne-eqb}
 use borrow.Author.Needs.{needs}
+use borrow.Author.Tests.{eq-eqb, ne-eqb}
 use Rattle.layout.proofs.pour.write_paragraph.Statement.{statement}
 use Rattle.layout.proofs.pour.write_paragraph.Tie as tie
 

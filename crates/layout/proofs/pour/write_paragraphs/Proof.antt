@@ -2,10 +2,10 @@
 use Prim.Native.Nat.{_-_, _/_}
 use mathlib.Core.Path.{refl}
 use native.Mathlib.Omega.{arith}
-use Rattle.layout.specs.PlanLaws.{writtenIn}
-use Rattle.layout.proofs.Laying.{Pouring, pouring-none, pouring-more, pouring-all}
-use Rattle.layout.proofs.Sources.{poured}
 use borrow.Author.Needs.{needs}
+use Rattle.layout.proofs.Laying.{Pouring, pouring-none, pouring-more, pouring-all}
+use Rattle.layout.specs.Code.Plan.{writtenIn}
+use Rattle.layout.proofs.Sources.{poured}
 use Rattle.layout.proofs.pour.write_paragraphs.Statement.{statement}
 use Rattle.layout.proofs.pour.write_paragraphs.Tie as tie
 

@@ -1,7 +1,7 @@
 -- `rules::chapters::chapters_of` meets its contract. The loop's invariant: the first x chapters are filled in.
 use Prim.Native.Nat.{_-_}
-use Rattle.rules.proofs.Covers.{Judging, judging-none, judging-more, judging-all}
 use borrow.Author.Needs.{needs}
+use Rattle.rules.proofs.Covers.{Judging, judging-none, judging-more, judging-all}
 use Rattle.rules.proofs.chapters.chapters_of.Statement.{statement}
 use Rattle.rules.proofs.chapters.chapters_of.Tie as tie
 

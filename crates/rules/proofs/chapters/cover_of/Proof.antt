@@ -1,8 +1,8 @@
 -- `rules::chapters::cover_of` meets its contract. The loop's invariant: the three tests of the paragraphs below k.
 use Prim.Native.Nat.{_-_}
 use native.Mathlib.Omega.{arith}
-use Rattle.rules.proofs.Covers.{Covering, covering-none, covering-more, covering-all, few-place}
 use borrow.Author.Needs.{needs}
+use Rattle.rules.proofs.Covers.{Covering, covering-none, few-place, covering-more, covering-all}
 use Rattle.rules.proofs.chapters.cover_of.Statement.{statement}
 use Rattle.rules.proofs.chapters.cover_of.Tie as tie
 

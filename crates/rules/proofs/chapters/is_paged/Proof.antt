@@ -1,11 +1,11 @@
 -- `rules::chapters::is_paged` meets its contract. The loop's invariant: r says whether one of the first y pages is in use.
-use Prim.Native.Nat.{suc, _+_, _*_, _-_}
+use Prim.Native.Nat.{_*_, _+_, suc, _-_}
 use mathlib.Core.Bool.{false}
 use native.Mathlib.Numerals.{add-one}
 use lib.ListN.{getD}
-use Rattle.rules.specs.SurveyLaws.{pagedIn}
-use Rattle.rules.proofs.Joined.{Somewhere, somewhere-none, somewhere-more, somewhere-all}
 use borrow.Author.Needs.{needs}
+use Rattle.rules.proofs.Joined.{Somewhere, somewhere-none, somewhere-more, somewhere-all}
+use Rattle.rules.specs.Code.Survey.{pagedIn}
 use Rattle.rules.proofs.chapters.is_paged.Statement.{statement}
 use Rattle.rules.proofs.chapters.is_paged.Tie as tie
 

@@ -1,7 +1,7 @@
 -- `rules::chapters::is_rom` meets its contract.
-use Rattle.words.specs.Tests.{tests}
 use borrow.Author.Tests.{ne-eqb}
 use borrow.Author.Needs.{needs}
+use Rattle.basics.specs.Laws.Tests.{tests}
 use Rattle.rules.proofs.chapters.is_rom.Statement.{statement}
 use Rattle.rules.proofs.chapters.is_rom.Tie as tie
 

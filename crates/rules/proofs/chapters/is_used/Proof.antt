@@ -1,11 +1,11 @@
 -- `rules::chapters::is_used` meets its contract. The loop's invariant: r says whether one of the first k paragraphs has an owner.
-use Prim.Native.Nat.{_+_, _*_, _-_}
+use Prim.Native.Nat.{_*_, _+_, _-_}
 use mathlib.Core.Bool.{not}
-use lib.ListN.{getD}
 use lib.Dec.{eqb}
-use Rattle.rules.specs.SurveyLaws.{usedIn}
-use Rattle.rules.proofs.Joined.{Somewhere, somewhere-none, somewhere-more, somewhere-all}
+use lib.ListN.{getD}
 use borrow.Author.Needs.{needs}
+use Rattle.rules.proofs.Joined.{Somewhere, somewhere-none, somewhere-more, somewhere-all}
+use Rattle.rules.specs.Code.Survey.{usedIn}
 use Rattle.rules.proofs.chapters.is_used.Statement.{statement}
 use Rattle.rules.proofs.chapters.is_used.Tie as tie
 

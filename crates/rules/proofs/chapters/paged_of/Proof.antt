@@ -1,9 +1,9 @@
 -- `rules::chapters::paged_of` meets its contract. The loop's invariant: the first x chapters are filled in.
 use Prim.Native.Nat.{_-_}
 use mathlib.Core.Bool.{false}
-use Rattle.words.specs.Tables.{Filled, filled-none, filled-more, filled-all}
-use Rattle.rules.specs.SurveyLaws.{pagedIn}
 use borrow.Author.Needs.{needs}
+use Rattle.basics.specs.Laws.Tables.{Filled, filled-none, filled-more, filled-all}
+use Rattle.rules.specs.Code.Survey.{pagedIn}
 use Rattle.rules.proofs.chapters.paged_of.Statement.{statement}
 use Rattle.rules.proofs.chapters.paged_of.Tie as tie
 

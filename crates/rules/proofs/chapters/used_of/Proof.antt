@@ -1,9 +1,9 @@
 -- `rules::chapters::used_of` meets its contract. The loop's invariant: the first s slots are filled in.
-use Prim.Native.Nat.{_-_, _/_, _%_}
+use Prim.Native.Nat.{_/_, _%_, _-_}
 use mathlib.Core.Bool.{false}
-use Rattle.words.specs.Tables.{Filled, filled-none, filled-more, filled-all}
-use Rattle.rules.specs.SurveyLaws.{usedIn}
 use borrow.Author.Needs.{needs}
+use Rattle.basics.specs.Laws.Tables.{Filled, filled-none, filled-more, filled-all}
+use Rattle.rules.specs.Code.Survey.{usedIn}
 use Rattle.rules.proofs.chapters.used_of.Statement.{statement}
 use Rattle.rules.proofs.chapters.used_of.Tie as tie
 

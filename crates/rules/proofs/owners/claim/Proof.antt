@@ -1,7 +1,7 @@
 -- `rules::owners::claim` meets its contract. The loop's invariant: the first j places are claimed.
 use Prim.Native.Nat.{_-_}
-use Rattle.rules.proofs.Claims.{Claiming, claiming-none, claiming-more, claiming-all}
 use borrow.Author.Needs.{needs}
+use Rattle.rules.proofs.Claims.{Claiming, claiming-none, claiming-more, claiming-all}
 use Rattle.rules.proofs.owners.claim.Statement.{statement}
 use Rattle.rules.proofs.owners.claim.Tie as tie
 

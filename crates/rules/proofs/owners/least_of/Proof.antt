@@ -1,9 +1,9 @@
 -- `rules::owners::least_of` meets its contract. The loop's invariant: r is the least owner of the first j places.
-use Prim.Native.Nat.{_-_, _≤_}
+use Prim.Native.Nat.{_≤_, _-_}
 use mathlib.Core.Path.{_≡_}
-use Rattle.rules.specs.NumberLaws.{leastIn}
-use Rattle.rules.proofs.Claims.{least-none, least-more, least-all}
 use borrow.Author.Needs.{needs}
+use Rattle.rules.specs.Code.Numbers.{leastIn}
+use Rattle.rules.proofs.Claims.{least-none, least-more, least-all}
 use Rattle.rules.proofs.owners.least_of.Statement.{statement}
 use Rattle.rules.proofs.owners.least_of.Tie as tie
 

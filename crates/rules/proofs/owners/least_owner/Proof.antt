@@ -1,5 +1,5 @@
 -- `rules::owners::least_owner` meets its contract.
-use Rattle.words.specs.Tests.{tests}
+use Rattle.basics.specs.Laws.Tests.{tests}
 use Rattle.rules.proofs.owners.least_owner.Statement.{statement}
 use Rattle.rules.proofs.owners.least_owner.Tie as tie
 

@@ -1,7 +1,7 @@
 -- `rules::owners::page_of` meets its contract, by the layer.
 use mathlib.Core.Logic.{inl, inr}
-use Rattle.rules.specs.SpanLaws.{spans-page-none, spans-page}
 use borrow.Author.Needs.{needs}
+use Rattle.rules.specs.Laws.Spans.{spans-page-none, spans-page}
 use Rattle.rules.proofs.owners.page_of.Statement.{statement}
 use Rattle.rules.proofs.owners.page_of.Tie as tie
 

@@ -1,7 +1,7 @@
 -- `rules::owners::paragraphs_of` meets its contract, by the layer.
 use native.Mathlib.Omega.{arith}
-use Rattle.rules.specs.SpanLaws.{spans-plain-none, spans-paragraph}
 use borrow.Author.Needs.{needs}
+use Rattle.rules.specs.Laws.Spans.{spans-plain-none, spans-paragraph}
 use Rattle.rules.proofs.owners.paragraphs_of.Statement.{statement}
 use Rattle.rules.proofs.owners.paragraphs_of.Tie as tie
 

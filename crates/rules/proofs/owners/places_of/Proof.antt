@@ -1,6 +1,6 @@
 -- `rules::owners::places_of` meets its contract, by the layer.
-use Rattle.rules.specs.SpanLaws.{spans-place-none, spans-place}
 use borrow.Author.Needs.{needs}
+use Rattle.rules.specs.Laws.Spans.{spans-place-none, spans-place}
 use Rattle.rules.proofs.owners.places_of.Statement.{statement}
 use Rattle.rules.proofs.owners.places_of.Tie as tie
 

@@ -1,6 +1,6 @@
 -- `rules::owners::reached` meets its contract.
-use Rattle.rules.specs.SpanLaws.{reaches-none, reaches-some}
 use borrow.Author.Needs.{needs}
+use Rattle.rules.specs.Laws.Spans.{reaches-none, reaches-some}
 use Rattle.rules.proofs.owners.reached.Statement.{statement}
 use Rattle.rules.proofs.owners.reached.Tie as tie
 

@@ -1,5 +1,5 @@
 -- `rules::owners::taken` meets its contract.
-use Rattle.words.specs.Tests.{tests}
+use Rattle.basics.specs.Laws.Tests.{tests}
 use Rattle.rules.proofs.owners.taken.Statement.{statement}
 use Rattle.rules.proofs.owners.taken.Tie as tie
 

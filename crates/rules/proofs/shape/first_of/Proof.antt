@@ -1,7 +1,7 @@
 -- `rules::shape::first_of` meets its contract, by the kind of the entry.
 use mathlib.Core.Path.{sym, ap}
-use Rattle.lines.specs.Lines.{first}
 use borrow.Author.Needs.{needs}
+use Rattle.lines.specs.Lines.{first}
 use Rattle.rules.proofs.shape.first_of.Statement.{statement}
 use Rattle.rules.proofs.shape.first_of.Tie as tie
 

@@ -1,7 +1,7 @@
 -- `rules::shape::is_misshapen` meets its contract, by what the test of each kind of entry ensures.
-use mathlib.Core.Path.{sym, ap, _∙_}
-use Rattle.rules.specs.Rules.{misshapen}
+use mathlib.Core.Path.{_∙_, sym, ap}
 use borrow.Author.Needs.{needs}
+use Rattle.rules.specs.Rules.{misshapen}
 use Rattle.rules.proofs.shape.is_misshapen.Statement.{statement}
 use Rattle.rules.proofs.shape.is_misshapen.Tie as tie
 

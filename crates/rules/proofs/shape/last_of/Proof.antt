@@ -1,7 +1,7 @@
 -- `rules::shape::last_of` meets its contract, by the kind of the entry.
-use mathlib.Core.Path.{sym, ap, _∙_}
-use Rattle.lines.specs.Lines.{last}
+use mathlib.Core.Path.{_∙_, sym, ap}
 use borrow.Author.Needs.{needs}
+use Rattle.lines.specs.Lines.{last}
 use Rattle.rules.proofs.shape.last_of.Statement.{statement}
 use Rattle.rules.proofs.shape.last_of.Tie as tie
 

@@ -1,8 +1,8 @@
 -- `rules::shape::layer_of` meets its contract, by the kind of the entry.
 use mathlib.Core.Path.{ap}
 use native.Mathlib.Omega.{arith}
-use Rattle.lines.specs.Lines.{layer}
 use borrow.Author.Needs.{needs}
+use Rattle.lines.specs.Lines.{layer}
 use Rattle.rules.proofs.shape.layer_of.Statement.{statement}
 use Rattle.rules.proofs.shape.layer_of.Tie as tie
 

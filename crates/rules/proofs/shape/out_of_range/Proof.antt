@@ -1,7 +1,7 @@
 -- `rules::shape::out_of_range` meets its contract, by what the test of each kind of entry ensures.
-use mathlib.Core.Path.{sym, ap, _∙_}
-use Rattle.rules.specs.Rules.{outOfRange}
+use mathlib.Core.Path.{_∙_, sym, ap}
 use borrow.Author.Needs.{needs}
+use Rattle.rules.specs.Rules.{outOfRange}
 use Rattle.rules.proofs.shape.out_of_range.Statement.{statement}
 use Rattle.rules.proofs.shape.out_of_range.Tie as tie
 

@@ -1,6 +1,6 @@
 -- `rules::page_shape` meets its contract, by what the tests that it joins ensure.
-use Rattle.rules.specs.Rules.{pageShape}
 use borrow.Author.Needs.{needs}
+use Rattle.rules.specs.Rules.{pageShape}
 use Rattle.rules.proofs.shape.page_shape.Statement.{statement}
 use Rattle.rules.proofs.shape.page_shape.Tie as tie
 

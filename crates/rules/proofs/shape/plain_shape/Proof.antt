@@ -1,6 +1,6 @@
 -- `rules::plain_shape` meets its contract, by what the tests that it joins ensure.
-use Rattle.rules.specs.Rules.{plainShape}
 use borrow.Author.Needs.{needs}
+use Rattle.rules.specs.Rules.{plainShape}
 use Rattle.rules.proofs.shape.plain_shape.Statement.{statement}
 use Rattle.rules.proofs.shape.plain_shape.Tie as tie
 

@@ -1,6 +1,6 @@
 -- `rules::touches_silent` meets its contract, by what the tests that it joins ensure.
-use Rattle.rules.specs.Rules.{touchesSilent}
 use borrow.Author.Needs.{needs}
+use Rattle.rules.specs.Rules.{touchesSilent}
 use Rattle.rules.proofs.shape.touches_silent.Statement.{statement}
 use Rattle.rules.proofs.shape.touches_silent.Tie as tie
 

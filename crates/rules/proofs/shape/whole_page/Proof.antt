@@ -1,7 +1,7 @@
 -- `rules::whole_page` meets its contract, by what the tests that it joins ensure.
 use mathlib.Core.Path.{refl}
-use Rattle.rules.proofs.Tests.{one-more}
 use borrow.Author.Needs.{needs}
+use Rattle.rules.proofs.Tests.{one-more}
 use Rattle.rules.proofs.shape.whole_page.Statement.{statement}
 use Rattle.rules.proofs.shape.whole_page.Tie as tie
 

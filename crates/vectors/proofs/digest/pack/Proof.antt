@@ -1,5 +1,5 @@
 -- `digest::pack` is safe and ends: the place stays within the words, and the buffer keeps its length.
-use Prim.Native.Nat.{_-_, _≤_}
+use Prim.Native.Nat.{_≤_, _-_}
 use mathlib.Core.Path.{_≡_}
 use lib.ListN.{length}
 use borrow.Author.Needs.{needs}

@@ -1,5 +1,5 @@
 -- `fill::fill_words` is safe and ends: the place stays within the buffer, which keeps its length.
-use Prim.Native.Nat.{_-_, _≤_}
+use Prim.Native.Nat.{_≤_, _-_}
 use mathlib.Core.Path.{_≡_}
 use lib.ListN.{length, length-set}
 use borrow.Author.Needs.{needs}

@@ -1,5 +1,5 @@
 -- `writes::marks_of` is safe and ends: there are 2,048 marks.
-use Prim.Native.Nat.{_-_, _≤_}
+use Prim.Native.Nat.{_≤_, _-_}
 use mathlib.Core.Path.{_≡_}
 use lib.ListN.{length}
 use borrow.Author.Needs.{needs}

@@ -1,0 +1,34 @@
+-- The plan by the survey of some lines is the plan of those lines.
+use Prim.Native.Nat.{ℕ, _<_, zero, suc, _≤_}
+use mathlib.Core.Bool.{Bool, true, _&&_, false}
+use mathlib.Core.Path.{_≡_, refl}
+use mathlib.Core.Logic.{_⊎_, inl, inr}
+use native.Mathlib.Omega.{arith}
+use native.Mathlib.Nat.{eq-or-lt-of-le}
+use lib.Dec.{eqb}
+use borrow.Author.Tests.{eqb-true, eq-eqb}
+use Rattle.basics.specs.Counts.{nth, count}
+use Rattle.basics.specs.Laws.Tests.{cases, and-left, and-right, true-is-not-false}
+use Rattle.basics.specs.Laws.Counts.{count-one, count-same}
+
+pub nth-count : (f : ℕ → Bool) (n m : ℕ) → f m ≡ true → m < n → nth f n (count f m) ≡ m
+unfolding nth
+nth-count f zero m e h = absurd (omega arith)
+nth-count f (suc n) m e h =
+    cases (f n && eqb (count f n) (count f m))
+    (λ t. rw t (count-one f n m (and-left _ _ t) e (eqb-true (count f n) (count f m) (and-right (f n) _ t))))
+    (λ t. rw t (before t (eq-or-lt-of-le (omega arith)) (λ l. nth-count f n m e l)))
+  where
+    before : f n && eqb (count f n) (count f m) ≡ false → (m ≡ n) ⊎ (m < n) → (m < n → nth f n (count f m) ≡ m) → nth f n (count f m) ≡ m
+    before t (inl q) k = true-is-not-false (rw (← q, e) (eq-eqb (count f m) (count f m) refl)) t
+    before t (inr l) k = k l
+
+pub nth-same : (f g : ℕ → Bool) (n i : ℕ) → ((j : ℕ) → j < n → f j ≡ g j) → nth f n i ≡ nth g n i
+unfolding nth
+nth-same f g zero i h = refl
+nth-same f g (suc n) i h = rw (h n (omega arith), count-same f g n (λ j l. h j (omega arith)), nth-same f g n i (λ j l. h j (omega arith)))
+
+pub nth-below : (f : ℕ → Bool) (n m i : ℕ) → n ≤ m → 0 < m → nth f n i < m
+unfolding nth
+nth-below f zero m i h l = l
+nth-below f (suc n) m i h l = cases (f n && eqb (count f n) i) (λ e. rw e (omega arith)) (λ e. rw e (nth-below f n m i (omega arith) l))

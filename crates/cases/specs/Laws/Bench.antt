@@ -1,0 +1,33 @@
+-- Laws of `Bench`.
+use mathlib.Core.Path.{refl}
+use Rattle.sums.specs.Crc.{crcFrom, crcByte, crcBits, crcBit}
+use Rattle.cart.specs.Machine.{asks}
+use Rattle.grammar.specs.Grammar.{wordsSay, mappingLine, headingLine, romLine, pagedLine, romOf, pagedOf, _>>=_, dollar, page, hexFrom, same}
+use Rattle.grammar.specs.Words.{cut}
+use Rattle.cfg.specs.File.{linesOf, saysFrom, entriesFrom}
+use Rattle.cfg.specs.Laws.Examples.{case8}
+use Rattle.plays.specs.Laws.Bench.{case-6, case-7}
+use Rattle.cases.specs.Bench.{Bench}
+
+pub bench : Bench
+unfolding crcFrom crcByte crcBits crcBit asks linesOf saysFrom entriesFrom wordsSay mappingLine headingLine romLine pagedLine romOf pagedOf _>>=_ dollar page hexFrom same cut
+bench =
+    record {
+      dowcrc-16 = refl;
+      dowcrc-4 = refl;
+      crc32-16 = refl;
+      crc32-4 = refl;
+      flip-mapping = refl;
+      flip-permissions = refl;
+      flip-location = refl;
+      narrow = refl;
+      asks-83 = refl;
+      asks-elsewhere = refl;
+      asks-beside = refl;
+      rom-file = refl;
+      rom = case-6;
+      page-file = refl;
+      page-2 = case-7;
+      entries-64 = case8 .0;
+      entries-65 = case8 .2;
+    }

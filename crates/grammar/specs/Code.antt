@@ -1,0 +1,3 @@
+-- What private functions promise.
+pub mod Words
+pub mod Steps

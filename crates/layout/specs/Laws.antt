@@ -1,0 +1,10 @@
+-- Theorems over the definitions.
+pub mod Layout
+pub mod Places
+pub mod Uses
+pub mod Tables
+pub mod Shows
+pub mod Few
+pub mod Examples
+pub mod Plan
+pub mod Draw

@@ -1,0 +1,26 @@
+-- The layout by the owner tables, for the code that keeps them; and bounds of what it numbers.
+use Prim.Native.Nat.{ℕ, _<_, _*_, _/_, _+_, _≤_}
+use mathlib.Core.List.{List}
+use mathlib.Core.Path.{_≡_, sym, _∙_, refl}
+use mathlib.Core.Bool.{true}
+use native.Mathlib.Omega.{arith}
+use lib.Dec.{ltb}
+use lib.ListN.{length}
+use borrow.Author.Tests.{ltb-true}
+use Rattle.basics.specs.Laws.Tests.{cases, true-is-not-false}
+use Rattle.basics.specs.Laws.Tables.{length-table}
+use Rattle.lines.specs.declared.Line.{Line}
+use Rattle.layout.specs.Layout.{covered, pages, lineHeld, needed, paragraphWords, writtenOf, paragraphHeld}
+
+-- covered paragraphs lie in the pages, and each has its 256 words
+pub covered-below : (lines : List Line) (p : ℕ) → covered lines p ≡ true → p < 16 * pages lines
+unfolding lineHeld
+covered-below lines p e =
+    cases (ltb (p / 16) (pages lines)) (λ h. omega (arith, ltb-true (p / 16) (pages lines) h)) (λ h. true-is-not-false (sym (rw h) ∙ e) refl)
+
+pub covered-inside : (lines : List Line) (p : ℕ) → covered lines p ≡ true → 256 * p + 256 ≤ needed lines
+covered-inside lines p e = omega (arith, covered-below lines p e)
+
+pub length-words : (bin : List ℕ) (lines : List Line) (p : ℕ) → length (paragraphWords bin lines p) ≡ 256
+unfolding paragraphWords
+length-words bin lines p = length-table 256 (λ i. writtenOf bin (lineHeld lines p) (record { 0 = 256 * paragraphHeld lines p + i }))

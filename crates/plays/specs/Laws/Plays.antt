@@ -1,0 +1,48 @@
+-- Demand 3: a built cartridge plays as its CFG reads, over every list of accesses. By a relation that each access keeps.
+use Prim.Native.Nat.{ℕ}
+use mathlib.Core.List.{List, _∷_, []}
+use mathlib.Core.Path.{_≡_, ap, refl}
+use Rattle.cart.specs.declared.Answer.{Answer}
+use Rattle.cart.specs.Run.{World, Access, step, Read, Write, Reset, said, answers}
+use Rattle.lines.specs.declared.Line.{Line}
+use Rattle.rules.specs.Laws.Rules.{Good, good}
+use Rattle.rules.specs.Accepted.{Accepted}
+use Rattle.plays.specs.Plain.{Plain, plainStep, plainSaid, plainAnswers, fresh}
+use Rattle.plays.specs.Laws.Tabled.{Tabled, tabled-reset, tabled-start}
+use Rattle.plays.specs.Laws.Held.{Held, held-start}
+use Rattle.plays.specs.Laws.Steps.{tables-after, ram-after, read-alike}
+use Rattle.plays.specs.Loaded.{Loaded, loaded}
+
+-- the tables are those of the page numbers, and each word of a line is at its place
+pub record Tied (bin : List ℕ) (lines : List Line) (w : World) (c : Plain) : Type 0 where
+  pub tabled : Tabled lines (w .cartridge) (c .number)
+  pub held : Held bin lines (w .ram) (c .ram)
+
+module _ {bin : List ℕ} {lines : List Line} (g : Good lines) where
+  step-tied : (w : World) (c : Plain) (x : Access) → Tied bin lines w c → Tied bin lines (step w x) (plainStep lines c x)
+  step-tied w c (Read a) t = t
+  step-tied w c (Write a v) t =
+      record {
+        tabled = tables-after g (w .cartridge) (w .ram) (c .number) (c .ram) (t .tabled) (t .held) a v;
+        held = ram-after g (w .cartridge) (w .ram) (c .number) (c .ram) (t .tabled) (t .held) a v;
+      }
+  step-tied w c Reset t = record { tabled = tabled-reset (t .tabled); held = t .held }
+
+  said-alike : (w : World) (c : Plain) (x : Access) → Tied bin lines w c → said w x ≡ plainSaid bin lines c x
+  said-alike w c (Read a) t =
+      ap (λ (r : Answer). r ∷ []) (read-alike g (w .cartridge) (w .ram) (c .number) (c .ram) (t .tabled) (t .held) a)
+  said-alike w c (Write a v) t = refl
+  said-alike w c Reset t = refl
+
+  answers-alike : (w : World) (c : Plain) (xs : List Access) → Tied bin lines w c → answers w xs ≡ plainAnswers bin lines c xs
+  answers-alike w c [] t = refl
+  answers-alike w c (x ∷ xs) t =
+      simp (said-alike w c x t, answers-alike (step w x) (plainStep lines c x) xs (step-tied w c x t))
+
+  start-tied : (ram : List ℕ) → Loaded bin lines ram → Tied bin lines (loaded lines ram) fresh
+  start-tied ram h = record { tabled = tabled-start lines; held = held-start bin (g .fine) ram h }
+
+-- for lines that a build accepts, and any RAM with the image's words in it
+pub plays : {bin : List ℕ} {lines : List Line} → Accepted bin lines → (ram : List ℕ) → Loaded bin lines ram → (xs : List Access) →
+    answers (loaded lines ram) xs ≡ plainAnswers bin lines fresh xs
+plays {bin} {lines} a ram h xs = answers-alike (good a) (loaded lines ram) fresh xs (start-tied (good a) ram h)

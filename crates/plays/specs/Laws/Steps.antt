@@ -1,0 +1,242 @@
+-- One access, by the machine and by the plain cartridge: a read is answered alike, and a write keeps the two tied.
+use Prim.Native.Nat.{ℕ, _≤_, _*_, _/_, _%_, _+_, _<_, min}
+use mathlib.Core.List.{List}
+use mathlib.Core.Path.{_≡_, _∙_, ap, refl, sym}
+use mathlib.Core.Bool.{Bool, false, true, cond, _&&_}
+use mathlib.Core.Option.{Option, some, none}
+use native.Mathlib.Omega.{arith}
+use lib.ListN.{getD, length, set}
+use lib.Dec.{eqb, leb}
+use borrow.Author.Tests.{lt-ltb, eqb-true, le-leb}
+use Rattle.basics.specs.Laws.Tables.{past-table}
+use Rattle.basics.specs.Laws.Tests.{true-is-not-false, cases, and-left, and-right}
+use Rattle.basics.specs.Laws.Options.{some-is-not-none}
+use Rattle.places.specs.declared.Console.{Console}
+use Rattle.cart.specs.declared.Cartridge.{Cartridge}
+use Rattle.cart.specs.declared.Taker.the-variants.{Ram, Flip}
+use Rattle.cart.specs.declared.Request.the-variants.{Entry}
+use Rattle.cart.specs.Machine.{READ, paragraph, locate, lies, readOf, readBy, fetched, storedBy, WRITE, stored, storedWord, NARROW, takes, asks, writeOf, writeRamOf, firstK}
+use Rattle.cart.specs.Laws.Machine.{first-small}
+use Rattle.lines.specs.declared.Line.{Line}
+use Rattle.lines.specs.declared.Width.the-variants.{Sixteen, Eight}
+use Rattle.lines.specs.Lines.{lineAt, layer, isRam}
+use Rattle.lines.specs.Laws.Lines.{ram-plain}
+use Rattle.rules.specs.Laws.Rules.{Good, paged-below, found-below, found-open, paged-above, not-ram}
+use Rattle.rules.specs.Rules.{paged}
+use Rattle.layout.specs.Layout.{permissionsAt, permissionOf, flipEntry, permissionBy, mappingAt, needed}
+use Rattle.layout.specs.Laws.Layout.{placeOf}
+use Rattle.layout.specs.Laws.Places.{place-below}
+use Rattle.layout.specs.Laws.Few.{needed-small}
+use Rattle.layout.specs.Laws.Shows.{pfe-is}
+use Rattle.plays.specs.Plain.{shownLine, answerBy, plainRead, ramBy, ramAfter, isRequest, numberAfter}
+use Rattle.plays.specs.Laws.Shown.{shows, none-past, shown-line, ram-shown}
+use Rattle.plays.specs.Laws.Tabled.{Tabled, flips-length, flip-in, tabled-flip, tabled-idle}
+use Rattle.plays.specs.Laws.Held.{Held, held-store, ram-word}
+use Rattle.lines.specs.declared.Entry as Entries
+use Rattle.lines.specs.declared.Entry.the-variants as Kinds
+
+module _ {lines : List Line} (g : Good lines) where
+  permissions-past : (y p : ℕ) → 256 ≤ p → permissionsAt lines y p ≡ 0
+  permissions-past y p s =
+      let q : 256 * p / 256 ≡ p = omega arith in
+      let e : permissionsAt lines y (256 * p / 256) ≡ permissionOf (shownLine lines y (record { 0 = 256 * p })) =
+      shows g y (record { 0 = 256 * p }) .permissions in
+      rw q at e ∙ ap permissionOf (none-past g y (record { 0 = 256 * p }) (omega arith))
+
+  unpaged-past : (x : ℕ) → 16 ≤ x → (b : Bool) → paged lines x ≡ b → paged lines x ≡ false
+  unpaged-past x s true e = absurd (omega (arith, paged-below (g .fine) x e))
+  unpaged-past x s false e = e
+
+  flip-past : (x y : ℕ) → 16 ≤ x → flipEntry lines x y ≡ 0
+  unfolding flipEntry
+  flip-past x y s = simp (unpaged-past x s (paged lines x) refl)
+
+-- every line's permissions let it be read; RAM's let it be written
+reads : (e : Entries.Entry) → READ (permissionBy e) ≡ true
+reads (Kinds.Rom lo hi at) = refl
+reads (Kinds.Paged lo hi at y) = refl
+reads (Kinds.Ram lo hi Sixteen) = refl
+reads (Kinds.Ram lo hi Eight) = refl
+
+module _ {bin : List ℕ} {lines : List Line} (g : Good lines) (c : Cartridge) (ram : List ℕ) (number : ℕ → ℕ) (mem : Console → ℕ)
+    (t : Tabled lines c number) (h : Held bin lines ram mem) (at : Console) where
+  -- the line shown at the address
+  abbrev shown : Option Line
+  shown = shownLine lines (number (at .0 / 4096)) at
+
+  permission : ℕ
+  permission = getD (c .permissions) (paragraph at) 0
+
+  -- the permissions of every paragraph, and every flip entry: past the tables both are 0
+  permissions-at : (p : ℕ) → getD (c .permissions) p 0 ≡ permissionsAt lines (number (p / 16)) p
+  permissions-at =
+      past-table (c .permissions) (λ p. permissionsAt lines (number (p / 16)) p) (t .permissions-length) (t .permissions)
+      (λ p s. permissions-past g (number (p / 16)) p s)
+
+  flip-at : (n : ℕ) → getD (c .flips) n 0 ≡ flipEntry lines (n / 16) (n % 16)
+  flip-at =
+      past-table (c .flips) (λ n. flipEntry lines (n / 16) (n % 16)) (flips-length t) (flip-in t)
+      (λ n s. flip-past g (n / 16) (n % 16) (omega arith))
+
+  -- what the machine finds at the address: the permissions and the place of the line shown
+  chapter : at .0 / 256 / 16 ≡ at .0 / 4096
+  chapter = omega arith
+
+  permissions-there : getD (c .permissions) (paragraph at) 0 ≡ permissionOf shown
+  permissions-there = permissions-at (at .0 / 256) ∙ rw chapter (shows g (number (at .0 / 4096)) at .permissions)
+
+  module _ (l : Line) (e : shown ≡ some l) where
+    line-there : lineAt lines (layer (l .entry)) (at .0) ≡ some l
+    line-there = shown-line g (number (at .0 / 4096)) at l e
+
+    place-there : locate (getD (c .mapping) (paragraph at) 0) at .0 ≡ placeOf lines (layer (l .entry)) at .0
+    place-there =
+        let m : getD (c .mapping) (at .0 / 256) 0 ≡ mappingAt lines (number (at .0 / 4096)) (at .0 / 256) =
+        t .mapping (at .0 / 256) (omega (arith, found-below (g .fine) (layer (l .entry)) (at .0) l line-there)) ∙ rw chapter in
+        let p : mappingAt lines (number (at .0 / 4096)) (at .0 / 256) * 256 + at .0 % 256 ≡ placeOf lines (layer (l .entry)) at .0 =
+        shows g (number (at .0 / 4096)) at .mapping l e in
+        let b : placeOf lines (layer (l .entry)) at .0 < needed lines = place-below (g .fine) (layer (l .entry)) at l line-there in
+        let s : placeOf lines (layer (l .entry)) at .0 % 524288 ≡ placeOf lines (layer (l .entry)) at .0 = omega (arith, needed-small g) in
+        rw (m, p, s)
+
+  lies-there : (u : ℕ) (l : Line) → lineAt lines u (at .0) ≡ some l → lies (placeOf lines u at) ram ≡ true
+  lies-there u l e =
+      lt-ltb (placeOf lines u at .0) (min (length ram) 524288) (omega (arith, place-below (g .fine) u at l e, h .room, needed-small g))
+
+  -- a read
+  read-case : (o : Option Line) → shown ≡ o → readOf c ram at ≡ answerBy bin mem o at
+  unfolding readBy fetched
+  read-case none e = simp (permissions-there, e)
+  read-case (some l) e =
+      simp (
+        permissions-there,
+        place-there l e,
+        e,
+        reads (l .entry),
+        lies-there (layer (l .entry)) l (line-there l e),
+        found-open (g .fine) (layer (l .entry)) (at .0) l (line-there l e),
+        h .words (layer (l .entry)) at l (line-there l e),
+      )
+
+  pub read-alike : readOf c ram at ≡ plainRead bin lines (record { number = number; ram = mem }) at
+  unfolding plainRead
+  read-alike = read-case shown refl
+
+  -- a store: what the plain cartridge keeps where no RAM line holds the address
+  kept-by : (e : Entries.Entry) (v : ℕ) → isRam e ≡ false → ramBy e mem at v ≡ mem
+  kept-by (Kinds.Rom lo hi a) v e = refl
+  kept-by (Kinds.Paged lo hi a y) v e = refl
+  kept-by (Kinds.Ram lo hi w) v e = true-is-not-false refl e
+
+  kept-at : (v : ℕ) (o : Option Line) → ((l : Line) → o ≡ some l → isRam (l .entry) ≡ false) → ramAfter o mem at v ≡ mem
+  kept-at v none f = refl
+  kept-at v (some l) f = kept-by (l .entry) v (f l refl)
+
+  kept : (v : ℕ) → ((l : Line) → shown ≡ some l → isRam (l .entry) ≡ false) → ramAfter (lineAt lines 0 (at .0)) mem at v ≡ mem
+  kept v f =
+      kept-at v (lineAt lines 0 (at .0))
+      (λ l q.
+      cases (isRam (l .entry)) (λ r. f l (ram-shown g (number (at .0 / 4096)) at l q r)) (λ r. r))
+
+  -- and by the line that is shown
+  Stores : ℕ → Type 0
+  Stores v = Held bin lines (storedBy (c .mapping) (c .permissions) ram at v) (ramAfter (lineAt lines 0 (at .0)) mem at v)
+
+  still : (v : ℕ) (o : Option Line) → shown ≡ o → ((l : Line) → o ≡ some l → isRam (l .entry) ≡ false) → WRITE (permissionOf o) ≡ false → Stores v
+  unfolding Stores storedBy stored
+  still v o e f w = simp (permissions-there, kept v (λ l q. f l (sym e ∙ q)), e, w) h
+
+  module _ (v : ℕ) (l : Line) (e : shown ≡ some l) (r : isRam (l .entry) ≡ true) where
+    ram-there : lineAt lines 0 (at .0) ≡ some l
+    ram-there = rw (ram-plain (l .entry) r) at (line-there l e)
+
+    ram-stored : WRITE (permissionBy (l .entry)) ≡ true →
+        storedBy (c .mapping) (c .permissions) ram at v
+        ≡ set ram (placeOf lines 0 at .0) (storedWord (NARROW (permissionBy (l .entry))) (getD ram (placeOf lines 0 at .0) 0) v)
+    unfolding storedBy stored
+    ram-stored w = simp (permissions-there, place-there l e, e, w, ram-plain (l .entry) r, lies-there 0 l ram-there)
+
+  store-by : (v : ℕ) (l : Line) → shown ≡ some l → (k : Entries.Entry) → l .entry ≡ k → Stores v
+  unfolding Stores
+  store-by v l e (Kinds.Rom lo hi a) q = still v (some l) e (λ m s. let r : l ≡ m = cc in rw (← r, q)) (rw q)
+  store-by v l e (Kinds.Paged lo hi a y) q = still v (some l) e (λ m s. let r : l ≡ m = cc in rw (← r, q)) (rw q)
+  store-by v l e (Kinds.Ram lo hi Sixteen) q =
+      let r : isRam (l .entry) ≡ true = rw q in
+      simp (ram-stored v l e r (rw q), ram-there v l e r, q)
+      (held-store bin (g .fine) ram mem h at v l (ram-there v l e r) r (λ k. true-is-not-false k (rw q)))
+  store-by v l e (Kinds.Ram lo hi Eight) q =
+      let r : isRam (l .entry) ≡ true = rw q in
+      let old : getD ram (placeOf lines 0 at .0) 0 ≡ mem at =
+      h .words 0 at l (ram-there v l e r) ∙ ram-word (l .entry) bin mem at r in
+      let low : getD ram (placeOf lines 0 at .0) 0 / 256 * 256 + v % 256 ≡ v % 256 = omega (arith, h .narrow at l (ram-there v l e r) (rw q)) in
+      simp (ram-stored v l e r (rw q), ram-there v l e r, q, low)
+      (held-store bin (g .fine) ram mem h at (v % 256) l (ram-there v l e r) r (λ k. omega arith))
+
+  store-case : (v : ℕ) (o : Option Line) → shown ≡ o → Stores v
+  store-case v none e = still v none e (λ l q. some-is-not-none q refl) refl
+  store-case v (some l) e = store-by v l e (l .entry) refl
+
+  held-write : (v : ℕ) → Stores v
+  held-write v = store-case v shown refl
+
+  -- a request
+  module _ (v : ℕ) where
+    takes-nothing : isRequest at v ≡ false → takes c at v ≡ Ram
+    unfolding asks
+    takes-nothing e = simp e
+
+    entry : ℕ
+    entry = at .0 / 4096 * 16 + v % 16
+
+    asks-entry : isRequest at v ≡ true → asks at v ≡ Entry entry
+    unfolding asks entry
+    asks-entry e =
+        let q : v / 4096 ≡ at .0 / 4096 = eqb-true _ _ (and-left (eqb (v / 4096) (at .0 / 4096)) _ (and-right (eqb (at .0 % 4096) 0xFFF) _ e)) in
+        rw (e, q)
+
+    entry-small : paged lines (at .0 / 4096) ≡ true → entry < 256
+    unfolding entry
+    entry-small p = omega (arith, paged-below (g .fine) (at .0 / 4096) p)
+
+    entry-chapter : entry / 16 ≡ at .0 / 4096
+    unfolding entry
+    entry-chapter = omega arith
+
+    entry-page : entry % 16 ≡ v % 16
+    unfolding entry
+    entry-page = omega arith
+
+    takes-by : isRequest at v ≡ true → takes c at v ≡ cond (paged lines (at .0 / 4096) && leb 2 (at .0 / 4096)) (Flip entry) Ram
+    takes-by e = simp (asks-entry e, flip-at entry, entry-chapter, pfe-is)
+
+    takes-flip : isRequest at v ≡ true → paged lines (at .0 / 4096) ≡ true → takes c at v ≡ Flip entry
+    takes-flip e p = takes-by e ∙ simp (p, le-leb _ _ (paged-above (g .fine) (at .0 / 4096) p))
+
+    takes-ram : isRequest at v ≡ true → paged lines (at .0 / 4096) ≡ false → takes c at v ≡ Ram
+    takes-ram e p = takes-by e ∙ simp p
+
+    -- what a write leaves of the tables and of the RAM, by its case
+    tables-by : (b q : Bool) → isRequest at v ≡ b → paged lines (at .0 / 4096) ≡ q → Tabled lines (writeOf c at v) (numberAfter number at v)
+    unfolding writeOf numberAfter
+    tables-by true true e p =
+        rw (takes-flip e p, e, ← entry-chapter, ← entry-page) (tabled-flip t entry (entry-small p) (rw entry-chapter p))
+    tables-by true false e p = rw (takes-ram e p, e) (tabled-idle t (at .0 / 4096) (v % 16) p)
+    tables-by false q e p = rw (takes-nothing e, e) t
+
+    request-last : isRequest at v ≡ true → at .0 % 4096 ≡ 0xFFF
+    request-last e = eqb-true (at .0 % 4096) 0xFFF (and-left (eqb (at .0 % 4096) 0xFFF) _ e)
+
+    ram-of : (b q : Bool) → isRequest at v ≡ b → paged lines (at .0 / 4096) ≡ q →
+        Held bin lines (writeRamOf c ram at v) (ramAfter (lineAt lines 0 (at .0)) mem at v)
+    unfolding writeRamOf Stores
+    ram-of true true e p =
+        let f : firstK (at .0 / 4096) ≤ at .0 / 256 % 16 = omega (arith, request-last e, first-small (at .0 / 4096)) in
+        rw (takes-flip e p, kept-at v (lineAt lines 0 (at .0)) (λ l q. not-ram g (at .0) f p l q)) h
+    ram-of true false e p = rw (takes-ram e p) (held-write v)
+    ram-of false q e p = rw (takes-nothing e) (held-write v)
+
+    pub tables-after : Tabled lines (writeOf c at v) (numberAfter number at v)
+    tables-after = tables-by (isRequest at v) (paged lines (at .0 / 4096)) refl refl
+
+    pub ram-after : Held bin lines (writeRamOf c ram at v) (ramAfter (lineAt lines 0 (at .0)) mem at v)
+    ram-after = ram-of (isRequest at v) (paged lines (at .0 / 4096)) refl refl

@@ -1,0 +1,5 @@
+-- What private functions promise.
+pub mod Shapes
+pub mod Survey
+pub mod Numbers
+pub mod Spans
