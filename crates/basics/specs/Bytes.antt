@@ -13,9 +13,12 @@ at24 s at = at16 s at + 65536 * getD s (at + 2) 0
 abbrev pub at32 : List ℕ → ℕ → ℕ
 at32 s at = at16 s at + 65536 * at16 s (at + 2)
 
--- the bytes of a number of 16, 32 bits; of words, one after the other
+-- the bytes of a number of 16, 24, 32 bits; of words, one after the other
 abbrev pub le16 : ℕ → List ℕ
 le16 w = w % 256 ∷ w / 256 ∷ []
+
+abbrev pub le24 : ℕ → List ℕ
+le24 x = x % 256 ∷ le16 (x / 256)
 
 abbrev pub le32 : ℕ → List ℕ
 le32 x = le16 (x % 65536) ++ le16 (x / 65536)
@@ -23,7 +26,3 @@ le32 x = le16 (x % 65536) ++ le16 (x / 65536)
 unfoldable pub bytes16 : List ℕ → List ℕ
 bytes16 [] = []
 bytes16 (w ∷ ws) = w % 256 ∷ w / 256 ∷ bytes16 ws
-
--- its payload: the address of its first word in three bytes, then its data blocks (001, Data Hunk)
-abbrev pub le24 : ℕ → List ℕ
-le24 x = x % 256 ∷ le16 (x / 256)

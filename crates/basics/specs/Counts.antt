@@ -1,4 +1,4 @@
--- Counting the places below a bound that pass a test, and asking whether each or some does.
+-- Places below a bound that pass a test: how many, whether each or any does, the lowest, and the one with so many before it.
 use Prim.Native.Nat.{ℕ, zero, suc, _+_}
 use mathlib.Core.Bool.{Bool, cond, true, _&&_, false, _||_}
 use lib.Dec.{eqb}
@@ -17,7 +17,7 @@ unfoldable pub any : ℕ → (ℕ → Bool) → Bool
 any zero f = false
 any (suc n) f = f n || any n f
 
--- of the n places from p on; the place after them where none passes
+-- the lowest that passes, of the n places from p on; the place after them where none passes
 unfoldable pub lowestFrom : ℕ → ℕ → (ℕ → Bool) → ℕ
 lowestFrom zero p f = p
 lowestFrom (suc n) p f = cond (f p) p (lowestFrom n (p + 1) f)

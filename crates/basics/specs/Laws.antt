@@ -6,6 +6,7 @@ pub mod Tables
 pub mod Counts
 pub mod Rows
 pub mod Refusals
+pub mod Numbered
 pub mod Stands
 pub mod Wrote
 pub mod Same

@@ -4,6 +4,7 @@ pub mod Bytes
 pub mod Tables
 pub mod Counts
 pub mod Rows
+pub mod Refusals
 pub mod Same
 pub mod Options
 pub mod Laws

@@ -1,4 +1,4 @@
--- Parts of a list, and words stored one after the other.
+-- Parts of a list, words stored one after the other, what is made of each element, and a fact of each.
 use Prim.Native.Nat.{ℕ, _-_, zero, suc, _+_}
 use mathlib.Core.List.{List, [], _∷_, _++_}
 use lib.ListN.{take, drop, set, length, getD}
@@ -12,6 +12,7 @@ unfoldable pub laid : ℕ → ℕ → (ℕ → ℕ) → List ℕ → List ℕ
 laid a zero w m = m
 laid a (suc n) w m = set (laid a n w m) (a + n) (w n)
 
+-- a list of words, stored at place a and on
 abbrev pub lay : ℕ → List ℕ → List ℕ → List ℕ
 lay a ws ram = laid a (length ws) (λ i. getD ws i 0) ram
 
@@ -20,6 +21,7 @@ unfoldable pub joined : {A : Type 0} → (A → List ℕ) → List A → List �
 joined f [] = []
 joined f (x ∷ xs) = f x ++ joined f xs
 
+-- P holds of each
 pub data Each {A : Type 0} (P : A → Type 0) : List A → Type 0 where
   none : Each P []
   also : {x : A} {xs : List A} → P x → Each P xs → Each P (x ∷ xs)

@@ -1,4 +1,4 @@
--- Rules 25 to 28 of a CFG's lines, each by itself, and the first that is broken (01, What a CFG may say; Numbers that come back).
+-- Whether there is one.
 use mathlib.Core.Option.{Option, none, some}
 use mathlib.Core.Bool.{Bool, false, true}
 

@@ -1,9 +1,28 @@
-// Bytes and words as numbers: the leaves that every crate above calls.
+// Bytes and words as numbers, and refusals: the leaves that every crate above calls.
 ghost use Prim.Native.Nat.{_/_, _%_, _<_, _≤_, min};
 ghost use mathlib.Core.Path.{_≡_};
 ghost use mathlib.Core.Bool.{_&&_, _||_};
 ghost use lib.ListN.{length, getD};
-ghost use Rattle.basics.specs.Bytes.{at16, at24, at32};
+ghost use Rattle.basics.specs.Bytes.{at16};
+ghost use Rattle.basics.specs.Refusals.{refuse, noRefusal};
+
+// A refusal: a number of 01's table, and its place; 0 and 0 where nothing is refused.
+pub struct Refusal {
+    pub number: u32,
+    pub place: usize,
+}
+
+pub fn refuse(number: u32, place: usize) -> Refusal
+    ensures { λ r. ⌜ r ≡ refuse number place ⌝ }
+{
+    Refusal { number, place }
+}
+
+pub fn no_refusal() -> Refusal
+    ensures { λ r. ⌜ r ≡ noRefusal ⌝ }
+{
+    refuse(0, 0)
+}
 
 // A byte as a number of another width.
 pub fn wide(x: u8) -> usize
@@ -36,6 +55,16 @@ pub fn byte_at(s: &[u8], at: usize) -> u8
     ensures { λ r. ⌜ r ≡ getD (now (s .entry)) at 0 ⌝ }
 {
     if at < s.len() { s[at] } else { 0 }
+}
+
+// The word at a place, its lower byte first; 0 for what lies past the end.
+pub fn word_at(s: &[u8], at: usize) -> u16
+    ensures { λ r. ⌜ r ≡ at16 (now (s .entry)) at ⌝ }
+{
+    if s.len() <= at {
+        return 0;
+    }
+    wide16(s[at]) + 256 * wide16(byte_at(s, at + 1))
 }
 
 pub fn least(a: usize, b: usize) -> usize

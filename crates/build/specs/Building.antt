@@ -6,7 +6,7 @@ use lib.ListN.{replicate, length, drop}
 use lib.Dec.{eqb, ltb}
 use Rattle.basics.specs.Bytes.{le32}
 use Rattle.basics.specs.Rows.{Row, firstOf}
-use Rattle.places.specs.Limits.{paragraphs, binLimit}
+use Rattle.places.specs.Limits.{locutusParagraphs, binLimit}
 use Rattle.sums.specs.Crc.{crc32Of}
 use Rattle.image.specs.Form.{Tables, Hunk, imageOf}
 use Rattle.image.specs.Chosen.{chosen}
@@ -31,7 +31,7 @@ abbrev pub tablesFor : List Line → Tables
 tablesFor lines = record { mapping = mappingTable lines; permissions = permissionsTable lines; flips = flipTable lines }
 
 abbrev pub hunksFor : List ℕ → List Line → List Hunk
-hunksFor bin lines = chosen paragraphs (covered lines) (paragraphWords bin lines)
+hunksFor bin lines = chosen locutusParagraphs (covered lines) (paragraphWords bin lines)
 
 -- the image
 unfoldable pub imageFor : List ℕ → List ℕ → List ℕ

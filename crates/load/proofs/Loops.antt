@@ -12,7 +12,7 @@ use mir.Val.{Fits}
 use Rattle.basics.specs.Rows.{Row, firstOf, Silent, Gives, here}
 use Rattle.basics.specs.Laws.Rows.{first-append, silent-first, gives-first}
 use Rattle.basics.specs.Laws.Tests.{or-assoc, true-is-not-false, cases}
-use Rattle.basics.specs.Laws.Refusals.{gives-refused}
+use Rattle.basics.specs.Laws.Numbered.{gives-refused}
 use Rattle.basics.specs.Lists.{part}
 use Rattle.hunk.specs.Hunk.{storeHunk}
 use Rattle.load.specs.declared.Verdict.{Verdict}

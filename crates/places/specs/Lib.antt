@@ -1,2 +1,4 @@
+-- The three numberings, and every number of 01.
+pub mod Places
 pub mod Limits
 pub mod Laws

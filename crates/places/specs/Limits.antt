@@ -1,36 +1,58 @@
--- The machine: what a read gets, and what a write and a reset leave (01, The machine).
-use Prim.Native.Nat.{ℕ, min}
+-- The numbers of 01, each once. The code has a constant of the same name for each, and a bench case says 01's numeral again.
+use Prim.Native.Nat.{ℕ, _*_, min}
 use mathlib.Core.List.{List}
 use lib.ListN.{length}
 
--- of a lent RAM the first 524,288 words at most count
+-- of a lent RAM the first 524,288 words at most count (01, The machine)
 abbrev pub lentLimit : ℕ
 lentLimit = 524288
 
 abbrev pub lent : List ℕ → ℕ
 lent ram = min (length ram) lentLimit
 
+-- the most bytes of an image (01, refusal 1), of a BIN (21) and of a CFG (22), and the most entries of a CFG (24)
 abbrev pub imageLimit : ℕ
 imageLimit = 1048576
 
--- the card takes no longer file (01, refusal 30), and lends this many words
+abbrev pub binLimit : ℕ
+binLimit = 524288
+
+abbrev pub cfgLimit : ℕ
+cfgLimit = 16384
+
+abbrev pub lineLimit : ℕ
+lineLimit = 64
+
+-- the image card takes no longer file, and lends this many words (01, refusal 30; Bench cases)
 abbrev pub cardLimit : ℕ
 cardLimit = 24576
 
 abbrev pub cardWords : ℕ
 cardWords = 16384
 
--- the paragraphs of the cartridge's RAM (01, How an image is laid out by the builder)
+-- the console's addresses: 16 chapters of 16 paragraphs of 256 words (01, The machine)
+abbrev pub chapters : ℕ
+chapters = 16
+
 abbrev pub paragraphs : ℕ
-paragraphs = 2048
+paragraphs = 256
 
-abbrev pub lineLimit : ℕ
-lineLimit = 64
+abbrev pub paragraphSize : ℕ
+paragraphSize = 256
 
--- the most bytes that a CFG may have
-abbrev pub cfgLimit : ℕ
-cfgLimit = 16384
+-- a chapter's pages, and with its plain lines its layers (01, What a CFG may say)
+abbrev pub chapterPages : ℕ
+chapterPages = 16
 
--- 21: the BIN is empty, odd, or over 524,288 bytes
-abbrev pub binLimit : ℕ
-binLimit = 524288
+abbrev pub layers : ℕ
+layers = 17
+
+-- the words of a Locutus page, the most pages that a build lays out, and the paragraphs of Locutus RAM (01, How an image is laid out by the builder)
+abbrev pub pageSize : ℕ
+pageSize = 4096
+
+abbrev pub pageLimit : ℕ
+pageLimit = 80
+
+abbrev pub locutusParagraphs : ℕ
+locutusParagraphs = 2048

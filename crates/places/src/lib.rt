@@ -1,5 +1,9 @@
-// The three numberings of 01 ("What the cartridge desk gets"). No function here turns one into another, and none adds
-// two of them: only the cartridge's mapping and the builder's layout convert.
+// The three numberings of 01 ("What the cartridge desk gets"), and every number of 01. No function here turns one numbering
+// into another, and none adds two of them: only the cartridge's mapping and the builder's layout convert.
+ghost use mathlib.Core.Path.{_≡_};
+ghost use Prim.Native.Nat.{_≤_};
+ghost use lib.ListN.{length};
+ghost use Rattle.places.specs.Limits.{lent, lentLimit};
 
 // An address as the console puts it on the bus.
 pub struct Console(pub u16);
@@ -12,3 +16,47 @@ pub struct BinWord(pub u32);
 
 // The number of a page in its chapter, 0 to 15.
 pub struct Page(pub u8);
+
+// How many words of a lent RAM count.
+pub const LENT_LIMIT: usize = 524288;
+
+// The most bytes of an image, of a BIN and of a CFG, and the most entries of a CFG.
+pub const IMAGE_LIMIT: usize = 1048576;
+
+pub const BIN_LIMIT: usize = 524288;
+
+pub const CFG_LIMIT: usize = 16384;
+
+pub const LINE_LIMIT: usize = 64;
+
+// The longest file that the image card takes, and the words that it lends.
+pub const CARD_LIMIT: usize = 24576;
+
+pub const CARD_WORDS: usize = 16384;
+
+// The console's chapters and paragraphs, and the words of a paragraph.
+pub const CHAPTERS: usize = 16;
+
+pub const PARAGRAPHS: usize = 256;
+
+pub const PARAGRAPH_SIZE: usize = 256;
+
+// A chapter's pages, and with its plain lines its layers.
+pub const CHAPTER_PAGES: usize = 16;
+
+pub const LAYERS: usize = 17;
+
+// The words of a Locutus page, the most pages that a build lays out, and the paragraphs of Locutus RAM.
+pub const PAGE_SIZE: usize = 4096;
+
+pub const PAGE_LIMIT: usize = 80;
+
+pub const LOCUTUS_PARAGRAPHS: usize = 2048;
+
+// How many words of a RAM are lent.
+pub fn lent_words(ram: &[u16]) -> usize
+    ensures { λ r. ⌜ (r ≡ lent (now (ram .entry))) × (r ≤ length (now (ram .entry))) ⌝ }
+{
+    let n = ram.len();
+    if n < LENT_LIMIT { n } else { LENT_LIMIT }
+}

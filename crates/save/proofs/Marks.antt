@@ -14,7 +14,7 @@ use Rattle.basics.specs.Counts.{count}
 use Rattle.basics.specs.Lists.{joined}
 use Rattle.basics.specs.Laws.Wrote.{Wrote, wrote-none, wrote-long, wrote-all, wrote-set, wrote-part}
 use Rattle.basics.specs.Laws.Counts.{count-more}
-use Rattle.places.specs.Limits.{paragraphs, lent}
+use Rattle.places.specs.Limits.{locutusParagraphs, lent}
 use Rattle.image.specs.Form.{hunkBlock, hunk, hunkPayload, Tables, headerOf, tablesBlock, imageOf, tablesPayload}
 use Rattle.image.specs.Chosen.{chosen, Chosen, Sized}
 use Rattle.image.specs.Laws.Form.{length-hunks, length-block, length-hunk, length-header, length-tables}
@@ -44,7 +44,7 @@ module _ (marks : List Bool) (n p : ℕ) where
 
 -- n of the paragraphs below p are marked
 pub record Counting (marks : List Bool) (n p : ℕ) : Type 0 where
-  pub up : p ≤ paragraphs
+  pub up : p ≤ locutusParagraphs
   pub few : n ≤ p
   pub is : n ≡ count (isMarked marks) p
 
@@ -61,27 +61,27 @@ module _ (marks : List Bool) (n p : ℕ) (c : Counting marks n p) where
   unfolding count
   count-off h e r k = record { up = omega arith; few = omega arith; is = rw (add-one p, is-off marks p e) (omega arith) }
 
-  pub count-end : 2048 ≤ p → n ≡ count (isMarked marks) paragraphs
-  count-end h = let e : p ≡ paragraphs = omega arith in c .is ∙ ap (λ (j : ℕ). count (isMarked marks) j) e
+  pub count-end : 2048 ≤ p → n ≡ count (isMarked marks) locutusParagraphs
+  count-end h = let e : p ≡ locutusParagraphs = omega arith in c .is ∙ ap (λ (j : ℕ). count (isMarked marks) j) e
 
 -- the blocks of the marked paragraphs below p are written
 abbrev upTo : List Bool → List ℕ → ℕ → List ℕ
 upTo marks ram p = joined hunkBlock (chosen p (isMarked marks) (paragraphOf ram))
 
 pub record Marking (marks : List Bool) (ram out₀ out : List ℕ) (at p : ℕ) : Type 0 where
-  pub up : p ≤ paragraphs
-  pub fits : length out₀ ≡ 528 * count (isMarked marks) paragraphs + 1
-  pub lie : Chosen (lent ram) paragraphs (isMarked marks) (paragraphOf ram)
+  pub up : p ≤ locutusParagraphs
+  pub fits : length out₀ ≡ 528 * count (isMarked marks) locutusParagraphs + 1
+  pub lie : Chosen (lent ram) locutusParagraphs (isMarked marks) (paragraphOf ram)
   pub wrote : Wrote out₀ out (upTo marks ram p)
   pub place : at ≡ length (upTo marks ram p)
 
 pub mark-none :
-    (marks : List Bool) (ram out : List ℕ) → length out ≡ 528 * count (isMarked marks) paragraphs + 1
-    → Chosen (lent ram) paragraphs (isMarked marks) (paragraphOf ram) → Marking marks ram out out 0 0
+    (marks : List Bool) (ram out : List ℕ) → length out ≡ 528 * count (isMarked marks) locutusParagraphs + 1
+    → Chosen (lent ram) locutusParagraphs (isMarked marks) (paragraphOf ram) → Marking marks ram out out 0 0
 unfolding chosen joined
 mark-none marks ram out l w = record { up = omega arith; fits = l; lie = w; wrote = wrote-none out; place = refl }
 
-length-up : (marks : List Bool) (ram : List ℕ) (p : ℕ) → p ≤ paragraphs → Chosen (lent ram) paragraphs (isMarked marks) (paragraphOf ram)
+length-up : (marks : List Bool) (ram : List ℕ) (p : ℕ) → p ≤ locutusParagraphs → Chosen (lent ram) locutusParagraphs (isMarked marks) (paragraphOf ram)
     → length (upTo marks ram p) ≡ 528 * count (isMarked marks) p
 length-up marks ram p h w =
     length-hunks (lent ram) (chosen p (isMarked marks) (paragraphOf ram)) (chosen-lie (isMarked marks) (paragraphOf ram) (lent ram) p (chosen-below p h w))
@@ -96,10 +96,10 @@ module _ (marks : List Bool) (ram out₀ out : List ℕ) (at p : ℕ) (c : Marki
 
   -- all of them, and the end
   module _ (h : 2048 ≤ p) where
-    all-up : p ≡ paragraphs
+    all-up : p ≡ locutusParagraphs
     all-up = omega (arith, c .up)
 
-    all-placed : at ≡ 528 * count (isMarked marks) paragraphs
+    all-placed : at ≡ 528 * count (isMarked marks) locutusParagraphs
     all-placed = mark-place ∙ ap (λ (n : ℕ). 528 * count (isMarked marks) n) all-up
 
     pub mark-last : at < length out
@@ -124,7 +124,7 @@ module _ (marks : List Bool) (ram out₀ out : List ℕ) (at p : ℕ) (c : Marki
 
     module _ (e : getD marks p false ≡ true) where
       pub mark-room : at + 528 ≤ length out
-      mark-room = omega (arith, mark-place, count-more (isMarked marks) p paragraphs (is-on marks p e) h, mark-long, c .fits)
+      mark-room = omega (arith, mark-place, count-more (isMarked marks) p locutusParagraphs (is-on marks p e) h, mark-long, c .fits)
 
       pub mark-in : 256 * p + 256 ≤ length ram
       mark-in = let l : 256 * p + 256 ≤ lent ram = c .lie .each p h (is-on marks p e) .within in omega arith
@@ -152,8 +152,8 @@ module _ (marks : List Bool) (ram out₀ out : List ℕ) (at p : ℕ) (c : Marki
 -- the whole image: header, tables, hunks with the end, each in its part
 pub image-written :
     (out flags uid : List ℕ) (t : Tables) (ram : List ℕ) (marks : List Bool) (y₁ y₂ y₃ : List ℕ) (long : ℕ)
-    → long ≡ 1321 + 528 * count (isMarked marks) paragraphs → long ≤ length out → Sized flags uid t
-    → Chosen (lent ram) paragraphs (isMarked marks) (paragraphOf ram) → y₁ ≡ headerOf flags uid → y₂ ≡ tablesBlock t
+    → long ≡ 1321 + 528 * count (isMarked marks) locutusParagraphs → long ≤ length out → Sized flags uid t
+    → Chosen (lent ram) locutusParagraphs (isMarked marks) (paragraphOf ram) → y₁ ≡ headerOf flags uid → y₂ ≡ tablesBlock t
     → y₃ ≡ joined hunkBlock (marked marks ram) ++ (0xFF ∷ [])
     → putMid 1320 (long - 1320) (putMid 32 1288 (putMid 0 32 out y₁) y₂) y₃ ≡ imageBy flags uid t ram marks ++ drop long out
 unfolding imageOf
@@ -163,8 +163,8 @@ image-written out flags uid t ram marks y₁ y₂ y₃ long el fits z w e₁ e�
     let M : List ℕ = joined hunkBlock (marked marks ram) ++ (0xFF ∷ []) in
     let lh : length H ≡ 32 = length-header flags uid (z .flags-16) (z .uid-8) in
     let lt : length T ≡ 1288 = length-block 0x01 (tablesPayload t) ∙ omega (arith, length-tables t (z .mapping-256) (z .permissions-256) (z .flips-256)) in
-    let lm : length M ≡ 528 * count (isMarked marks) paragraphs + 1 =
-    length-append (joined hunkBlock (marked marks ram)) (0xFF ∷ []) ∙ omega (arith, length-up marks ram paragraphs (omega arith) w) in
+    let lm : length M ≡ 528 * count (isMarked marks) locutusParagraphs + 1 =
+    length-append (joined hunkBlock (marked marks ram)) (0xFF ∷ []) ∙ omega (arith, length-up marks ram locutusParagraphs (omega arith) w) in
     let l₂ : length (H ++ T) ≡ 1320 = length-append H T ∙ omega arith in
     let l₃ : length ((H ++ T) ++ M) ≡ long = length-append (H ++ T) M ∙ omega arith in
     let w₁ : Wrote out (putMid 0 32 out y₁) H = wrote-part out out [] 0 32 y₁ H (wrote-none out) refl (sym lh) (omega arith) e₁ in

@@ -7,7 +7,7 @@ use lib.Dec.{ltb, eqb}
 use Rattle.basics.specs.Lists.{part}
 use Rattle.basics.specs.Rows.{Row, firstOf}
 use Rattle.basics.specs.Counts.{any, lowest}
-use Rattle.places.specs.Limits.{paragraphs, lent, imageLimit}
+use Rattle.places.specs.Limits.{locutusParagraphs, lent, imageLimit}
 use Rattle.tables.specs.Tables.{unsupported}
 use Rattle.image.specs.Form.{Hunk, Tables, imageOf}
 use Rattle.image.specs.Chosen.{chosen}
@@ -21,7 +21,7 @@ abbrev pub paragraphOf : List ℕ → ℕ → List ℕ
 paragraphOf ram p = part ram (256 * p) (256 * p + 256)
 
 abbrev pub marked : List Bool → List ℕ → List Hunk
-marked marks ram = chosen paragraphs (isMarked marks) (paragraphOf ram)
+marked marks ram = chosen locutusParagraphs (isMarked marks) (paragraphOf ram)
 
 abbrev pub imageBy : List ℕ → List ℕ → Tables → List ℕ → List Bool → List ℕ
 imageBy flags uid t ram marks = imageOf flags uid t (marked marks ram)
@@ -41,7 +41,7 @@ done length = record { number = 0; place = 0; length = length }
 abbrev pub refusals : List ℕ → List ℕ → List ℕ → Tables → List ℕ → List Bool → List (Row Writing)
 refusals out flags uid t ram marks =
     (unsupported flags (t .permissions) (t .flips), refusal 10 0 0)
-    ∷ (any paragraphs (past marks (lent ram)), refusal 9 (lowest paragraphs (past marks (lent ram))) 0)
+    ∷ (any locutusParagraphs (past marks (lent ram)), refusal 9 (lowest locutusParagraphs (past marks (lent ram))) 0)
     ∷ (ltb imageLimit (length (imageBy flags uid t ram marks)), refusal 1 0 0)
     ∷ (ltb (length out) (length (imageBy flags uid t ram marks)), refusal 29 0 (length (imageBy flags uid t ram marks)))
     ∷ []

@@ -7,7 +7,7 @@ ghost use lib.ListN.{length, drop};
 ghost use Rattle.basics.specs.Bytes.{bytes16};
 ghost use Rattle.basics.specs.Counts.{count, lowest};
 ghost use Rattle.basics.specs.Lists.{joined};
-ghost use Rattle.places.specs.Limits.{lent, paragraphs};
+ghost use Rattle.places.specs.Limits.{lent, locutusParagraphs};
 ghost use Rattle.sums.specs.Crc.{dowPoly, c324Poly, dowcrcOf, crc324Of};
 ghost use Rattle.sums.specs.Tables.{tablesOf};
 ghost use Rattle.tables.specs.Tables.{unsupported};
@@ -187,7 +187,7 @@ fn write_hunks(
     crc: &[u32; 2048],
 )
     requires { ⌜ (now dow ≡ tablesOf dowPoly) × (now crc ≡ tablesOf c324Poly) ⌝ }
-    requires { ⌜ (length (now out) ≡ 528 * count (isMarked (now marks)) paragraphs + 1) × Chosen (lent (now ram)) paragraphs (isMarked (now marks)) (paragraphOf (now ram)) ⌝ }
+    requires { ⌜ (length (now out) ≡ 528 * count (isMarked (now marks)) locutusParagraphs + 1) × Chosen (lent (now ram)) locutusParagraphs (isMarked (now marks)) (paragraphOf (now ram)) ⌝ }
     ensures { λ _. ⌜ now (out .exit) ≡ joined hunkBlock (marked (now (marks .entry)) (now (ram .entry))) ++ (0xFF ∷ []) ⌝ }
 {
     let mut at = 0;
@@ -217,8 +217,8 @@ fn write_image(
     marks: &[bool; 2048],
     long: usize,
 )
-    requires { ⌜ (long ≡ 1321 + 528 * count (isMarked (now marks)) paragraphs) × (long ≤ length (now out)) ⌝ }
-    requires { ⌜ Sized (now flags) (now uid) (tables (now mapping) (now permissions) (now flips)) × Chosen (lent (now ram)) paragraphs (isMarked (now marks)) (paragraphOf (now ram)) ⌝ }
+    requires { ⌜ (long ≡ 1321 + 528 * count (isMarked (now marks)) locutusParagraphs) × (long ≤ length (now out)) ⌝ }
+    requires { ⌜ Sized (now flags) (now uid) (tables (now mapping) (now permissions) (now flips)) × Chosen (lent (now ram)) locutusParagraphs (isMarked (now marks)) (paragraphOf (now ram)) ⌝ }
     ensures { λ _. ⌜ now (out .exit) ≡ imageBy (now (flags .entry)) (now (uid .entry)) (tables (now (mapping .entry)) (now (permissions .entry)) (now (flips .entry))) (now (ram .entry)) (now (marks .entry)) ++ drop long (now (out .entry)) ⌝ }
 {
     let dow = sums::tables(sums::DOW);
@@ -230,7 +230,7 @@ fn write_image(
 
 // The lowest marked paragraph that does not lie in n words, or 2,048.
 fn lowest_past(marks: &[bool; 2048], n: usize) -> usize
-    ensures { λ r. ⌜ r ≡ lowest paragraphs (past (now (marks .entry)) n) ⌝ }
+    ensures { λ r. ⌜ r ≡ lowest locutusParagraphs (past (now (marks .entry)) n) ⌝ }
 {
     let mut p = 0;
     while p < image::PARAGRAPHS {
@@ -246,7 +246,7 @@ fn lowest_past(marks: &[bool; 2048], n: usize) -> usize
 
 // How many paragraphs are marked.
 fn count_marks(marks: &[bool; 2048]) -> usize
-    ensures { λ r. ⌜ (r ≡ count (isMarked (now (marks .entry))) paragraphs) × (r ≤ 2048) ⌝ }
+    ensures { λ r. ⌜ (r ≡ count (isMarked (now (marks .entry))) locutusParagraphs) × (r ≤ 2048) ⌝ }
 {
     let mut n = 0;
     let mut p = 0;

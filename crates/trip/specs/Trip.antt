@@ -6,7 +6,7 @@ use mathlib.Core.Bool.{Bool, true, false}
 use mathlib.Core.Logic.{_⊎_}
 use lib.ListN.{length, getD}
 use Rattle.basics.specs.Counts.{count}
-use Rattle.places.specs.Limits.{lent, paragraphs}
+use Rattle.places.specs.Limits.{lent, locutusParagraphs}
 use Rattle.cart.specs.declared.Cartridge.{Cartridge}
 use Rattle.tables.specs.Tables.{fresh}
 use Rattle.tables.specs.Flags.{compatOf}
@@ -37,17 +37,17 @@ pub record LoadsAs (s ram flags : List ℕ) (t : Tables) (hunks : List Hunk) : T
 -- a RAM after a load: each word of a chosen paragraph is as given, and every other word is kept
 pub record Overlaid (on : ℕ → Bool) (words : ℕ → List ℕ) (ram after : List ℕ) : Type 0 where
   pub same : length after ≡ length ram
-  pub given : (k : ℕ) → k / 256 < paragraphs → on (k / 256) ≡ true → getD after k 0 ≡ getD (words (k / 256)) (k % 256) 0
-  pub kept : (k : ℕ) → (on (k / 256) ≡ false) ⊎ (paragraphs ≤ k / 256) → getD after k 0 ≡ getD ram k 0
+  pub given : (k : ℕ) → k / 256 < locutusParagraphs → on (k / 256) ≡ true → getD after k 0 ≡ getD (words (k / 256)) (k % 256) 0
+  pub kept : (k : ℕ) → (on (k / 256) ≡ false) ⊎ (locutusParagraphs ≤ k / 256) → getD after k 0 ≡ getD ram k 0
 
 -- an image of chosen paragraphs: what its load answers, and the RAM after it
 pub record LoadsChosen (flags : List ℕ) (t : Tables) (on : ℕ → Bool) (words : ℕ → List ℕ) (s ram : List ℕ) : Type 0 where
-  pub answer : loadingOf s (lent ram) ≡ answerOf flags t (count on paragraphs)
+  pub answer : loadingOf s (lent ram) ≡ answerOf flags t (count on locutusParagraphs)
   pub back : Overlaid on words ram (loadRamOf s ram)
 
 -- what comes back of a RAM whose marked paragraphs were written: the tables, the counts, the marked words, and every other word of the RAM loaded into
 pub record ComesBack (flags : List ℕ) (t : Tables) (marks : List Bool) (ram to : List ℕ) (l : Loading) (after : List ℕ) : Type 0 where
-  pub answer : l ≡ answerOf flags t (count (isMarked marks) paragraphs)
+  pub answer : l ≡ answerOf flags t (count (isMarked marks) locutusParagraphs)
   pub same : length after ≡ length to
-  pub marked-words : (k : ℕ) → k / 256 < paragraphs → isMarked marks (k / 256) ≡ true → getD after k 0 ≡ getD ram k 0
-  pub other-words : (k : ℕ) → (isMarked marks (k / 256) ≡ false) ⊎ (paragraphs ≤ k / 256) → getD after k 0 ≡ getD to k 0
+  pub marked-words : (k : ℕ) → k / 256 < locutusParagraphs → isMarked marks (k / 256) ≡ true → getD after k 0 ≡ getD ram k 0
+  pub other-words : (k : ℕ) → (isMarked marks (k / 256) ≡ false) ⊎ (locutusParagraphs ≤ k / 256) → getD after k 0 ≡ getD to k 0

@@ -1,10 +1,14 @@
--- Laws of `Bytes`.
-use Prim.Native.Nat.{ℕ, _%_, _+_, _*_, _/_, zero, suc}
+-- Numbers of several bytes, read back as they were written.
+use Prim.Native.Nat.{ℕ, _%_, _+_, _*_, _/_, _≤_, zero, suc}
 use mathlib.Core.Path.{_≡_, refl, ap, _∙_}
 use mathlib.Core.List.{List, [], _∷_, _++_}
 use native.Mathlib.Omega.{arith}
-use lib.ListN.{length, getD}
-use Rattle.basics.specs.Bytes.{bytes16}
+use lib.ListN.{length, getD, List·getD-eq-default}
+use Rattle.basics.specs.Bytes.{at16, bytes16}
+
+-- past the end
+pub at16-past : (s : List ℕ) (at : ℕ) → length s ≤ at → 0 ≡ at16 s at
+at16-past s at h = omega (arith, List·getD-eq-default s 0 h, List·getD-eq-default s 0 {n = at + 1} (omega arith))
 
 pub low-high : (w : ℕ) → w % 256 + 256 * (w / 256) ≡ w
 low-high w = omega arith

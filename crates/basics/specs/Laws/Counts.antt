@@ -1,4 +1,4 @@
--- The code's cases of these definitions.
+-- Counts, and tests of some or of all places: by places, by tests that agree, and a turn more of a loop.
 use Prim.Native.Nat.{ℕ, _<_, zero, suc, _≤_, _+_}
 use mathlib.Core.Bool.{Bool, true, _||_, cond, false, _&&_}
 use mathlib.Core.Path.{_≡_, refl, sym, ap, _∙_}

@@ -1,4 +1,4 @@
--- How long each part of an image is.
+-- What is made of each of some elements, and what holds of each, for two lists one behind the other.
 use Prim.Native.Nat.{ℕ}
 use mathlib.Core.List.{List, _++_, [], _∷_, append-assoc}
 use mathlib.Core.Path.{_≡_, refl, ap, _∙_, sym}

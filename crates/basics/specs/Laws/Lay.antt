@@ -1,4 +1,4 @@
--- A list of words stored at a place and on.
+-- A list of words stored at a place and on: which places then hold what.
 use Prim.Native.Nat.{ℕ, _+_, _≤_, _<_, zero, suc}
 use mathlib.Core.List.{List, _++_}
 use mathlib.Core.Path.{_≡_, ap, _∙_, refl}

@@ -1,4 +1,4 @@
--- Laws of `Lists`.
+-- Parts of a list, and words stored one after the other: which place holds what.
 use Prim.Native.Nat.{ℕ, _≤_, _-_, _+_, _<_, zero, suc}
 use mathlib.Core.List.{List, _∷_, []}
 use mathlib.Core.Path.{_≡_, _∙_, ap, sym, refl}

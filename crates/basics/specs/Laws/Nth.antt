@@ -1,4 +1,4 @@
--- The plan by the survey of some lines is the plan of those lines.
+-- The place that passes with so many passing places before it.
 use Prim.Native.Nat.{ℕ, _<_, zero, suc, _≤_}
 use mathlib.Core.Bool.{Bool, true, _&&_, false}
 use mathlib.Core.Path.{_≡_, refl}

@@ -1,4 +1,4 @@
--- Lists of bytes, and a list from a place on.
+-- Lists whose elements are bytes.
 use Prim.Native.Nat.{ℕ, _<_, _+_}
 use mathlib.Core.List.{List}
 use lib.ListN.{getD, drop}

@@ -1,4 +1,4 @@
--- Accepted lines: what rules 25 to 28 say of all of them, and of the line that is found at an address.
+-- Cases of what may be missing.
 use Prim.Native.Nat.{ℕ}
 use mathlib.Core.Option.{Option, none, some}
 use mathlib.Core.Path.{_≡_, refl}

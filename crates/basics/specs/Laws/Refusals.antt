@@ -1,35 +1,60 @@
--- A table of refusals: every row's answer has a number, which is not 0, and the last word has number 0. So an answer with a number is
--- given exactly when its row holds and none before it does, and one without exactly when no row holds.
-use Prim.Native.Nat.{ℕ}
+-- Tables of refusals, each row with a number that is not 0: refused with this number and place exactly when that row holds and none
+-- before it does, accepted exactly when no row holds; and tables one behind the other.
+use Prim.Native.Nat.{ℕ, suc}
+use mathlib.Core.Path.{_≡_, refl, sym, ap, _∙_}
 use mathlib.Core.List.{List, [], _∷_, _++_}
-use mathlib.Core.Path.{_≡_, ap, sym, _∙_}
+use mathlib.Core.Bool.{Bool, true, false, cond}
 use mathlib.Core.Logic.{_⊎_, inl, inr, _↔_}
-use Rattle.basics.specs.Rows.{Row, Gives, here, later, firstOf, Silent}
-use Rattle.basics.specs.Laws.Rows.{silent-first, first-by, gives-first}
+use native.Mathlib.Omega.{arith}
+use Rattle.basics.specs.declared.Refusal.{Refusal}
+use Rattle.basics.specs.Rows.{Row, firstOf, Gives, here, later, Silent}
+use Rattle.basics.specs.Refusals.{refuse, noRefusal, firstRefusal}
+use Rattle.basics.specs.Laws.Rows.{gives-first, silent-first, first-by, first-append, gives-append}
 
-abbrev pub Refusing : {A : Type 0} → (A → ℕ) → List (Row A) → Type 0
-Refusing number [] = Unit {0}
-Refusing number (r ∷ rs) = (number (r .1) ≡ 0 → ⊥) × Refusing number rs
+-- each row refuses
+abbrev pub Refusing : List (Row Refusal) → Type 0
+Refusing [] = Unit {0}
+Refusing (r ∷ rs) = (r .1 .number ≡ 0 → ⊥) × Refusing rs
 
-pub refusing-append : {A : Type 0} (number : A → ℕ) (rs qs : List (Row A)) → Refusing number rs → Refusing number qs → Refusing number (rs ++ qs)
-refusing-append number [] qs r q = q
-refusing-append number (x ∷ rs) qs r q = (r .0, refusing-append number rs qs (r .1) q)
+pub refusing-append : (rs qs : List (Row Refusal)) → Refusing rs → Refusing qs → Refusing (rs ++ qs)
+refusing-append [] qs r q = q
+refusing-append (x ∷ rs) qs r q = (r .0, refusing-append rs qs (r .1) q)
 
-pub gives-refused : {A : Type 0} (number : A → ℕ) {rs : List (Row A)} {a : A} → Refusing number rs → Gives rs a → number a ≡ 0 → ⊥
-gives-refused number r (here e) z = r .0 z
-gives-refused number r (later e g) z = gives-refused number (r .1) g z
+pub gives-refused : {rs : List (Row Refusal)} {a : Refusal} → Refusing rs → Gives rs a → a .number ≡ 0 → ⊥
+gives-refused r (here e) z = r .0 z
+gives-refused r (later e g) z = gives-refused (r .1) g z
 
-module _ {A : Type 0} (number : A → ℕ) (rs : List (Row A)) (refusing : Refusing number rs) (d : A) (last : number d ≡ 0) where
-  given : (a : A) → (number a ≡ 0 → ⊥) → firstOf rs d ≡ a → (Gives rs (firstOf rs d)) ⊎ (Silent rs) → Gives rs a
+module _ (rs : List (Row Refusal)) (refusing : Refusing rs) where
+  given : (a : Refusal) → (a .number ≡ 0 → ⊥) → firstRefusal rs ≡ a → (Gives rs (firstRefusal rs)) ⊎ (Silent rs) → Gives rs a
   given a h e (inl g) = rw (← e) g
-  given a h e (inr s) = absurd (h (ap number (sym e ∙ silent-first d s) ∙ last))
+  given a h e (inr s) = absurd (h (ap (λ (r : Refusal). r .number) (sym e ∙ silent-first noRefusal s)))
 
-  pub refused-exactly : (a : A) → (number a ≡ 0 → ⊥) → (firstOf rs d ≡ a) ↔ Gives rs a
-  refused-exactly a h = ((λ e. given a h e (first-by rs d)), (λ g. gives-first d g))
+  pub refused-exactly : (a : Refusal) → (a .number ≡ 0 → ⊥) → (firstRefusal rs ≡ a) ↔ Gives rs a
+  refused-exactly a h = ((λ e. given a h e (first-by rs noRefusal)), (λ g. gives-first noRefusal g))
 
-  quiet : number (firstOf rs d) ≡ 0 → (Gives rs (firstOf rs d)) ⊎ (Silent rs) → Silent rs
-  quiet e (inl g) = absurd (gives-refused number refusing g e)
+  quiet : firstRefusal rs .number ≡ 0 → (Gives rs (firstRefusal rs)) ⊎ (Silent rs) → Silent rs
+  quiet e (inl g) = absurd (gives-refused refusing g e)
   quiet e (inr s) = s
 
-  pub accepted-exactly : (number (firstOf rs d) ≡ 0) ↔ Silent rs
-  accepted-exactly = ((λ e. quiet e (first-by rs d)), (λ s. ap number (silent-first d s) ∙ last))
+  pub accepted-exactly : (firstRefusal rs .number ≡ 0) ↔ Silent rs
+  accepted-exactly = ((λ e. quiet e (first-by rs noRefusal)), (λ s. ap (λ (r : Refusal). r .number) (silent-first noRefusal s)))
+
+-- a table that refuses is answered whatever stands behind it, and one that is silent leaves the answer to what does
+pub refused-front : (rs qs : List (Row Refusal)) → (firstRefusal rs .number ≡ 0 → ⊥) → firstRefusal (rs ++ qs) ≡ firstRefusal rs
+refused-front rs qs n = go (first-by rs noRefusal)
+  where
+    go : (Gives rs (firstRefusal rs)) ⊎ (Silent rs) → firstRefusal (rs ++ qs) ≡ firstRefusal rs
+    go (inl g) = gives-first noRefusal (gives-append qs g)
+    go (inr s) = absurd (n (ap (λ (r : Refusal). r .number) (silent-first noRefusal s)))
+
+pub silent-behind : (rs qs : List (Row Refusal)) → Silent rs → firstRefusal (rs ++ qs) ≡ firstRefusal qs
+silent-behind rs qs s = first-append rs qs noRefusal ∙ silent-first (firstRefusal qs) s
+
+-- a row that refuses, and is not the answer, does not hold
+pub row-passed : (b : Bool) (n p : ℕ) (v : Refusal) → cond b (refuse (suc n) p) v ≡ noRefusal → b ≡ false
+row-passed true n p v e = let z : suc n ≡ 0 = ap (λ (r : Refusal). r .number) e in absurd (omega arith)
+row-passed false n p v e = refl
+
+pub row-rest : (b : Bool) (n p : ℕ) (v : Refusal) → cond b (refuse (suc n) p) v ≡ noRefusal → v ≡ noRefusal
+row-rest true n p v e = let z : suc n ≡ 0 = ap (λ (r : Refusal). r .number) e in absurd (omega arith)
+row-rest false n p v e = e

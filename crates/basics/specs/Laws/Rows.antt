@@ -1,4 +1,4 @@
--- Laws of `Rows`.
+-- Tables of rows: the answer of the first row that holds, of one table and of two, one behind the other.
 use mathlib.Core.List.{List, [], _∷_, _++_}
 use mathlib.Core.Path.{_≡_, refl, ap}
 use mathlib.Core.Logic.{_⊎_, inr, inl}

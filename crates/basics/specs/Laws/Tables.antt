@@ -1,4 +1,4 @@
--- What the owners of all places say of the lines: the slots in use, and what covers a chapter's flippable range.
+-- Tables: a list that is made of a function of the place, and one that is filled from its first place on.
 use Prim.Native.Nat.{ℕ, zero, suc, _<_, _+_, _≤_}
 use mathlib.Core.Path.{_≡_, refl, ap, _∙_, sym}
 use mathlib.Core.List.{List}

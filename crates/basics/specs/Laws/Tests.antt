@@ -1,4 +1,4 @@
--- Owners: the number of a line and the line, owners after one more line, and the first of several owners.
+-- Tests: what a branch of the code has decided, put into a definition that asks the same; and ways to take a test apart.
 use Prim.Native.Nat.{ℕ, _<_, _≤_, suc}
 use mathlib.Core.Bool.{Bool, true, false, _&&_, _||_, cond, not}
 use mathlib.Core.Path.{_≡_, refl, sym, _∙_}

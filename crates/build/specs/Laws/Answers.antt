@@ -12,7 +12,7 @@ use Rattle.basics.specs.Rows.{Row, Gives, here, later, Silent, none, also, firs
 use Rattle.basics.specs.Laws.Rows.{first-by, gives-first, silent-first, first-append}
 use Rattle.basics.specs.Options.{isSome}
 use Rattle.basics.specs.Tables.{made}
-use Rattle.basics.specs.Laws.Refusals.{accepted-exactly as exactly-accepted}
+use Rattle.basics.specs.Laws.Numbered.{accepted-exactly as exactly-accepted}
 use Rattle.basics.specs.Laws.Tests.{cases, or-false-right}
 use Rattle.places.specs.Limits.{binLimit}
 use Rattle.lines.specs.declared.Line.{Line}

@@ -11,7 +11,7 @@ use Rattle.basics.specs.Laws.Tables.{length-table}
 use Rattle.basics.specs.Lists.{Each}
 use Rattle.basics.specs.Counts.{count}
 use Rattle.basics.specs.Laws.Counts.{count-below, any-nothing}
-use Rattle.places.specs.Limits.{paragraphs, imageLimit}
+use Rattle.places.specs.Limits.{locutusParagraphs, imageLimit}
 use Rattle.cart.specs.Machine.{PFE}
 use Rattle.tables.specs.Tables.{BANKSW, unsupported, switches, flipsOne}
 use Rattle.image.specs.Chosen.{Sized, Chosen, Lies}
@@ -39,21 +39,21 @@ module _ (bin cfg : List ℕ) (lines : List Line) where
         flips-256 = length-table 256 (λ n. flipEntry lines (n / 16) (n % 16));
       }
 
-  pub lie : (n : ℕ) → needed lines ≤ n → Chosen n paragraphs (covered lines) (paragraphWords bin lines)
+  pub lie : (n : ℕ) → needed lines ≤ n → Chosen n locutusParagraphs (covered lines) (paragraphWords bin lines)
   lie n h =
       record {
         each = λ q b e. record { whole = length-words bin lines q; within = omega (arith, covered-inside lines q e) };
       }
 
   pub hunks-lie : (n : ℕ) → needed lines ≤ n → Each (Lies n) (hunksFor bin lines)
-  hunks-lie n h = chosen-lie (covered lines) (paragraphWords bin lines) n paragraphs (lie n h)
+  hunks-lie n h = chosen-lie (covered lines) (paragraphWords bin lines) n locutusParagraphs (lie n h)
 
   module _ (accepted : Accepted bin lines) where
     hunks-few : length (hunksFor bin lines) ≤ 1200
     hunks-few =
-        let c : count (covered lines) paragraphs ≤ 16 * pages lines =
-        count-below (covered lines) (16 * pages lines) paragraphs (λ i l e. covered-below lines i e) in
-        omega (arith, length-chosen (covered lines) (paragraphWords bin lines) paragraphs, pages-75 accepted)
+        let c : count (covered lines) locutusParagraphs ≤ 16 * pages lines =
+        count-below (covered lines) (16 * pages lines) locutusParagraphs (λ i l e. covered-below lines i e) in
+        omega (arith, length-chosen (covered lines) (paragraphWords bin lines) locutusParagraphs, pages-75 accepted)
 
     pub short : length (imageOf flagBytes (uidOf bin cfg) (tablesFor lines) (hunksFor bin lines)) ≤ imageLimit
     short = omega (arith, length-image flagBytes (uidOf bin cfg) (tablesFor lines) (hunksFor bin lines) (needed lines) sized (hunks-lie (needed lines) (omega arith)), hunks-few)

@@ -14,7 +14,7 @@ use Rattle.basics.specs.Laws.Tables.{table-of, getD-table}
 use Rattle.basics.specs.Counts.{any}
 use Rattle.basics.specs.Laws.Tests.{cases, and-left, true-is-not-false, and-right}
 use Rattle.basics.specs.Laws.Counts.{Place, any-at}
-use Rattle.places.specs.Limits.{paragraphs, lent, imageLimit}
+use Rattle.places.specs.Limits.{locutusParagraphs, lent, imageLimit}
 use Rattle.image.specs.Laws.Chosen.{chosen-same}
 use Rattle.image.specs.Form.{imageOf, tables}
 use Rattle.save.specs.declared.Writing.{Writing}
@@ -61,18 +61,18 @@ module _ (bin : List ℕ) (lines : List Line) (accepted : Accepted bin lines) (r
       let r : (256 * p + i) % 256 ≡ i = omega arith in
       getD-part ram (256 * p) (256 * p + 256) i 0 (omega arith) ∙ word (256 * p + i) (omega arith) ∙ rw (q, r))
 
-  is-marked : (p : ℕ) → p < paragraphs → isMarked marks p ≡ covered lines p
+  is-marked : (p : ℕ) → p < locutusParagraphs → isMarked marks p ≡ covered lines p
   unfolding isMarked
   is-marked p h = rw em (getD-table false 2048 (covered lines) p h)
 
   marked-are : marked marks ram ≡ hunksFor bin lines
-  marked-are = chosen-same paragraphs (isMarked marks) (covered lines) (paragraphOf ram) (paragraphWords bin lines) is-marked (λ p h e. words-there p e)
+  marked-are = chosen-same locutusParagraphs (isMarked marks) (covered lines) (paragraphOf ram) (paragraphWords bin lines) is-marked (λ p h e. words-there p e)
 
-  inside : any paragraphs (past marks (lent ram)) ≡ false
+  inside : any locutusParagraphs (past marks (lent ram)) ≡ false
   inside =
-      cases (any paragraphs (past marks (lent ram)))
+      cases (any locutusParagraphs (past marks (lent ram)))
       (λ e.
-      let w : Place paragraphs (past marks (lent ram)) = any-at paragraphs (past marks (lent ram)) e in
+      let w : Place locutusParagraphs (past marks (lent ram)) = any-at locutusParagraphs (past marks (lent ram)) e in
       let c : covered lines (w .at) ≡ true = sym (is-marked (w .at) (w .below)) ∙ and-left (isMarked marks (w .at)) _ (w .passes) in
       true-is-not-false (and-right (isMarked marks (w .at)) _ (w .passes))
       (le-ltb (lent ram) (256 * w .at + 256) (omega (arith, covered-inside lines (w .at) c, room, ram-long))))

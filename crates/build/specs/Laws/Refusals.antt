@@ -7,7 +7,7 @@ use mathlib.Core.Logic.{_↔_}
 use mathlib.Core.Bool.{true}
 use native.Mathlib.Omega.{arith}
 use borrow.Author.Tests.{eqb-true}
-use Rattle.basics.specs.Laws.Refusals.{Refusing, refusing-append, refused-exactly as exactly-refused, accepted-exactly as exactly-accepted}
+use Rattle.basics.specs.Laws.Numbered.{Refusing, refusing-append, refused-exactly as exactly-refused, accepted-exactly as exactly-accepted}
 use Rattle.basics.specs.Rows.{Row, Gives, Silent, also, none}
 use Rattle.basics.specs.Laws.Rows.{silent-left, silent-right}
 use Rattle.lines.specs.Bin.{binWords}

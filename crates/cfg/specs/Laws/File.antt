@@ -7,7 +7,7 @@ use mathlib.Core.Bool.{cond, false, true, Bool}
 use native.Mathlib.Omega.{arith}
 use lib.Dec.{eqb, lit<}
 use lib.ListN.{length, getD, drop, take}
-use Rattle.basics.specs.Laws.Refusals.{Refusing, refused-exactly as exactly-refused, accepted-exactly as exactly-accepted}
+use Rattle.basics.specs.Laws.Numbered.{Refusing, refused-exactly as exactly-refused, accepted-exactly as exactly-accepted}
 use Rattle.basics.specs.Rows.{Gives, Silent}
 use Rattle.basics.specs.Laws.Rows.{silent-first}
 use Rattle.grammar.specs.Words.{lf}

@@ -9,7 +9,7 @@ use lib.ListN.{length, take, drop, take-append-drop}
 use lib.Dec.{ltb, eqb}
 use lib.Seq.{length-take-le}
 use borrow.Author.Tests.{ltb-false, eqb-false, eqb-true, ne-eqb}
-use Rattle.basics.specs.Laws.Refusals.{Refusing, refusing-append, accepted-exactly}
+use Rattle.basics.specs.Laws.Numbered.{Refusing, refusing-append, accepted-exactly}
 use Rattle.basics.specs.Rows.{Row, firstOf, Gives, Silent, also}
 use Rattle.basics.specs.Laws.Rows.{first-by, gives-first, gives-append, silent-first, first-append, silent-right, silent-left}
 use Rattle.basics.specs.Laws.Tests.{or-false-left, cases, true-is-not-false, and-right}

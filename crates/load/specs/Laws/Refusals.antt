@@ -7,7 +7,7 @@ use mathlib.Core.Bool.{Bool, _||_, false}
 use native.Mathlib.Omega.{arith}
 use borrow.Author.Tests.{eqb-false}
 use Rattle.basics.specs.Rows.{Gives, Silent, none}
-use Rattle.basics.specs.Laws.Refusals.{refused-exactly as exactly-refused, accepted-exactly as exactly-accepted}
+use Rattle.basics.specs.Laws.Numbered.{refused-exactly as exactly-refused, accepted-exactly as exactly-accepted}
 use Rattle.basics.specs.Laws.Rows.{silent-first, gives-first, gives-cases, silent-append, gives-append, silent-gives, silent-left, silent-right}
 use Rattle.basics.specs.Laws.Tests.{or-none, or-assoc, cases}
 use Rattle.load.specs.declared.Loading.{Loading}

@@ -1,4 +1,4 @@
--- Laws of the machine's definitions: the code's cases, and what each paragraph of a table holds after a flip.
+-- What the code's tests say of a place and of the words lent.
 use Prim.Native.Nat.{ℕ, _<_, min, _≤_}
 use mathlib.Core.Path.{_≡_}
 use mathlib.Core.Bool.{true, false}

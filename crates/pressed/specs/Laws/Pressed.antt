@@ -8,7 +8,7 @@ use lib.ListN.{length, drop, take}
 use lib.Seq.{take-append-seam}
 use borrow.Author.Tests.{eq-eqb}
 use Rattle.basics.specs.Laws.Tests.{cases, true-is-not-false}
-use Rattle.places.specs.Limits.{lent, paragraphs}
+use Rattle.places.specs.Limits.{lent, locutusParagraphs}
 use Rattle.cart.specs.Run.{Access, answers}
 use Rattle.load.specs.declared.Loading.{Loading}
 use Rattle.load.specs.Load.{loadRamOf, loadingOf}
@@ -55,7 +55,7 @@ module _ (bin cfg out : List ℕ) (accepts : builds bin cfg out ≡ true) (ram :
             λ p i c h.
             let q : (256 * p + i) / 256 ≡ p = omega arith in
             let r : (256 * p + i) % 256 ≡ i = omega arith in
-            let b : p < paragraphs = omega (arith, covered-inside lines p c, needed-small (good accepted)) in
+            let b : p < locutusParagraphs = omega (arith, covered-inside lines p c, needed-small (good accepted)) in
             rw (q, r) at (loads-as .back .given (256 * p + i) (rw q b) (rw q c));
       }
 

@@ -10,7 +10,7 @@ use native.Mathlib.Omega.{arith}
 use lib.ListN.{length, getD, List·getD-append, length-append}
 use lib.Dec.{eqb}
 use borrow.Author.Tests.{eqb-true, le-leb, eq-eqb, ne-eqb}
-use Rattle.basics.specs.Laws.Refusals.{Refusing, refusing-append, refused-exactly as exactly-refused, accepted-exactly as exactly-accepted}
+use Rattle.basics.specs.Laws.Numbered.{Refusing, refusing-append, refused-exactly as exactly-refused, accepted-exactly as exactly-accepted}
 use Rattle.basics.specs.Tables.{made}
 use Rattle.basics.specs.Rows.{Row, Gives, Silent}
 use Rattle.basics.specs.Laws.Rows.{silent-first}

@@ -3,14 +3,14 @@ use Prim.Native.Nat.{_-_}
 use mathlib.Core.Logic.{⊎-elim}
 use borrow.Author.Needs.{needs}
 use Rattle.basics.specs.Laws.Lowest.{Seeking, seek-none, seek-hit, seek-more, seek-end}
-use Rattle.places.specs.Limits.{paragraphs}
+use Rattle.places.specs.Limits.{locutusParagraphs}
 use Rattle.save.specs.Writing.{past}
 use Rattle.save.proofs.Marks.{past-hit, past-fits, past-not}
 use Rattle.save.proofs.lowest_past.Statement.{statement}
 use Rattle.save.proofs.lowest_past.Tie as tie
 
 abbrev Inv-loop : tie.InvT-loop
-Inv-loop marks n p₀ p = Seeking paragraphs (past marks n) p
+Inv-loop marks n p₀ p = Seeking locutusParagraphs (past marks n) p
 
 abbrev μ-loop : tie.MeasureT-loop
 μ-loop marks n p₀ p = 2048 - p

@@ -7,12 +7,12 @@ use mathlib.Core.Logic.{_↔_}
 use native.Mathlib.Omega.{arith}
 use lib.ListN.{length, drop}
 use borrow.Author.Tests.{ltb-true, ltb-false}
-use Rattle.basics.specs.Laws.Refusals.{Refusing, refused-exactly as exactly-refused, accepted-exactly as exactly-accepted}
+use Rattle.basics.specs.Laws.Numbered.{Refusing, refused-exactly as exactly-refused, accepted-exactly as exactly-accepted}
 use Rattle.basics.specs.Rows.{Gives, Silent, also, none}
 use Rattle.basics.specs.Laws.Rows.{silent-first}
 use Rattle.basics.specs.Counts.{any, lowest}
 use Rattle.basics.specs.Laws.Lowest.{First, lowest-first, lowest-any}
-use Rattle.places.specs.Limits.{paragraphs, lent, imageLimit}
+use Rattle.places.specs.Limits.{locutusParagraphs, lent, imageLimit}
 use Rattle.tables.specs.Tables.{unsupported}
 use Rattle.image.specs.Form.{Tables}
 use Rattle.image.specs.Chosen.{Chosen}
@@ -43,14 +43,14 @@ module _ (out flags uid : List ℕ) (t : Tables) (ram : List ℕ) (marks : List 
   none-answers s = silent-first (done (length (imageBy flags uid t ram marks))) s
 
   -- 9 names the lowest marked paragraph that does not lie in the words lent
-  pub names-lowest : any paragraphs (past marks (lent ram)) ≡ true → First (past marks (lent ram)) 0 (lowest paragraphs (past marks (lent ram)))
+  pub names-lowest : any locutusParagraphs (past marks (lent ram)) ≡ true → First (past marks (lent ram)) 0 (lowest locutusParagraphs (past marks (lent ram)))
   names-lowest e =
-      lowest-first paragraphs (past marks (lent ram)) (ltb-true _ _ (lowest-any paragraphs (past marks (lent ram)) ∙ e))
+      lowest-first locutusParagraphs (past marks (lent ram)) (ltb-true _ _ (lowest-any locutusParagraphs (past marks (lent ram)) ∙ e))
 
   -- what a writing without refusal says
   pub record Accepted : Type 0 where
     pub supported : unsupported flags (t .permissions) (t .flips) ≡ false
-    pub lie : Chosen (lent ram) paragraphs (isMarked marks) (paragraphOf ram)
+    pub lie : Chosen (lent ram) locutusParagraphs (isMarked marks) (paragraphOf ram)
     pub short : length (imageBy flags uid t ram marks) ≤ imageLimit
     pub room : length (imageBy flags uid t ram marks) ≤ length out
     pub answer : writingOf out flags uid t ram marks ≡ done (length (imageBy flags uid t ram marks))

@@ -12,7 +12,7 @@ use Rattle.basics.specs.Counts.{any, lowest, count}
 use Rattle.basics.specs.Laws.Tests.{cases, true-is-not-false, and-true}
 use Rattle.basics.specs.Laws.Counts.{any-of}
 use Rattle.basics.specs.Laws.Lowest.{any-not, any-low}
-use Rattle.places.specs.Limits.{lent, paragraphs, imageLimit}
+use Rattle.places.specs.Limits.{lent, locutusParagraphs, imageLimit}
 use Rattle.tables.specs.Tables.{unsupported}
 use Rattle.image.specs.Chosen.{Chosen, Sized}
 use Rattle.image.specs.Form.{Tables}
@@ -26,37 +26,37 @@ pub length-paragraph : (ram : List ℕ) (p : ℕ) → 256 * p + 256 ≤ lent ram
 length-paragraph ram p h = length-part ram (256 * p) (256 * p + 256) (omega arith) ∙ omega arith
 
 pub marked-lie :
-    (marks : List Bool) (ram : List ℕ) → any paragraphs (past marks (lent ram)) ≡ false → Chosen (lent ram) paragraphs (isMarked marks) (paragraphOf ram)
+    (marks : List Bool) (ram : List ℕ) → any locutusParagraphs (past marks (lent ram)) ≡ false → Chosen (lent ram) locutusParagraphs (isMarked marks) (paragraphOf ram)
 marked-lie marks ram e = record { each = λ q l m. let k : 256 * q + 256 ≤ lent ram = inside q l m in record { whole = length-paragraph ram q k; within = k } }
   where
-    inside : (q : ℕ) → q < paragraphs → isMarked marks q ≡ true → 256 * q + 256 ≤ lent ram
+    inside : (q : ℕ) → q < locutusParagraphs → isMarked marks q ≡ true → 256 * q + 256 ≤ lent ram
     inside q l m =
         cases (ltb (lent ram) (256 * q + 256))
         (λ d.
         true-is-not-false
-        (any-of paragraphs (past marks (lent ram)) q l (and-true (isMarked marks q) (ltb (lent ram) (256 * q + 256)) m d))
+        (any-of locutusParagraphs (past marks (lent ram)) q l (and-true (isMarked marks q) (ltb (lent ram) (256 * q + 256)) m d))
         e)
         (λ d. ltb-false _ _ d)
 
 -- where the code finds none
 none-past :
-    (marks : List Bool) (ram : List ℕ) (m : ℕ) → m ≡ lent ram → (r : ℕ) → r ≡ lowest paragraphs (past marks m) → paragraphs ≤ r
-    → any paragraphs (past marks (lent ram)) ≡ false
-none-past marks ram m em r er l = any-not paragraphs (past marks (lent ram)) r (rw em at er) l
+    (marks : List Bool) (ram : List ℕ) (m : ℕ) → m ≡ lent ram → (r : ℕ) → r ≡ lowest locutusParagraphs (past marks m) → locutusParagraphs ≤ r
+    → any locutusParagraphs (past marks (lent ram)) ≡ false
+none-past marks ram m em r er l = any-not locutusParagraphs (past marks (lent ram)) r (rw em at er) l
 
 pub all-lie :
-    (marks : List Bool) (ram : List ℕ) (m : ℕ) → m ≡ lent ram → (r : ℕ) → r ≡ lowest paragraphs (past marks m) → paragraphs ≤ r
-    → Chosen (lent ram) paragraphs (isMarked marks) (paragraphOf ram)
+    (marks : List Bool) (ram : List ℕ) (m : ℕ) → m ≡ lent ram → (r : ℕ) → r ≡ lowest locutusParagraphs (past marks m) → locutusParagraphs ≤ r
+    → Chosen (lent ram) locutusParagraphs (isMarked marks) (paragraphOf ram)
 all-lie marks ram m em r er l = marked-lie marks ram (none-past marks ram m em r er l)
 
 -- the image's length, from the number of marks
 pub length-by :
     (flags uid : List ℕ) (t : Tables) (ram : List ℕ) (marks : List Bool) → Sized flags uid t
-    → Chosen (lent ram) paragraphs (isMarked marks) (paragraphOf ram)
-    → length (imageBy flags uid t ram marks) ≡ 1321 + 528 * count (isMarked marks) paragraphs
+    → Chosen (lent ram) locutusParagraphs (isMarked marks) (paragraphOf ram)
+    → length (imageBy flags uid t ram marks) ≡ 1321 + 528 * count (isMarked marks) locutusParagraphs
 length-by flags uid t ram marks z w =
-    length-image flags uid t (marked marks ram) (lent ram) z (chosen-lie (isMarked marks) (paragraphOf ram) (lent ram) paragraphs w)
-    ∙ ap (λ (n : ℕ). 1321 + 528 * n) (length-chosen (isMarked marks) (paragraphOf ram) paragraphs)
+    length-image flags uid t (marked marks ram) (lent ram) z (chosen-lie (isMarked marks) (paragraphOf ram) (lent ram) locutusParagraphs w)
+    ∙ ap (λ (n : ℕ). 1321 + 528 * n) (length-chosen (isMarked marks) (paragraphOf ram) locutusParagraphs)
 
 module _ (out flags uid : List ℕ) (t : Tables) (ram : List ℕ) (marks : List Bool) where
   -- the answer of the writer, and what it leaves
@@ -72,15 +72,15 @@ module _ (out flags uid : List ℕ) (t : Tables) (ram : List ℕ) (marks : List 
   unfolding writingOf
   answers-10 b e h w ew = rw ew (refuses (refusal 10 0 0) (rw (← e, h)) refl)
 
-  module _ (h : unsupported flags (t .permissions) (t .flips) ≡ false) (m : ℕ) (em : m ≡ lent ram) (r : ℕ) (er : r ≡ lowest paragraphs (past marks m)) where
-    pub answers-9 : r < paragraphs → (w : Writing) → w ≡ refusal 9 r 0 → Answers w out
+  module _ (h : unsupported flags (t .permissions) (t .flips) ≡ false) (m : ℕ) (em : m ≡ lent ram) (r : ℕ) (er : r ≡ lowest locutusParagraphs (past marks m)) where
+    pub answers-9 : r < locutusParagraphs → (w : Writing) → w ≡ refusal 9 r 0 → Answers w out
     unfolding writingOf
     answers-9 l w ew =
-        let e : r ≡ lowest paragraphs (past marks (lent ram)) = rw em at er in
-        rw ew (refuses (refusal 9 r 0) (rw (h, any-low paragraphs (past marks (lent ram)) r e l, e)) refl)
+        let e : r ≡ lowest locutusParagraphs (past marks (lent ram)) = rw em at er in
+        rw ew (refuses (refusal 9 r 0) (rw (h, any-low locutusParagraphs (past marks (lent ram)) r e l, e)) refl)
 
-    module _ (l : paragraphs ≤ r) (z : Sized flags uid t) (n : ℕ) (en : n ≡ count (isMarked marks) paragraphs) where
-      past-none : any paragraphs (past marks (lent ram)) ≡ false
+    module _ (l : locutusParagraphs ≤ r) (z : Sized flags uid t) (n : ℕ) (en : n ≡ count (isMarked marks) locutusParagraphs) where
+      past-none : any locutusParagraphs (past marks (lent ram)) ≡ false
       past-none = none-past marks ram m em r er l
 
       long : 1321 + 528 * n ≡ length (imageBy flags uid t ram marks)

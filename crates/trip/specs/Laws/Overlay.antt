@@ -12,7 +12,7 @@ use borrow.Author.Tests.{ltb-true, ltb-false, eqb-true, eqb-false}
 use Rattle.basics.specs.Lists.{lay}
 use Rattle.basics.specs.Laws.Lay.{lay-out, lay-in}
 use Rattle.basics.specs.Laws.Tests.{cases, true-is-not-false}
-use Rattle.places.specs.Limits.{paragraphs}
+use Rattle.places.specs.Limits.{locutusParagraphs}
 use Rattle.load.specs.Blocks.{overlay}
 use Rattle.load.specs.Laws.Load.{length-overlay}
 use Rattle.image.specs.Form.{Hunk, hunk}
@@ -95,11 +95,11 @@ module _ (on : ℕ → Bool) (words : ℕ → List ℕ) (ram : List ℕ) where
         (λ e. at (over-on p e) k ∙ past p k (c .each p (omega arith) e .whole) q ∙ over-in p k s (chosen-below p (omega arith) c) j m)
         (λ e. at (over-off p e) k ∙ over-in p k s (chosen-below p (omega arith) c) j m))
 
-    pub laid-back : n ≤ length ram → Chosen n paragraphs on words → Overlaid on words ram (overlay (map placed (chosen paragraphs on words)) ram)
+    pub laid-back : n ≤ length ram → Chosen n locutusParagraphs on words → Overlaid on words ram (overlay (map placed (chosen locutusParagraphs on words)) ram)
     unfolding over
     laid-back s c =
         record {
-          same = over-long paragraphs;
-          given = λ k h m. over-in paragraphs k s c h m;
-          kept = λ k h. over-out paragraphs k c h;
+          same = over-long locutusParagraphs;
+          given = λ k h m. over-in locutusParagraphs k s c h m;
+          kept = λ k h. over-out locutusParagraphs k c h;
         }

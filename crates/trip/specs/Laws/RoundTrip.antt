@@ -8,7 +8,7 @@ use native.Mathlib.Omega.{arith}
 use lib.ListN.{length, getD, take, drop}
 use lib.Seq.{take-append-seam}
 use Rattle.basics.specs.Laws.Lists.{getD-part}
-use Rattle.places.specs.Limits.{paragraphs, imageLimit, lent}
+use Rattle.places.specs.Limits.{locutusParagraphs, imageLimit, lent}
 use Rattle.tables.specs.Tables.{unsupported}
 use Rattle.load.specs.declared.Loading.{Loading}
 use Rattle.load.specs.Load.{loadingOf, loadRamOf}
@@ -25,14 +25,14 @@ use Rattle.trip.specs.Laws.Overlay.{laid-back}
 -- an image of chosen paragraphs, as writer and builder make it
 pub load-chosen :
     (flags uid : List ℕ) (t : Tables) (on : ℕ → Bool) (words : ℕ → List ℕ) (ram : List ℕ) → Sized flags uid t
-    → length (imageOf flags uid t (chosen paragraphs on words)) ≤ imageLimit → unsupported flags (t .permissions) (t .flips) ≡ false
-    → Chosen (lent ram) paragraphs on words → LoadsChosen flags t on words (imageOf flags uid t (chosen paragraphs on words)) ram
+    → length (imageOf flags uid t (chosen locutusParagraphs on words)) ≤ imageLimit → unsupported flags (t .permissions) (t .flips) ≡ false
+    → Chosen (lent ram) locutusParagraphs on words → LoadsChosen flags t on words (imageOf flags uid t (chosen locutusParagraphs on words)) ram
 load-chosen flags uid t on words ram z short supported c =
-    let hs : List Hunk = chosen paragraphs on words in
-    let l : LoadsAs (imageOf flags uid t hs) ram flags t hs = load-image flags uid t hs z short supported ram (chosen-lie on words (lent ram) paragraphs c) in
+    let hs : List Hunk = chosen locutusParagraphs on words in
+    let l : LoadsAs (imageOf flags uid t hs) ram flags t hs = load-image flags uid t hs z short supported ram (chosen-lie on words (lent ram) locutusParagraphs c) in
     let few : lent ram ≤ length ram = omega arith in
     record {
-      answer = l .answer ∙ ap (answerOf flags t) (length-chosen on words paragraphs);
+      answer = l .answer ∙ ap (answerOf flags t) (length-chosen on words locutusParagraphs);
       back = subst (λ (x : List ℕ). Overlaid on words ram x) (sym (l .laid)) (laid-back on words ram (lent ram) few c);
     }
 
@@ -50,8 +50,8 @@ pub round-trip :
 round-trip out flags uid t ram marks z e to same =
     let a : Accepted out flags uid t ram marks = accepted out flags uid t ram marks e in
     let m : lent to ≡ lent ram = ap (λ (n : ℕ). min n 524288) same in
-    let c : Chosen (lent to) paragraphs (isMarked marks) (paragraphOf ram) =
-    subst (λ (n : ℕ). Chosen n paragraphs (isMarked marks) (paragraphOf ram)) (sym m) (a .lie) in
+    let c : Chosen (lent to) locutusParagraphs (isMarked marks) (paragraphOf ram) =
+    subst (λ (n : ℕ). Chosen n locutusParagraphs (isMarked marks) (paragraphOf ram)) (sym m) (a .lie) in
     let r : LoadsChosen flags t (isMarked marks) (paragraphOf ram) (imageBy flags uid t ram marks) to =
     load-chosen flags uid t (isMarked marks) (paragraphOf ram) to z (a .short) (a .supported) c in
     record {
