@@ -3,7 +3,7 @@ use Prim.Native.Nat.{ℕ, _%_, _/_, _*_, _+_, _-_}
 use mathlib.Core.Bool.{Bool, _||_, cond, _&&_, not}
 use mathlib.Core.List.{List}
 use lib.Dec.{eqb, ltb, leb}
-use lib.ListN.{getD, set}
+use lib.ListN.{getD, set, replicate}
 use Rattle.basics.specs.Lists.{laid}
 use Rattle.places.specs.declared.Console.{Console}
 use Rattle.places.specs.declared.Locutus.{Locutus}
@@ -147,3 +147,18 @@ actingBy mapping permissions flips =
 -- reset copies the initial tables to the active ones
 abbrev pub resetOf : Cartridge → Cartridge
 resetOf c = withActive c (c .«initial_mapping») (c .«initial_permissions»)
+
+-- a cartridge as loaded: the active tables are the initial ones
+abbrev pub fresh : List ℕ → List ℕ → List ℕ → Cartridge
+fresh mapping permissions flips =
+    record {
+      «initial_mapping» = mapping;
+      «initial_permissions» = permissions;
+      mapping = mapping;
+      permissions = permissions;
+      flips = flips;
+    }
+
+-- the cartridge of a refused load
+abbrev pub noCartridge : Cartridge
+noCartridge = fresh (replicate 256 0) (replicate 256 0) (replicate 256 0)

@@ -1,7 +1,7 @@
 // The cartridge that answers the console: reads, writes and resets over lent RAM (01, "The machine").
 ghost use Prim.Native.Nat.{_/_, _≤_};
 ghost use mathlib.Core.Path.{_≡_};
-ghost use Rattle.cart.specs.Machine.{locate, silent, rightsOf, fetched, readBy, readOf, asks, takerOf, firstK, flipMapping, flipPermissions, turned, flipped, stored, storedBy, writeOf, writeRamOf, resetOf, actingBy};
+ghost use Rattle.cart.specs.Machine.{locate, silent, rightsOf, fetched, readBy, readOf, asks, takerOf, firstK, flipMapping, flipPermissions, turned, flipped, stored, storedBy, writeOf, writeRamOf, resetOf, actingBy, fresh};
 use places::Console;
 use places::Locutus;
 
@@ -15,6 +15,19 @@ pub struct Cartridge {
     pub mapping: [u16; 256],
     pub permissions: [u8; 256],
     pub flips: [u16; 256],
+}
+
+// A cartridge as loaded: the active tables are the initial ones.
+pub fn fresh(mapping: [u16; 256], permissions: [u8; 256], flips: [u16; 256]) -> Cartridge
+    ensures { λ r. ⌜ r ≡ fresh mapping permissions flips ⌝ }
+{
+    Cartridge {
+        initial_mapping: mapping,
+        initial_permissions: permissions,
+        mapping,
+        permissions,
+        flips,
+    }
 }
 
 // What a read gets.

@@ -2,13 +2,13 @@
 use Prim.Native.Nat.{ℕ, _+_, _*_, _/_, _%_}
 use mathlib.Core.List.{List}
 use mathlib.Core.Bool.{Bool, not, _||_}
-use lib.ListN.{getD, replicate}
+use lib.ListN.{getD}
 use lib.Dec.{eqb}
 use Rattle.basics.specs.Tables.{table}
 use Rattle.basics.specs.Bytes.{at16}
 use Rattle.basics.specs.Counts.{any}
 use Rattle.cart.specs.declared.Cartridge.{Cartridge}
-use Rattle.cart.specs.Machine.{PFE}
+use Rattle.cart.specs.Machine.{fresh, PFE}
 use Rattle.tables.specs.Flags.{field, flag}
 
 -- 256 entries of 16 bits, and of 8, that stand at a place
@@ -18,24 +18,9 @@ words256 t at = table 256 (λ i. at16 t (at + 2 * i))
 abbrev pub bytes256 : List ℕ → ℕ → List ℕ
 bytes256 t at = table 256 (λ i. getD t (at + i) 0)
 
--- a cartridge as loaded: the active tables are the initial ones
-abbrev pub fresh : List ℕ → List ℕ → List ℕ → Cartridge
-fresh mapping permissions flips =
-    record {
-      «initial_mapping» = mapping;
-      «initial_permissions» = permissions;
-      mapping = mapping;
-      permissions = permissions;
-      flips = flips;
-    }
-
 -- memory mapping, permissions, page flips (01, File layout)
 unfoldable pub cartridgeOf : List ℕ → Cartridge
 cartridgeOf t = fresh (words256 t 0) (bytes256 t 512) (words256 t 768)
-
--- the cartridge of a refused load
-abbrev pub noCartridge : Cartridge
-noCartridge = fresh (replicate 256 0) (replicate 256 0) (replicate 256 0)
 
 -- BANKSW is bit 3 of a permission (001, Permissions Table)
 abbrev pub BANKSW : ℕ → Bool

@@ -2,8 +2,9 @@
 ghost use Prim.Native.Nat.{_+_, _*_, _≤_};
 ghost use mathlib.Core.Path.{_≡_};
 ghost use Rattle.basics.specs.Bytes.{at16};
+ghost use Rattle.cart.specs.Machine.{noCartridge};
 ghost use Rattle.tables.specs.Flags.{compatOf, noCompat};
-ghost use Rattle.tables.specs.Tables.{words256, bytes256, cartridgeOf, noCartridge, switches, flipsOne, unsupported};
+ghost use Rattle.tables.specs.Tables.{words256, bytes256, cartridgeOf, switches, flipsOne, unsupported};
 use basics::byte_at;
 use basics::wide16;
 use cart::Cartridge;
@@ -83,13 +84,7 @@ pub fn cartridge_of(t: &[u8]) -> Cartridge
     let m = words_at(t, 0);
     let p = bytes_at(t, 512);
     let f = words_at(t, 768);
-    Cartridge {
-        initial_mapping: m,
-        initial_permissions: p,
-        mapping: m,
-        permissions: p,
-        flips: f,
-    }
+    cart::fresh(m, p, f)
 }
 
 pub fn no_cartridge() -> Cartridge
@@ -97,13 +92,7 @@ pub fn no_cartridge() -> Cartridge
 {
     let m = [0u16; 256];
     let p = [0u8; 256];
-    Cartridge {
-        initial_mapping: m,
-        initial_permissions: p,
-        mapping: m,
-        permissions: p,
-        flips: m,
-    }
+    cart::fresh(m, p, m)
 }
 
 // BANKSW on a paragraph divisible by 8.
