@@ -1,5 +1,6 @@
 -- Any two answers that the promise of a public function allows are equal (01, What the promises rule out).
-use Rattle.basics.specs.Same.{OneAnswer}
+use denote.Ref.{now}
+use Rattle.basics.specs.Same.{OneAnswer, OneLent}
 use Rattle.basics.specs.Laws.Same.{same}
 use Rattle.basics.proofs.refuse.Reads as refuse
 use Rattle.basics.proofs.no_refusal.Reads as no-refusal
@@ -12,6 +13,8 @@ use Rattle.basics.proofs.word_at.Reads as word-at
 use Rattle.basics.proofs.least.Reads as least
 use Rattle.basics.proofs.both.Reads as both
 use Rattle.basics.proofs.either.Reads as either
+use Rattle.basics.proofs.put_bytes.Reads as put-bytes
+use Rattle.basics.proofs.put_words.Reads as put-words
 
 pub one-refuse : OneAnswer refuse.Learnt
 one-refuse κs a y z e f = same
@@ -45,3 +48,9 @@ one-both κs a y z e f = same
 
 pub one-either : OneAnswer either.Learnt
 one-either κs a y z e f = same
+
+pub one-put-bytes : OneLent put-bytes.Learnt (λ κs e. now (e .0))
+one-put-bytes κs a y z e f = same
+
+pub one-put-words : OneLent put-words.Learnt (λ κs e. now (e .0))
+one-put-words κs a y z e f = same

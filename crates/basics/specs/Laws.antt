@@ -9,6 +9,7 @@ pub mod Refusals
 pub mod Numbered
 pub mod Stands
 pub mod Wrote
+pub mod Puts
 pub mod Same
 pub mod Octets
 pub mod Xor

@@ -1,7 +1,9 @@
 -- Parts of a list, words stored one after the other, what is made of each element, and a fact of each.
 use Prim.Native.Nat.{ℕ, _-_, zero, suc, _+_}
 use mathlib.Core.List.{List, [], _∷_, _++_}
+use mathlib.Core.Bool.{cond}
 use lib.ListN.{take, drop, set, length, getD}
+use lib.Dec.{ltb}
 
 -- the elements from place a up to place e: what the code's `&s[a..e]` lends
 abbrev pub part : {A : Type 0} → List A → ℕ → ℕ → List A
@@ -25,3 +27,7 @@ joined f (x ∷ xs) = f x ++ joined f xs
 pub data Each {A : Type 0} (P : A → Type 0) : List A → Type 0 where
   none : Each P []
   also : {x : A} {xs : List A} → P x → Each P xs → Each P (x ∷ xs)
+
+-- a buffer with x at its front and all else kept; as it was where it has no room for x (01, How an image is laid out by the builder)
+unfoldable pub putFront : List ℕ → List ℕ → List ℕ
+putFront x out = cond (ltb (length out) (length x)) out (x ++ drop (length x) out)

@@ -3,7 +3,8 @@ ghost use Prim.Native.Nat.{_/_, _%_, _<_, _≤_, min};
 ghost use mathlib.Core.Path.{_≡_};
 ghost use mathlib.Core.Bool.{_&&_, _||_};
 ghost use lib.ListN.{length, getD};
-ghost use Rattle.basics.specs.Bytes.{at16};
+ghost use Rattle.basics.specs.Bytes.{at16, bytes16};
+ghost use Rattle.basics.specs.Lists.{putFront};
 ghost use Rattle.basics.specs.Refusals.{refuse, noRefusal};
 
 // A refusal: a number of 01's table, and its place; 0 and 0 where nothing is refused.
@@ -83,4 +84,33 @@ pub fn either(a: bool, b: bool) -> bool
     ensures { λ r. ⌜ r ≡ (a || b) ⌝ }
 {
     if a { true } else { b }
+}
+
+// Bytes, and words of two bytes each, at the front of a buffer that has room for them.
+pub fn put_bytes(out: &mut [u8], bytes: &[u8])
+    ensures { λ _. ⌜ now (out .exit) ≡ putFront (now (bytes .entry)) (now (out .entry)) ⌝ }
+{
+    if out.len() < bytes.len() {
+        return;
+    }
+    let mut i = 0;
+    while i < bytes.len() {
+        out[i] = bytes[i];
+        i += 1;
+    }
+}
+
+pub fn put_words(out: &mut [u8], words: &[u16])
+    ensures { λ _. ⌜ now (out .exit) ≡ putFront (bytes16 (now (words .entry))) (now (out .entry)) ⌝ }
+{
+    if out.len() / 2 < words.len() {
+        return;
+    }
+    let mut i = 0;
+    while i < words.len() {
+        let w = words[i];
+        out[2 * i] = low(w);
+        out[2 * i + 1] = high(w);
+        i += 1;
+    }
 }

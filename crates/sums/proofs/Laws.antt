@@ -4,12 +4,15 @@ use mathlib.Core.List.{List}
 use mathlib.Core.Path.{_≡_, _∙_, sym, ap}
 use native.Mathlib.Omega.{arith}
 use native.Mathlib.Numerals.{add-one}
+use native.Mathlib.Nat.{mod-eq-of-lt}
 use lib.ListN.{set, getD, length, drop, drop-of-length-le}
 use lib.Bits.{bitXor}
 use lib.Seq.{drop-cons}
+use Rattle.basics.specs.Laws.Octets.{Bytes}
 use Rattle.basics.specs.Laws.Tables.{Filled, filled-more}
 use Rattle.sums.specs.Tables.{entryOf, byEights, byEight, byBytes, entryAt}
-use Rattle.sums.specs.Crc.{crcBits}
+use Rattle.sums.specs.Crc.{crcBits, crcByte, crcFrom, dowcrcOf}
+use Rattle.sums.specs.Laws.Crc.{dow-fits}
 use Rattle.sums.specs.Laws.Tables.{entry-first, entry-next}
 
 -- the first i entries of the tables of p stand in t
@@ -39,3 +42,16 @@ module _ (t : List ℕ) (c : ℕ) (s : List ℕ) where
   pub bytes-end : (i x : ℕ) → length s ≤ i → byBytes t x (drop i s) ≡ byBytes t c s → x ≡ byBytes t c s
   unfolding byBytes
   bytes-end i x h e = sym (ap (byBytes t x) (drop-of-length-le s {i = i} h)) ∙ e
+
+-- bit by bit
+module _ (p c : ℕ) (s : List ℕ) where
+  pub from-next : (i x y : ℕ) → i < length s → crcFrom p x (drop i s) ≡ crcFrom p c s → y ≡ crcByte p x (getD s i 0) → crcFrom p y (drop (i + 1) s) ≡ crcFrom p c s
+  unfolding crcFrom
+  from-next i x y h e f = rw (f, add-one) (sym (ap (crcFrom p x) (drop-cons s i 0 h)) ∙ e)
+
+  pub from-end : (i x : ℕ) → length s ≤ i → crcFrom p x (drop i s) ≡ crcFrom p c s → x ≡ crcFrom p c s
+  unfolding crcFrom
+  from-end i x h e = sym (ap (crcFrom p x) (drop-of-length-le s {i = i} h)) ∙ e
+
+pub dow-short : (x : ℕ) (s : List ℕ) → x ≡ dowcrcOf s → Bytes s → x % 256 ≡ dowcrcOf s
+dow-short x s e h = rw e (mod-eq-of-lt (dow-fits s h))

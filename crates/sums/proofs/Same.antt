@@ -5,6 +5,7 @@ use Rattle.sums.proofs.tables.Reads as tables
 use Rattle.sums.proofs.sum_by.Reads as sum-by
 use Rattle.sums.proofs.dowcrc_by.Reads as dowcrc-by
 use Rattle.sums.proofs.dowcrc.Reads as dowcrc
+use Rattle.sums.proofs.dowcrc_short.Reads as dowcrc-short
 use Rattle.sums.proofs.crc324.Reads as crc324
 use Rattle.sums.proofs.crc32.Reads as crc32
 
@@ -25,3 +26,6 @@ one-crc324 κs a y z e f = same
 
 pub one-crc32 : OneAnswer crc32.Learnt
 one-crc32 κs a y z e f = same
+
+pub one-dowcrc-short : OneAnswer dowcrc-short.Learnt
+one-dowcrc-short κs a y z e f = same

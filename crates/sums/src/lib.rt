@@ -3,7 +3,7 @@ ghost use Prim.Native.Nat.{_+_, _/_, _%_, _<_, _≤_};
 ghost use mathlib.Core.Path.{_≡_};
 ghost use lib.ListN.{length};
 ghost use Rattle.basics.specs.Laws.Tables.{Filled};
-ghost use Rattle.sums.specs.Crc.{crcBit, crcBits, dowcrcOf, crc324Of, crc32Of};
+ghost use Rattle.sums.specs.Crc.{crcBit, crcBits, crcByte, crcFrom, dowcrcOf, crc324Of, crc32Of};
 ghost use Rattle.sums.specs.Tables.{entryOf, tablesOf, entryAt, byBytes, byEight, byEights, byTables};
 
 // The polynomials.
@@ -27,6 +27,24 @@ fn bits(p: u32, c: u32) -> u32
     let mut x = c;
     for k in 0..8usize {
         x = bit(p, x);
+    }
+    x
+}
+
+// One byte, bit by bit.
+fn byte(p: u32, c: u32, b: u8) -> u32
+    ensures { λ r. ⌜ r ≡ crcByte p c b ⌝ }
+{
+    bits(p, c ^ (b as u32))
+}
+
+// The sum of s bit by bit, from the sum c of what stands before it: for a few bytes, with no tables.
+fn bitwise(p: u32, c: u32, s: &[u8]) -> u32
+    ensures { λ r. ⌜ r ≡ crcFrom p c (now (s .entry)) ⌝ }
+{
+    let mut x = c;
+    for i in 0..s.len() {
+        x = byte(p, x, s[i]);
     }
     x
 }
@@ -121,6 +139,13 @@ pub fn dowcrc(s: &[u8]) -> u8
 {
     let t = tables(DOW);
     dowcrc_by(&t, s)
+}
+
+// DOWCRC of the few bytes of a header.
+pub fn dowcrc_short(s: &[u8]) -> u8
+    ensures { λ r. ⌜ r ≡ dowcrcOf (now (s .entry)) ⌝ }
+{
+    (bitwise(DOW, 0, s) % 256) as u8
 }
 
 pub fn crc324(s: &[u8]) -> u32
