@@ -8,9 +8,10 @@ use lib.ListN.{length, getD}
 use lib.Dec.{leb, eqb}
 use borrow.Author.Tests.{eqb-true}
 use Rattle.basics.specs.Laws.Tables.{length-table}
+use Rattle.switches.specs.Flips.{firstK, turned, flipped, flipMapping, flipPermissions}
+use Rattle.switches.specs.Laws.Flips.{turned-at, length-turned}
 use Rattle.cart.specs.declared.Cartridge.{Cartridge}
-use Rattle.cart.specs.Machine.{firstK, turned, flipped, flipMapping, flipPermissions, resetOf}
-use Rattle.cart.specs.Laws.Machine.{turned-at, length-turned}
+use Rattle.cart.specs.Cartridges.{activeOf, withActive, resetOf}
 use Rattle.lines.specs.declared.Line.{Line}
 use Rattle.rules.specs.Rules.{paged}
 use Rattle.layout.specs.Layout.{mappingTable, permissionsTable, flipTable, mappingAt, permissionsAt, flippable, flipEntry, plainMapping, plainPermissions, cartridgeOf}
@@ -77,7 +78,8 @@ module _ {lines : List Line} {c : Cartridge} {number : ℕ → ℕ} (t : Tabled 
   flip-in n s = rw (t .flips) (flip-entry lines n s)
 
   -- a flip that acts
-  pub tabled-flip : (n : ℕ) → n < 256 → paged lines (n / 16) ≡ true → Tabled lines (flipped c n) (renumbered number (n / 16) (n % 16))
+  pub tabled-flip : (n : ℕ) → n < 256 → paged lines (n / 16) ≡ true →
+      Tabled lines (withActive c (flipped (c .flips) n (activeOf c))) (renumbered number (n / 16) (n % 16))
   unfolding mappingAt permissionsAt
   tabled-flip n s e =
       record {
