@@ -128,6 +128,20 @@ pub struct Active {
     pub permissions: [u8; PARAGRAPHS],
 }
 
+// A cartridge as it is loaded with these tables.
+fn fresh<'a>(
+    mapping: &'a [u16; PARAGRAPHS],
+    permissions: &'a [u8; PARAGRAPHS],
+    flips: &'a [u16; FLIP_ENTRIES],
+) -> Cartridge
+    ensures { λ r. ⌜ r ≡ fresh (now (mapping .entry)) (now (permissions .entry)) (now (flips .entry)) ⌝ }
+{
+    let m = *mapping;
+    let p = *permissions;
+    let f = *flips;
+    cart::fresh(m, p, f)
+}
+
 fn active_as(c: Cartridge) -> Active
     ensures { λ r. ⌜ r ≡ activeAs c ⌝ }
 {
@@ -177,7 +191,7 @@ pub extern "C" fn luigi_reads_by_value<'a>(
 )
     ensures { λ _. ⌜ now (out .exit) ≡ answersIn (now (mapping .entry)) (now (permissions .entry)) (now (ram .entry)) (now (at .entry)) (now (out .entry)) ⌝ }
 {
-    let c = cart::fresh(*mapping, *permissions, *flips);
+    let c = fresh(mapping, permissions, flips);
     for i in 0..basics::least(at.len(), out.len()) {
         out[i] = heard_as(cart::read(c, ram, Console(at[i])));
     }
@@ -214,7 +228,7 @@ pub extern "C" fn luigi_writes_by_value<'a>(
 ) -> Active
     ensures { λ r. ⌜ (r ≡ activeAfter (fresh (now (mapping .entry)) (now (permissions .entry)) (now (flips .entry))) (now (ram .entry)) (now (at .entry)) (now (value .entry))) × (now (ram .exit) ≡ ramAfter (fresh (now (mapping .entry)) (now (permissions .entry)) (now (flips .entry))) (now (ram .entry)) (now (at .entry)) (now (value .entry))) ⌝ }
 {
-    let mut c = cart::fresh(*mapping, *permissions, *flips);
+    let mut c = fresh(mapping, permissions, flips);
     for i in 0..basics::least(at.len(), value.len()) {
         c = cart::write(c, ram, Console(at[i]), value[i]);
     }

@@ -1,5 +1,5 @@
 -- One access, by the machine and by the plain cartridge: a read is answered alike, and a write keeps the two tied.
-use Prim.Native.Nat.{ℕ, _≤_, _*_, _/_, _%_, _+_, _<_, min}
+use Prim.Native.Nat.{ℕ, _≤_, _*_, _/_, _%_, _+_, _<_}
 use mathlib.Core.List.{List}
 use mathlib.Core.Path.{_≡_, _∙_, ap, refl, sym}
 use mathlib.Core.Bool.{Bool, false, true, cond, _&&_}
@@ -12,6 +12,7 @@ use Rattle.basics.specs.Laws.Tables.{past-table}
 use Rattle.basics.specs.Laws.Tests.{true-is-not-false, cases, and-left, and-right}
 use Rattle.basics.specs.Laws.Options.{some-is-not-none}
 use Rattle.places.specs.declared.Console.{Console}
+use Rattle.places.specs.Limits.{lentLimit, lent}
 use Rattle.switches.specs.declared.Request.the-variants.{Entry}
 use Rattle.switches.specs.Flips.{firstK, asks}
 use Rattle.switches.specs.Laws.Flips.{first-small}
@@ -103,12 +104,12 @@ module _ {bin : List ℕ} {lines : List Line} (g : Good lines) (c : Cartridge) (
         let p : mappingAt lines (number (at .0 / 4096)) (at .0 / 256) * 256 + at .0 % 256 ≡ placeOf lines (layer (l .entry)) at .0 =
         shows g (number (at .0 / 4096)) at .mapping l e in
         let b : placeOf lines (layer (l .entry)) at .0 < needed lines = place-below (g .fine) (layer (l .entry)) at l line-there in
-        let s : placeOf lines (layer (l .entry)) at .0 % 524288 ≡ placeOf lines (layer (l .entry)) at .0 = omega (arith, needed-small g) in
+        let s : placeOf lines (layer (l .entry)) at .0 % lentLimit ≡ placeOf lines (layer (l .entry)) at .0 = omega (arith, needed-small g) in
         rw (m, p, s)
 
   lies-there : (u : ℕ) (l : Line) → lineAt lines u (at .0) ≡ some l → lies (placeOf lines u at) ram ≡ true
   lies-there u l e =
-      lt-ltb (placeOf lines u at .0) (min (length ram) 524288) (omega (arith, place-below (g .fine) u at l e, h .room, needed-small g))
+      lt-ltb (placeOf lines u at .0) (lent ram) (omega (arith, place-below (g .fine) u at l e, h .room, needed-small g))
 
   -- a read
   read-case : (o : Option Line) → shown ≡ o → readOf c ram at ≡ answerBy bin mem o at
