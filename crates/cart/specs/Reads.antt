@@ -25,10 +25,10 @@ sourceOf a at = cond (silent at) Nobody (Ram (cellAt a at))
 unfoldable pub fetched : Cell → List ℕ → Answer
 fetched c ram = cond (c .rights .read && lies (c .location) ram) (Word (getD ram (c .location .0) 0)) Silence
 
--- what each source answers
-abbrev pub answerBy : Source → List ℕ → Answer
-answerBy Nobody ram = Silence
-answerBy (Ram c) ram = fetched c ram
+-- what each source gives
+abbrev pub givenBy : Source → List ℕ → Answer
+givenBy Nobody ram = Silence
+givenBy (Ram c) ram = fetched c ram
 
 unfoldable pub readBy : Active → List ℕ → Console → Answer
-readBy a ram at = answerBy (sourceOf a at) ram
+readBy a ram at = givenBy (sourceOf a at) ram

@@ -12,7 +12,7 @@ use Rattle.cart.specs.declared.Cell.{Cell}
 use Rattle.cart.specs.declared.Source.{Source}
 use Rattle.cart.specs.declared.Answer.{Answer}
 use Rattle.cart.specs.declared.Answer.the-variants.{Word, Silence}
-use Rattle.cart.specs.Reads.{fetched, sourceOf, answerBy, readBy}
+use Rattle.cart.specs.Reads.{fetched, sourceOf, givenBy, readBy}
 
 -- shut by its rights; past the n words that are lent; open
 module _ (c : Cell) (ram : List ℕ) where
@@ -32,6 +32,6 @@ module _ (c : Cell) (ram : List ℕ) where
 pub ruleset fetches = (fetch-shut, fetch-past, fetch-open)
 
 -- one law for every source w
-pub by-source : (a : Active) (at : Console) (s w : Source) → s ≡ sourceOf a at → s ≡ w → (ram : List ℕ) (r : Answer) → r ≡ answerBy w ram → r ≡ readBy a ram at
+pub by-source : (a : Active) (at : Console) (s w : Source) → s ≡ sourceOf a at → s ≡ w → (ram : List ℕ) (r : Answer) → r ≡ givenBy w ram → r ≡ readBy a ram at
 unfolding readBy
 by-source a at s w h e ram r g = rw (← h, e, g)

@@ -12,7 +12,7 @@ use Rattle.basics.specs.Laws.Tables.{past-table}
 use Rattle.basics.specs.Laws.Tests.{true-is-not-false, cases, and-left, and-right}
 use Rattle.basics.specs.Laws.Options.{some-is-not-none}
 use Rattle.places.specs.declared.Console.{Console}
-use Rattle.places.specs.Limits.{lentLimit, lent}
+use Rattle.places.specs.Limits.{lentLimit, lent, paragraphs, chapters, flipEntries}
 use Rattle.switches.specs.declared.Request.the-variants.{Entry}
 use Rattle.switches.specs.Flips.{firstK, asks}
 use Rattle.switches.specs.Laws.Flips.{first-small}
@@ -43,18 +43,18 @@ use Rattle.lines.specs.declared.Entry as Entries
 use Rattle.lines.specs.declared.Entry.the-variants as Kinds
 
 module _ {lines : List Line} (g : Good lines) where
-  permissions-past : (y p : ℕ) → 256 ≤ p → permissionsAt lines y p ≡ 0
+  permissions-past : (y p : ℕ) → paragraphs ≤ p → permissionsAt lines y p ≡ 0
   permissions-past y p s =
       let q : 256 * p / 256 ≡ p = omega arith in
       let e : permissionsAt lines y (256 * p / 256) ≡ permissionOf (shownLine lines y (record { 0 = 256 * p })) =
       shows g y (record { 0 = 256 * p }) .permissions in
       rw q at e ∙ ap permissionOf (none-past g y (record { 0 = 256 * p }) (omega arith))
 
-  unpaged-past : (x : ℕ) → 16 ≤ x → (b : Bool) → paged lines x ≡ b → paged lines x ≡ false
+  unpaged-past : (x : ℕ) → chapters ≤ x → (b : Bool) → paged lines x ≡ b → paged lines x ≡ false
   unpaged-past x s true e = absurd (omega (arith, paged-below (g .fine) x e))
   unpaged-past x s false e = e
 
-  flip-past : (x y : ℕ) → 16 ≤ x → flipEntry lines x y ≡ 0
+  flip-past : (x y : ℕ) → chapters ≤ x → flipEntry lines x y ≡ 0
   unfolding flipEntry
   flip-past x y s = simp (unpaged-past x s (paged lines x) refl)
 
@@ -72,8 +72,8 @@ module _ {bin : List ℕ} {lines : List Line} (g : Good lines) (c : Cartridge) (
   shown = shownLine lines (number (at .0 / 4096)) at
 
   -- the cell that the address reaches
-  abbrev cell : Cell
-  cell = cellAt (activeOf c) at
+  abbrev reached : Cell
+  reached = cellAt (activeOf c) at
 
   -- the permissions of every paragraph, and every flip entry: past the tables both are 0
   permissions-at : (p : ℕ) → getD (c .permissions) p 0 ≡ permissionsAt lines (number (p / 16)) p
@@ -148,7 +148,7 @@ module _ {bin : List ℕ} {lines : List Line} (g : Good lines) (c : Cartridge) (
 
   -- and by the line that is shown
   Stores : ℕ → Type 0
-  Stores v = Held bin lines (stored cell ram v) (ramAfter (lineAt lines 0 (at .0)) mem at v)
+  Stores v = Held bin lines (stored reached ram v) (ramAfter (lineAt lines 0 (at .0)) mem at v)
 
   still : (v : ℕ) (o : Option Line) → shown ≡ o → ((l : Line) → o ≡ some l → isRam (l .entry) ≡ false) → WRITE (permissionOf o) ≡ false → Stores v
   unfolding Stores stored
@@ -159,7 +159,7 @@ module _ {bin : List ℕ} {lines : List Line} (g : Good lines) (c : Cartridge) (
     ram-there = rw (ram-plain (l .entry) r) at (line-there l e)
 
     ram-stored : WRITE (permissionBy (l .entry)) ≡ true →
-        stored cell ram v
+        stored reached ram v
         ≡ set ram (placeOf lines 0 at .0) (storedWord (NARROW (permissionBy (l .entry))) (getD ram (placeOf lines 0 at .0) 0) v)
     unfolding stored
     ram-stored w = simp (permissions-there, place-there l e, e, w, ram-plain (l .entry) r, lies-there 0 l ram-there)
@@ -192,7 +192,7 @@ module _ {bin : List ℕ} {lines : List Line} (g : Good lines) (c : Cartridge) (
     abbrev taker : Taker
     taker = takerOf (activeOf c) (c .flips) at v
 
-    takes-nothing : isRequest at v ≡ false → taker ≡ Ram cell
+    takes-nothing : isRequest at v ≡ false → taker ≡ Ram reached
     unfolding asks
     takes-nothing e = simp e
 
@@ -205,7 +205,7 @@ module _ {bin : List ℕ} {lines : List Line} (g : Good lines) (c : Cartridge) (
         let q : v / 4096 ≡ at .0 / 4096 = eqb-true _ _ (and-left (eqb (v / 4096) (at .0 / 4096)) _ (and-right (eqb (at .0 % 4096) 0xFFF) _ e)) in
         rw (e, q)
 
-    entry-small : paged lines (at .0 / 4096) ≡ true → entry < 256
+    entry-small : paged lines (at .0 / 4096) ≡ true → entry < flipEntries
     unfolding entry
     entry-small p = omega (arith, paged-below (g .fine) (at .0 / 4096) p)
 
@@ -217,13 +217,13 @@ module _ {bin : List ℕ} {lines : List Line} (g : Good lines) (c : Cartridge) (
     unfolding entry
     entry-page = omega arith
 
-    takes-by : isRequest at v ≡ true → taker ≡ cond (paged lines (at .0 / 4096) && leb 2 (at .0 / 4096)) (Flip entry) (Ram cell)
+    takes-by : isRequest at v ≡ true → taker ≡ cond (paged lines (at .0 / 4096) && leb 2 (at .0 / 4096)) (Flip entry) (Ram reached)
     takes-by e = simp (asks-entry e, flip-at entry, entry-chapter, pfe-is)
 
     takes-flip : isRequest at v ≡ true → paged lines (at .0 / 4096) ≡ true → taker ≡ Flip entry
     takes-flip e p = takes-by e ∙ simp (p, le-leb _ _ (paged-above (g .fine) (at .0 / 4096) p))
 
-    takes-ram : isRequest at v ≡ true → paged lines (at .0 / 4096) ≡ false → taker ≡ Ram cell
+    takes-ram : isRequest at v ≡ true → paged lines (at .0 / 4096) ≡ false → taker ≡ Ram reached
     takes-ram e p = takes-by e ∙ simp p
 
     -- what a write leaves of the tables and of the RAM, by its case
