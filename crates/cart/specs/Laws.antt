@@ -1,3 +1,4 @@
 -- Theorems over the definitions.
-pub mod Machine
+pub mod Reads
+pub mod Writes
 pub mod Run

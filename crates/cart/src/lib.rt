@@ -1,33 +1,44 @@
 // The cartridge that answers the console: reads, writes and resets over lent RAM (01, "The machine").
-ghost use Prim.Native.Nat.{_/_, _≤_};
 ghost use mathlib.Core.Path.{_≡_};
-ghost use Rattle.cart.specs.Machine.{locate, silent, rightsOf, fetched, readBy, readOf, asks, takerOf, firstK, flipMapping, flipPermissions, turned, flipped, stored, storedBy, writeOf, writeRamOf, resetOf, actingBy, fresh};
+ghost use Rattle.switches.specs.Flips.{active};
+ghost use Rattle.cart.specs.Cells.{locate, rightsOf, cellAt};
+ghost use Rattle.cart.specs.Reads.{fetched, sourceOf, readBy};
+ghost use Rattle.cart.specs.Writes.{storedWord, stored, flipTaker, takerOf, leaves, leavesRam};
+ghost use Rattle.cart.specs.Cartridges.{assembled, fresh, withActive, readOf, writeOf, writeRamOf, resetOf};
 use places::Console;
+use places::FLIP_ENTRIES;
+use places::LENT_LIMIT;
 use places::Locutus;
-
-// How many words of a lent RAM count.
-const LENT_LIMIT: usize = 524288;
+use places::PARAGRAPH_SIZE;
+use places::PARAGRAPHS;
+use switches::Request;
 
 // The tables as loaded, the tables as they act now, and the flip table.
 pub struct Cartridge {
-    pub initial_mapping: [u16; 256],
-    pub initial_permissions: [u8; 256],
-    pub mapping: [u16; 256],
-    pub permissions: [u8; 256],
-    pub flips: [u16; 256],
+    pub initial_mapping: [u16; PARAGRAPHS],
+    pub initial_permissions: [u8; PARAGRAPHS],
+    pub mapping: [u16; PARAGRAPHS],
+    pub permissions: [u8; PARAGRAPHS],
+    pub flips: [u16; FLIP_ENTRIES],
 }
 
-// A cartridge as loaded: the active tables are the initial ones.
-pub fn fresh(mapping: [u16; 256], permissions: [u8; 256], flips: [u16; 256]) -> Cartridge
-    ensures { λ r. ⌜ r ≡ fresh mapping permissions flips ⌝ }
-{
-    Cartridge {
-        initial_mapping: mapping,
-        initial_permissions: permissions,
-        mapping,
-        permissions,
-        flips,
-    }
+// What a permission byte allows.
+pub struct Rights {
+    pub read: bool,
+    pub write: bool,
+    pub narrow: bool,
+}
+
+// A word of the RAM as the console reaches it: where it is, and what may be done with it.
+pub struct Cell {
+    pub location: Locutus,
+    pub rights: Rights,
+}
+
+// Who answers a read: nobody, or a word of the RAM.
+pub enum Source {
+    Nobody,
+    Ram(Cell),
 }
 
 // What a read gets.
@@ -36,23 +47,10 @@ pub enum Answer {
     Silence,
 }
 
-// What a write asks of the flip table: an entry, by its number, or nothing.
-pub enum Request {
-    Entry(u8),
-    Nothing,
-}
-
-// Who takes a write: the flip entry of this number, or the RAM.
+// Who takes a write: the flip entry of this number, or a word of the RAM.
 pub enum Taker {
     Flip(u8),
-    Ram,
-}
-
-// What a permission byte allows.
-pub struct Rights {
-    pub read: bool,
-    pub write: bool,
-    pub narrow: bool,
+    Ram(Cell),
 }
 
 pub fn rights_of(permission: u8) -> Rights
@@ -69,55 +67,73 @@ pub fn rights_of(permission: u8) -> Rights
 pub fn location(entry: u16, at: Console) -> Locutus
     ensures { λ r. ⌜ r ≡ locate entry at ⌝ }
 {
-    let a = at.0;
-    Locutus((entry as u32 * 256 + (a % 256) as u32) % 524288)
+    let a = at.0 as usize;
+    Locutus(((entry as usize * PARAGRAPH_SIZE + a % PARAGRAPH_SIZE) % LENT_LIMIT) as u32)
 }
 
-// The ranges where every read is silent.
-fn is_silent(at: Console) -> bool
-    ensures { λ r. ⌜ r ≡ silent at ⌝ }
+// The word that an address reaches by the active tables.
+fn cell_at<'a>(
+    mapping: &'a [u16; PARAGRAPHS],
+    permissions: &'a [u8; PARAGRAPHS],
+    at: Console,
+) -> Cell
+    ensures { λ r. ⌜ r ≡ cellAt (active (now (mapping .entry)) (now (permissions .entry))) at ⌝ }
+{
+    let p = at.0 as usize / PARAGRAPH_SIZE;
+    Cell {
+        location: location(mapping[p], at),
+        rights: rights_of(permissions[p]),
+    }
+}
+
+// Who answers a read: nobody in the three silent ranges, else the word that the address reaches.
+fn source_of<'a>(
+    mapping: &'a [u16; PARAGRAPHS],
+    permissions: &'a [u8; PARAGRAPHS],
+    at: Console,
+) -> Source
+    ensures { λ r. ⌜ r ≡ sourceOf (active (now (mapping .entry)) (now (permissions .entry))) at ⌝ }
 {
     let a = at.0;
     if a < 0x500 {
-        return true;
+        return Source::Nobody;
     }
-    if a / 4096 == 1 {
-        return true;
+    if a / 0x1000 == 1 {
+        return Source::Nobody;
     }
-    a / 4096 == 3
+    if a / 0x1000 == 3 {
+        return Source::Nobody;
+    }
+    Source::Ram(cell_at(mapping, permissions, at))
 }
 
-// What a read gets at a location, with these rights.
-fn fetch(r: Rights, l: Locutus, ram: &[u16], at: Console) -> Answer
-    ensures { λ q. ⌜ q ≡ fetched r l (now (ram .entry)) at ⌝ }
+// The word of a cell that may be read and lies in the lent RAM.
+fn fetch(cell: Cell, ram: &[u16]) -> Answer
+    ensures { λ r. ⌜ r ≡ fetched cell (now (ram .entry)) ⌝ }
 {
-    let i = l.0 as usize;
-    if !r.read {
+    let i = cell.location.0 as usize;
+    if !cell.rights.read {
         return Answer::Silence;
     }
-    if LENT_LIMIT <= i {
-        return Answer::Silence;
-    }
-    if ram.len() <= i {
-        return Answer::Silence;
-    }
-    if is_silent(at) {
+    if places::lent_words(ram) <= i {
         return Answer::Silence;
     }
     Answer::Word(ram[i])
 }
 
-// A read by the two active tables alone, lent: nothing of the cartridge is copied.
+// A read by the active tables alone, lent: nothing of the cartridge is copied.
 pub fn read_by<'a>(
-    mapping: &'a [u16; 256],
-    permissions: &'a [u8; 256],
+    mapping: &'a [u16; PARAGRAPHS],
+    permissions: &'a [u8; PARAGRAPHS],
     ram: &[u16],
     at: Console,
 ) -> Answer
-    ensures { λ r. ⌜ r ≡ readBy (now (mapping .entry)) (now (permissions .entry)) (now (ram .entry)) at ⌝ }
+    ensures { λ r. ⌜ r ≡ readBy (active (now (mapping .entry)) (now (permissions .entry))) (now (ram .entry)) at ⌝ }
 {
-    let p = (at.0 / 256) as usize;
-    fetch(rights_of(permissions[p]), location(mapping[p], at), ram, at)
+    match source_of(mapping, permissions, at) {
+        Source::Nobody => Answer::Silence,
+        Source::Ram(cell) => fetch(cell, ram),
+    }
 }
 
 pub fn read(c: Cartridge, ram: &[u16], at: Console) -> Answer
@@ -126,175 +142,134 @@ pub fn read(c: Cartridge, ram: &[u16], at: Console) -> Answer
     read_by(&c.mapping, &c.permissions, ram, at)
 }
 
-// $xA5y to $xFFF asks for flip entry 16x + y.
-pub fn asked(at: Console, value: u16) -> Request
-    ensures { λ r. ⌜ r ≡ asks at value ⌝ }
-{
-    let a = at.0;
-    if a % 4096 != 4095 {
-        return Request::Nothing;
-    }
-    if value / 4096 != a / 4096 {
-        return Request::Nothing;
-    }
-    if value / 16 % 256 != 0xA5 {
-        return Request::Nothing;
-    }
-    Request::Entry((value / 4096 * 16 + value % 16) as u8)
-}
-
-// A request acts by its entry's PFE bit, and never in chapters 0 and 1.
-fn taker_of(flips: &[u16; 256], r: Request) -> Taker
-    ensures { λ t. ⌜ t ≡ takerOf (now (flips .entry)) r ⌝ }
+// A request that acts is its flip entry's; any other write is the next taker's.
+fn flip_asked(flips: &[u16; FLIP_ENTRIES], r: Request, next: Taker) -> Taker
+    ensures { λ t. ⌜ t ≡ flipTaker (now (flips .entry)) r next ⌝ }
 {
     match r {
         Request::Entry(n) => {
-            let i = n as usize;
-            if flips[i] / 8 % 2 != 1 {
-                return Taker::Ram;
+            if switches::acts(flips, n) {
+                return Taker::Flip(n);
             }
-            if n / 16 < 2 {
-                return Taker::Ram;
-            }
-            Taker::Flip(n)
+            next
         }
-        Request::Nothing => Taker::Ram,
+        Request::Nothing => next,
     }
 }
 
-// The first paragraph of a chapter that a flip changes: in chapter 4 the lower half, the ECS RAM, stays.
-pub fn first_k(x: usize) -> usize
-    ensures { λ r. ⌜ (r ≡ firstK x) × (r ≤ 8) ⌝ }
+// Who takes a write: the first that it asks, else the word that the address reaches.
+fn taker_of<'a>(
+    mapping: &'a [u16; PARAGRAPHS],
+    permissions: &'a [u8; PARAGRAPHS],
+    flips: &'a [u16; FLIP_ENTRIES],
+    at: Console,
+    value: u16,
+) -> Taker
+    ensures { λ t. ⌜ t ≡ takerOf (active (now (mapping .entry)) (now (permissions .entry))) (now (flips .entry)) at value ⌝ }
 {
-    if x == 4 { 8 } else { 0 }
+    flip_asked(
+        flips,
+        switches::asked(at, value),
+        Taker::Ram(cell_at(mapping, permissions, at)),
+    )
 }
 
-fn flip_mapping(m: [u16; 256], n: u8, entry: u16) -> [u16; 256]
-    ensures { λ r. ⌜ r ≡ turned (n / 16) (flipMapping entry) m ⌝ }
+// The word that a store leaves: a narrow one replaces the low 8 bits only.
+fn stored_word(narrow: bool, old: u16, value: u16) -> u16
+    ensures { λ r. ⌜ r ≡ storedWord narrow old value ⌝ }
 {
-    let x = (n / 16) as usize;
-    let first = first_k(x);
-    let lo = 16 * x + first;
-    let mut t = m;
-    let mut j = 0;
-    while j < 16 - first {
-        t[lo + j] = entry / 16 * 16 + (first + j) as u16;
-        j += 1;
+    if narrow {
+        return old / 256 * 256 + value % 256;
     }
-    t
+    value
 }
 
-fn flip_permissions(m: [u8; 256], n: u8, entry: u16) -> [u8; 256]
-    ensures { λ r. ⌜ r ≡ turned (n / 16) (flipPermissions entry) m ⌝ }
+// A store to a cell that may be written and lies in the lent RAM.
+fn store(cell: Cell, ram: &mut [u16], value: u16)
+    ensures { λ _. ⌜ now (ram .exit) ≡ stored cell (now (ram .entry)) value ⌝ }
 {
-    let x = (n / 16) as usize;
-    let first = first_k(x);
-    let lo = 16 * x + first;
-    let mut t = m;
-    let mut j = 0;
-    while j < 16 - first {
-        t[lo + j] = (entry % 8) as u8;
-        j += 1;
-    }
-    t
-}
-
-// The cartridge after flip entry n has acted.
-fn flip(c: Cartridge, n: u8) -> Cartridge
-    ensures { λ r. ⌜ r ≡ flipped c n ⌝ }
-{
-    let i = n as usize;
-    let entry = c.flips[i];
-    let m = flip_mapping(c.mapping, n, entry);
-    let p = flip_permissions(c.permissions, n, entry);
-    let mut d = c;
-    d.mapping = m;
-    d.permissions = p;
-    d
-}
-
-// A store at a location, with these rights.
-fn store(r: Rights, l: Locutus, ram: &mut [u16], value: u16)
-    ensures { λ _. ⌜ now (ram .exit) ≡ stored r l (now (ram .entry)) value ⌝ }
-{
-    let i = l.0 as usize;
-    if !r.write {
+    let i = cell.location.0 as usize;
+    if !cell.rights.write {
         return;
     }
-    if LENT_LIMIT <= i {
+    if places::lent_words(ram) <= i {
         return;
     }
-    if ram.len() <= i {
-        return;
-    }
-    if r.narrow {
-        ram[i] = ram[i] / 256 * 256 + value % 256;
-    } else {
-        ram[i] = value;
-    }
+    ram[i] = stored_word(cell.rights.narrow, ram[i], value);
 }
 
-// A write that the RAM takes, by the two active tables alone.
-fn store_by<'a>(
-    mapping: &'a [u16; 256],
-    permissions: &'a [u8; 256],
+// A write by the active tables and the flip table alone, lent: nothing of the cartridge is copied.
+pub fn write_by<'a>(
+    mapping: &'a mut [u16; PARAGRAPHS],
+    permissions: &'a mut [u8; PARAGRAPHS],
+    flips: &'a [u16; FLIP_ENTRIES],
     ram: &mut [u16],
     at: Console,
     value: u16,
 )
-    ensures { λ _. ⌜ now (ram .exit) ≡ storedBy (now (mapping .entry)) (now (permissions .entry)) (now (ram .entry)) at value ⌝ }
+    ensures { λ _. ⌜ (now (mapping .exit) ≡ leaves (active (now (mapping .entry)) (now (permissions .entry))) (now (flips .entry)) at value .mapping)
+        × (now (permissions .exit) ≡ leaves (active (now (mapping .entry)) (now (permissions .entry))) (now (flips .entry)) at value .permissions)
+        × (now (ram .exit) ≡ leavesRam (active (now (mapping .entry)) (now (permissions .entry))) (now (flips .entry)) (now (ram .entry)) at value) ⌝ }
 {
-    let p = (at.0 / 256) as usize;
-    store(
-        rights_of(permissions[p]),
-        location(mapping[p], at),
-        ram,
-        value,
-    );
+    match taker_of(mapping, permissions, flips, at, value) {
+        Taker::Flip(n) => switches::flip(mapping, permissions, flips, n),
+        Taker::Ram(cell) => store(cell, ram, value),
+    }
+}
+
+// A cartridge of these tables: every cartridge is made here.
+fn assembled(
+    initial_mapping: [u16; PARAGRAPHS],
+    initial_permissions: [u8; PARAGRAPHS],
+    mapping: [u16; PARAGRAPHS],
+    permissions: [u8; PARAGRAPHS],
+    flips: [u16; FLIP_ENTRIES],
+) -> Cartridge
+    ensures { λ r. ⌜ r ≡ assembled (active «initial_mapping» «initial_permissions») (active mapping permissions) flips ⌝ }
+{
+    Cartridge {
+        initial_mapping,
+        initial_permissions,
+        mapping,
+        permissions,
+        flips,
+    }
+}
+
+// A cartridge as loaded: the active tables are the initial ones.
+pub fn fresh(
+    mapping: [u16; PARAGRAPHS],
+    permissions: [u8; PARAGRAPHS],
+    flips: [u16; FLIP_ENTRIES],
+) -> Cartridge
+    ensures { λ r. ⌜ r ≡ fresh mapping permissions flips ⌝ }
+{
+    assembled(mapping, permissions, mapping, permissions, flips)
+}
+
+// The cartridge with other active tables.
+fn with_active(c: Cartridge, mapping: [u16; PARAGRAPHS], permissions: [u8; PARAGRAPHS]) -> Cartridge
+    ensures { λ r. ⌜ r ≡ withActive c (active mapping permissions) ⌝ }
+{
+    let initial_mapping = c.initial_mapping;
+    let initial_permissions = c.initial_permissions;
+    let flips = c.flips;
+    assembled(
+        initial_mapping,
+        initial_permissions,
+        mapping,
+        permissions,
+        flips,
+    )
 }
 
 pub fn write(c: Cartridge, ram: &mut [u16], at: Console, value: u16) -> Cartridge
     ensures { λ r. ⌜ (r ≡ writeOf c at value) × (now (ram .exit) ≡ writeRamOf c (now (ram .entry)) at value) ⌝ }
 {
-    match taker_of(&c.flips, asked(at, value)) {
-        Taker::Flip(n) => flip(c, n),
-        Taker::Ram => {
-            store_by(&c.mapping, &c.permissions, ram, at, value);
-            c
-        }
-    }
-}
-
-// A write by the active tables and the flip table alone, lent: nothing of the cartridge is copied.
-pub fn write_by(
-    mapping: &mut [u16; 256],
-    permissions: &mut [u8; 256],
-    flips: &[u16; 256],
-    ram: &mut [u16],
-    at: Console,
-    value: u16,
-)
-    ensures { λ _. ⌜ (now (mapping .exit) ≡ writeOf (actingBy (now (mapping .entry)) (now (permissions .entry)) (now (flips .entry))) at value .mapping)
-        × (now (permissions .exit) ≡ writeOf (actingBy (now (mapping .entry)) (now (permissions .entry)) (now (flips .entry))) at value .permissions)
-        × (now (ram .exit) ≡ writeRamOf (actingBy (now (mapping .entry)) (now (permissions .entry)) (now (flips .entry))) (now (ram .entry)) at value) ⌝ }
-{
-    match taker_of(flips, asked(at, value)) {
-        Taker::Flip(n) => {
-            let i = n as usize;
-            let entry = flips[i];
-            *mapping = flip_mapping(*mapping, n, entry);
-            *permissions = flip_permissions(*permissions, n, entry);
-        }
-        Taker::Ram => {
-            let p = (at.0 / 256) as usize;
-            store(
-                rights_of(permissions[p]),
-                location(mapping[p], at),
-                ram,
-                value,
-            );
-        }
-    }
+    let mut m = c.mapping;
+    let mut p = c.permissions;
+    write_by(&mut m, &mut p, &c.flips, ram, at, value);
+    with_active(c, m, p)
 }
 
 pub fn reset(c: Cartridge) -> Cartridge
@@ -302,8 +277,5 @@ pub fn reset(c: Cartridge) -> Cartridge
 {
     let m = c.initial_mapping;
     let p = c.initial_permissions;
-    let mut d = c;
-    d.mapping = m;
-    d.permissions = p;
-    d
+    with_active(c, m, p)
 }

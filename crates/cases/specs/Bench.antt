@@ -6,8 +6,10 @@ use Rattle.places.specs.declared.Console.{Console}
 use Rattle.places.specs.Limits.{lineLimit}
 use Rattle.sums.specs.Crc.{dowcrcOf, crc32Of}
 use Rattle.sums.specs.Cases.{upTo15, four}
-use Rattle.cart.specs.declared.Request.the-variants.{Entry, Nothing}
-use Rattle.cart.specs.Machine.{flipMapping, flipPermissions, locate, storedWord, asks}
+use Rattle.switches.specs.declared.Request.the-variants.{Entry, Nothing}
+use Rattle.switches.specs.Flips.{flipMapping, flipPermissions, asks}
+use Rattle.cart.specs.Cells.{locate}
+use Rattle.cart.specs.Writes.{storedWord}
 use Rattle.grammar.specs.Words.{text}
 use Rattle.cfg.specs.File.{entriesOf, readingOf, refusal}
 use Rattle.cfg.specs.Examples.{entries}

@@ -4,16 +4,18 @@ use mathlib.Core.List.{List, [], _++_, _∷_}
 use lib.ListN.{getD, length}
 use Rattle.basics.specs.Lists.{laid}
 use Rattle.places.specs.declared.Console.{Console}
+use Rattle.places.specs.Places.{console}
+use Rattle.switches.specs.Flips.{active}
 use Rattle.cart.specs.declared.Cartridge.{Cartridge}
 use Rattle.cart.specs.declared.Answer.{Answer}
 use Rattle.cart.specs.declared.Answer.the-variants.{Word, Silence}
-use Rattle.cart.specs.Machine.{readBy}
+use Rattle.cart.specs.Reads.{readBy}
 use Rattle.cart.specs.Run.{Access, Write, World, after}
 use Rattle.exports.specs.declared.Active.{Active}
 
 -- the tables that act
-abbrev pub activeOf : Cartridge → Active
-activeOf c = record { mapping = c .mapping; permissions = c .permissions }
+abbrev pub activeAs : Cartridge → Active
+activeAs c = record { mapping = c .mapping; permissions = c .permissions }
 
 -- an answer as one number: a word as it is, silence above every word
 abbrev pub heard : Answer → ℕ
@@ -21,11 +23,11 @@ heard (Word w) = w
 heard Silence = 65536
 
 abbrev pub address : List ℕ → ℕ → Console
-address at i = record { 0 = getD at i 0 }
+address at i = console (getD at i 0)
 
 -- the answers to reads at the first n addresses, laid over the first n words of a buffer
 unfoldable pub answered : List ℕ → List ℕ → List ℕ → List ℕ → ℕ → List ℕ → List ℕ
-answered mapping permissions ram at n out = laid 0 n (λ i. heard (readBy mapping permissions ram (address at i))) out
+answered mapping permissions ram at n out = laid 0 n (λ i. heard (readBy (active mapping permissions) ram (address at i))) out
 
 -- as many answers as there are both addresses and places for them
 abbrev pub answersIn : List ℕ → List ℕ → List ℕ → List ℕ → List ℕ → List ℕ
@@ -42,7 +44,7 @@ written c ram at v n = after (record { cartridge = c; ram = ram }) (writes at v 
 
 -- what as many writes leave as there are both addresses and values
 abbrev pub activeAfter : Cartridge → List ℕ → List ℕ → List ℕ → Active
-activeAfter c ram at v = activeOf (written c ram at v (min (length at) (length v)) .cartridge)
+activeAfter c ram at v = activeAs (written c ram at v (min (length at) (length v)) .cartridge)
 
 abbrev pub ramAfter : Cartridge → List ℕ → List ℕ → List ℕ → List ℕ
 ramAfter c ram at v = written c ram at v (min (length at) (length v)) .ram

@@ -2,17 +2,19 @@
 ghost use mathlib.Core.Path.{_≡_};
 ghost use Rattle.places.specs.Limits.{lent};
 ghost use Rattle.sums.specs.Crc.{dowcrcOf, crc324Of, crc32Of};
-ghost use Rattle.cart.specs.Machine.{actingBy};
+ghost use Rattle.cart.specs.Cartridges.{fresh};
 ghost use Rattle.load.specs.Load.{loadingOf, loadRamOf};
 ghost use Rattle.build.specs.Building.{buildingOf, builtOf};
 ghost use Rattle.exports.specs.Loads.{fieldsOf, loadedOf};
 ghost use Rattle.exports.specs.Builds.{builtAs};
-ghost use Rattle.exports.specs.Runs.{activeOf, heard, answersIn, activeAfter, ramAfter};
+ghost use Rattle.exports.specs.Runs.{activeAs, heard, answersIn, activeAfter, ramAfter};
 use build::Building;
 use cart::Answer;
 use cart::Cartridge;
 use load::Loading;
 use places::Console;
+use places::FLIP_ENTRIES;
+use places::PARAGRAPHS;
 use tables::Compat;
 
 // The three checksums.
@@ -45,9 +47,9 @@ pub struct Loaded {
     pub blocks: usize,
     pub words: usize,
     pub compat: [u8; 5],
-    pub mapping: [u16; 256],
-    pub permissions: [u8; 256],
-    pub flips: [u16; 256],
+    pub mapping: [u16; PARAGRAPHS],
+    pub permissions: [u8; PARAGRAPHS],
+    pub flips: [u16; FLIP_ENTRIES],
 }
 
 fn compat_of(c: Compat) -> [u8; 5]
@@ -122,32 +124,26 @@ pub extern "C" fn luigi_build(bin: &[u8], cfg: &[u8], out: &mut [u8]) -> Built
 // The active tables, laid out as C's.
 #[repr(C)]
 pub struct Active {
-    pub mapping: [u16; 256],
-    pub permissions: [u8; 256],
+    pub mapping: [u16; PARAGRAPHS],
+    pub permissions: [u8; PARAGRAPHS],
 }
 
 // A cartridge as it is loaded with these tables.
 fn fresh<'a>(
-    mapping: &'a [u16; 256],
-    permissions: &'a [u8; 256],
-    flips: &'a [u16; 256],
+    mapping: &'a [u16; PARAGRAPHS],
+    permissions: &'a [u8; PARAGRAPHS],
+    flips: &'a [u16; FLIP_ENTRIES],
 ) -> Cartridge
-    ensures { λ r. ⌜ r ≡ actingBy (now (mapping .entry)) (now (permissions .entry)) (now (flips .entry)) ⌝ }
+    ensures { λ r. ⌜ r ≡ fresh (now (mapping .entry)) (now (permissions .entry)) (now (flips .entry)) ⌝ }
 {
     let m = *mapping;
     let p = *permissions;
     let f = *flips;
-    Cartridge {
-        initial_mapping: m,
-        initial_permissions: p,
-        mapping: m,
-        permissions: p,
-        flips: f,
-    }
+    cart::fresh(m, p, f)
 }
 
-fn active_of(c: Cartridge) -> Active
-    ensures { λ r. ⌜ r ≡ activeOf c ⌝ }
+fn active_as(c: Cartridge) -> Active
+    ensures { λ r. ⌜ r ≡ activeAs c ⌝ }
 {
     let mapping = c.mapping;
     let permissions = c.permissions;
@@ -170,8 +166,8 @@ fn heard_as(a: Answer) -> u32
 // Reads at the addresses of `at`, one after the other, by these tables; the answers go to the first words of `out`.
 #[no_mangle]
 pub extern "C" fn luigi_reads<'a>(
-    mapping: &'a [u16; 256],
-    permissions: &'a [u8; 256],
+    mapping: &'a [u16; PARAGRAPHS],
+    permissions: &'a [u8; PARAGRAPHS],
     ram: &[u16],
     at: &[u16],
     out: &mut [u32],
@@ -186,9 +182,9 @@ pub extern "C" fn luigi_reads<'a>(
 // The same, with the cartridge by value at each read.
 #[no_mangle]
 pub extern "C" fn luigi_reads_by_value<'a>(
-    mapping: &'a [u16; 256],
-    permissions: &'a [u8; 256],
-    flips: &'a [u16; 256],
+    mapping: &'a [u16; PARAGRAPHS],
+    permissions: &'a [u8; PARAGRAPHS],
+    flips: &'a [u16; FLIP_ENTRIES],
     ram: &[u16],
     at: &[u16],
     out: &mut [u32],
@@ -204,16 +200,16 @@ pub extern "C" fn luigi_reads_by_value<'a>(
 // Writes of the words of `value` to the addresses of `at`, one after the other, by these tables.
 #[no_mangle]
 pub extern "C" fn luigi_writes(
-    mapping: &mut [u16; 256],
-    permissions: &mut [u8; 256],
-    flips: &[u16; 256],
+    mapping: &mut [u16; PARAGRAPHS],
+    permissions: &mut [u8; PARAGRAPHS],
+    flips: &[u16; FLIP_ENTRIES],
     ram: &mut [u16],
     at: &[u16],
     value: &[u16],
 )
-    ensures { λ _. ⌜ (now (mapping .exit) ≡ activeAfter (actingBy (now (mapping .entry)) (now (permissions .entry)) (now (flips .entry))) (now (ram .entry)) (now (at .entry)) (now (value .entry)) .mapping)
-        × (now (permissions .exit) ≡ activeAfter (actingBy (now (mapping .entry)) (now (permissions .entry)) (now (flips .entry))) (now (ram .entry)) (now (at .entry)) (now (value .entry)) .permissions)
-        × (now (ram .exit) ≡ ramAfter (actingBy (now (mapping .entry)) (now (permissions .entry)) (now (flips .entry))) (now (ram .entry)) (now (at .entry)) (now (value .entry))) ⌝ }
+    ensures { λ _. ⌜ (now (mapping .exit) ≡ activeAfter (fresh (now (mapping .entry)) (now (permissions .entry)) (now (flips .entry))) (now (ram .entry)) (now (at .entry)) (now (value .entry)) .mapping)
+        × (now (permissions .exit) ≡ activeAfter (fresh (now (mapping .entry)) (now (permissions .entry)) (now (flips .entry))) (now (ram .entry)) (now (at .entry)) (now (value .entry)) .permissions)
+        × (now (ram .exit) ≡ ramAfter (fresh (now (mapping .entry)) (now (permissions .entry)) (now (flips .entry))) (now (ram .entry)) (now (at .entry)) (now (value .entry))) ⌝ }
 {
     for i in 0..basics::least(at.len(), value.len()) {
         cart::write_by(mapping, permissions, flips, ram, Console(at[i]), value[i]);
@@ -223,18 +219,18 @@ pub extern "C" fn luigi_writes(
 // The same, with the cartridge by value at each write.
 #[no_mangle]
 pub extern "C" fn luigi_writes_by_value<'a>(
-    mapping: &'a [u16; 256],
-    permissions: &'a [u8; 256],
-    flips: &'a [u16; 256],
+    mapping: &'a [u16; PARAGRAPHS],
+    permissions: &'a [u8; PARAGRAPHS],
+    flips: &'a [u16; FLIP_ENTRIES],
     ram: &mut [u16],
     at: &[u16],
     value: &[u16],
 ) -> Active
-    ensures { λ r. ⌜ (r ≡ activeAfter (actingBy (now (mapping .entry)) (now (permissions .entry)) (now (flips .entry))) (now (ram .entry)) (now (at .entry)) (now (value .entry))) × (now (ram .exit) ≡ ramAfter (actingBy (now (mapping .entry)) (now (permissions .entry)) (now (flips .entry))) (now (ram .entry)) (now (at .entry)) (now (value .entry))) ⌝ }
+    ensures { λ r. ⌜ (r ≡ activeAfter (fresh (now (mapping .entry)) (now (permissions .entry)) (now (flips .entry))) (now (ram .entry)) (now (at .entry)) (now (value .entry))) × (now (ram .exit) ≡ ramAfter (fresh (now (mapping .entry)) (now (permissions .entry)) (now (flips .entry))) (now (ram .entry)) (now (at .entry)) (now (value .entry))) ⌝ }
 {
     let mut c = fresh(mapping, permissions, flips);
     for i in 0..basics::least(at.len(), value.len()) {
         c = cart::write(c, ram, Console(at[i]), value[i]);
     }
-    active_of(c)
+    active_as(c)
 }

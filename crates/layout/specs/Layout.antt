@@ -10,7 +10,7 @@ use Rattle.basics.specs.Options.{isSome}
 use Rattle.basics.specs.Tables.{table}
 use Rattle.places.specs.declared.Console.{Console}
 use Rattle.cart.specs.declared.Cartridge.{Cartridge}
-use Rattle.cart.specs.Machine.{firstK, flipMapping, flipPermissions}
+use Rattle.switches.specs.Flips.{firstK, flipMapping, flipPermissions}
 use Rattle.lines.specs.declared.Line.{Line}
 use Rattle.lines.specs.declared.Entry.{Entry}
 use Rattle.lines.specs.declared.Entry.the-variants.{Rom, Paged, Ram}

@@ -4,7 +4,7 @@ ghost use mathlib.Core.Path.{_≡_};
 ghost use mathlib.Core.Bool.{cond, _&&_};
 ghost use mathlib.Core.Option.{none, some};
 ghost use lib.Dec.{eqb, leb};
-ghost use Rattle.cart.specs.Machine.{firstK};
+ghost use Rattle.switches.specs.Flips.{firstK};
 ghost use Rattle.rules.specs.Code.Survey.{Few};
 ghost use Rattle.layout.specs.Layout.{permissionBy};
 ghost use Rattle.layout.specs.Code.Plan.{Small, answerBy, entryBy, rowIn, flipsIn, mappingBy, mappingIn, permissionsBy, permissionsIn};
@@ -91,7 +91,7 @@ pub(crate) fn flips_of(
 pub(crate) fn is_flippable(paged: bool, x: usize, k: usize) -> bool
     ensures { λ r. ⌜ r ≡ (paged && leb (firstK x) k) ⌝ }
 {
-    both(paged, cart::first_k(x) <= k)
+    both(paged, switches::first_k(x) <= k)
 }
 
 // The mapping of a paragraph: as its flip entry gives it, else 16L + k where a plain line is, else 0.

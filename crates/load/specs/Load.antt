@@ -7,7 +7,7 @@ use lib.Dec.{eqb}
 use Rattle.basics.specs.Rows.{Row, firstOf}
 use Rattle.places.specs.Limits.{lent}
 use Rattle.cart.specs.declared.Cartridge.{Cartridge}
-use Rattle.cart.specs.Machine.{noCartridge}
+use Rattle.cart.specs.Cartridges.{noCartridge}
 use Rattle.tables.specs.Tables.{cartridgeOf, unsupported}
 use Rattle.tables.specs.Flags.{compatOf, noCompat}
 use Rattle.load.specs.declared.Loading.{Loading}

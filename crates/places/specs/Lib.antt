@@ -1,4 +1,3 @@
 -- The three numberings, and every number of 01.
 pub mod Places
 pub mod Limits
-pub mod Laws

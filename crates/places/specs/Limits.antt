@@ -37,12 +37,19 @@ chapters = 16
 abbrev pub paragraphs : ℕ
 paragraphs = 256
 
+abbrev pub chapterParagraphs : ℕ
+chapterParagraphs = 16
+
 abbrev pub paragraphSize : ℕ
 paragraphSize = 256
 
--- a chapter's pages, and with its plain lines its layers (01, What a CFG may say)
+-- a chapter's pages, and the flip entries of all chapters, sixteen rows of sixteen (01, File layout); a chapter's layers are its pages
+-- and its plain lines (01, What a CFG may say)
 abbrev pub chapterPages : ℕ
 chapterPages = 16
+
+abbrev pub flipEntries : ℕ
+flipEntries = 256
 
 abbrev pub layers : ℕ
 layers = 17

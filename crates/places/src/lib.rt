@@ -34,15 +34,19 @@ pub const CARD_LIMIT: usize = 24576;
 
 pub const CARD_WORDS: usize = 16384;
 
-// The console's chapters and paragraphs, and the words of a paragraph.
+// The console's chapters and paragraphs, the paragraphs of a chapter, and the words of a paragraph.
 pub const CHAPTERS: usize = 16;
 
 pub const PARAGRAPHS: usize = 256;
 
+pub const CHAPTER_PARAGRAPHS: usize = 16;
+
 pub const PARAGRAPH_SIZE: usize = 256;
 
-// A chapter's pages, and with its plain lines its layers.
+// A chapter's pages, the flip entries of all chapters, and a chapter's layers: its pages and its plain lines.
 pub const CHAPTER_PAGES: usize = 16;
+
+pub const FLIP_ENTRIES: usize = 256;
 
 pub const LAYERS: usize = 17;
 

@@ -8,7 +8,7 @@ use native.Mathlib.Omega.{arith}
 use lib.ListN.{getD, set, length}
 use lib.Dec.{eqb, ltb}
 use Rattle.basics.specs.Laws.Tables.{Filled, filled-more, filled-all, filled-none}
-use Rattle.cart.specs.Machine.{firstK}
+use Rattle.switches.specs.Flips.{firstK}
 use Rattle.lines.specs.declared.Line.{Line}
 use Rattle.rules.specs.declared.chapters.Cover.{Cover}
 use Rattle.rules.proofs.Joined.{Everywhere, everywhere-none, everywhere-more, everywhere-all}

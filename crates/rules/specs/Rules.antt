@@ -10,7 +10,7 @@ use Rattle.basics.specs.Rows.{Row, firstOf}
 use Rattle.basics.specs.Tables.{table}
 use Rattle.places.specs.declared.BinWord.{BinWord}
 use Rattle.places.specs.declared.Console.{Console}
-use Rattle.cart.specs.Machine.{firstK}
+use Rattle.switches.specs.Flips.{firstK}
 use Rattle.lines.specs.declared.Entry.{Entry}
 use Rattle.lines.specs.declared.Entry.the-variants.{Rom, Paged, Ram}
 use Rattle.lines.specs.declared.Line.{Line}

@@ -98,7 +98,7 @@ pub(crate) fn cover_of(owners: &[u8; 4352], lines: [Line; 64], x: usize) -> Cove
     requires { ⌜ (x < 16) × Few (now owners) ⌝ }
     ensures { λ r. ⌜ r ≡ coverOf (now (owners .entry)) lines x ⌝ }
 {
-    let first = cart::first_k(x);
+    let first = switches::first_k(x);
     let mut whole = true;
     let mut bare = true;
     let mut ramless = true;

@@ -8,7 +8,8 @@ use Rattle.basics.specs.Tables.{table}
 use Rattle.basics.specs.Bytes.{at16}
 use Rattle.basics.specs.Counts.{any}
 use Rattle.cart.specs.declared.Cartridge.{Cartridge}
-use Rattle.cart.specs.Machine.{fresh, PFE}
+use Rattle.switches.specs.Flips.{PFE}
+use Rattle.cart.specs.Cartridges.{fresh}
 use Rattle.tables.specs.Flags.{field, flag}
 
 -- 256 entries of 16 bits, and of 8, that stand at a place

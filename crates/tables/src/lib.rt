@@ -2,7 +2,7 @@
 ghost use Prim.Native.Nat.{_+_, _*_, _≤_};
 ghost use mathlib.Core.Path.{_≡_};
 ghost use Rattle.basics.specs.Bytes.{at16};
-ghost use Rattle.cart.specs.Machine.{noCartridge};
+ghost use Rattle.cart.specs.Cartridges.{noCartridge};
 ghost use Rattle.tables.specs.Flags.{compatOf, noCompat};
 ghost use Rattle.tables.specs.Tables.{words256, bytes256, cartridgeOf, switches, flipsOne, unsupported};
 use basics::byte_at;

@@ -8,7 +8,7 @@ use lib.ListN.{length, getD}
 use Rattle.basics.specs.Counts.{count}
 use Rattle.places.specs.Limits.{lent, locutusParagraphs}
 use Rattle.cart.specs.declared.Cartridge.{Cartridge}
-use Rattle.cart.specs.Machine.{fresh}
+use Rattle.cart.specs.Cartridges.{fresh}
 use Rattle.tables.specs.Flags.{compatOf}
 use Rattle.load.specs.declared.Loading.{Loading}
 use Rattle.load.specs.Blocks.{Hunk as Loaded, overlay}

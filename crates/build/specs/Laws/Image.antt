@@ -12,7 +12,7 @@ use Rattle.basics.specs.Lists.{Each}
 use Rattle.basics.specs.Counts.{count}
 use Rattle.basics.specs.Laws.Counts.{count-below, any-nothing}
 use Rattle.places.specs.Limits.{locutusParagraphs, imageLimit}
-use Rattle.cart.specs.Machine.{PFE}
+use Rattle.switches.specs.Flips.{PFE}
 use Rattle.tables.specs.Tables.{BANKSW, unsupported, switches, flipsOne}
 use Rattle.image.specs.Chosen.{Sized, Chosen, Lies}
 use Rattle.image.specs.Laws.Chosen.{chosen-lie, length-chosen}

@@ -1,34 +1,23 @@
--- `cart::write_by` meets its contract: who takes the write is decided once, and each case has its law.
+-- `cart::write_by` meets its contract: who takes the write is decided once, and what it leaves goes by the taker found.
 use borrow.Author.Needs.{needs}
-use Rattle.cart.specs.Laws.Machine.{lent-writes}
+use Rattle.cart.specs.Laws.Writes.{writes}
 use Rattle.cart.proofs.write_by.Statement.{statement}
 use Rattle.cart.proofs.write_by.Tie as tie
 
 returns : tie.Need-returns
-returns c = search lent-writes
+returns c = search writes
 
 returns-2 : tie.Need-returns-2
-returns-2 c = search lent-writes
+returns-2 c = search writes
 
 pub write-by-spec : {M : Type 1} → statement M
 write-by-spec =
     tie.close
     (tie.spec
     (λ c κs. search needs)
-    (λ c κs. search needs)
-    (λ c. search needs)
-    (λ c. search needs)
-    (λ c. search needs)
-    (λ c. search needs)
-    (λ c κs. search needs)
-    (λ c κs. search needs)
-    (λ c. search needs)
-    (λ c. search needs)
     (λ c. search needs)
     (λ c κs. search needs)
     (λ c. search needs)
-    (λ c. search needs)
-    (λ c κs. search needs)
     (λ c κs. search needs)
     returns
     (λ c. search needs)

@@ -1,4 +1,4 @@
--- Laws of runs: a run in two goes, and what a run keeps.
+-- Runs in two goes.
 use mathlib.Core.List.{List, _++_, [], _∷_}
 use mathlib.Core.Path.{_≡_, refl}
 use Rattle.cart.specs.Run.{World, Access, after, step}

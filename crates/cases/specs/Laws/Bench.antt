@@ -1,7 +1,7 @@
 -- Laws of `Bench`.
 use mathlib.Core.Path.{refl}
 use Rattle.sums.specs.Crc.{crcFrom, crcByte, crcBits, crcBit}
-use Rattle.cart.specs.Machine.{asks}
+use Rattle.switches.specs.Flips.{asks}
 use Rattle.grammar.specs.Grammar.{wordsSay, mappingLine, headingLine, romLine, pagedLine, romOf, pagedOf, _>>=_, dollar, page, hexFrom, same}
 use Rattle.grammar.specs.Words.{cut}
 use Rattle.cfg.specs.File.{linesOf, saysFrom, entriesFrom}

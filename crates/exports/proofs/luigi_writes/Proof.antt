@@ -5,7 +5,7 @@ use native.Mathlib.Nat.{min-le-left, min-le-right}
 use native.Mathlib.Omega.{arith}
 use lib.ListN.{length}
 use borrow.Author.Needs.{needs}
-use Rattle.cart.specs.Machine.{actingBy}
+use Rattle.cart.specs.Cartridges.{fresh}
 use Rattle.exports.specs.Laws.Runs.{Lent, lent-none, lent-one, lent-last}
 use Rattle.exports.specs.Runs.{written}
 use Rattle.exports.proofs.luigi_writes.Statement.{statement}
@@ -14,7 +14,7 @@ use Rattle.exports.proofs.luigi_writes.Tie as tie
 abbrev Inv-loop : tie.InvT-loop
 Inv-loop mapping₀ permissions₀ flips ram₀ at value i₀ i-end mapping permissions ram i =
     (i ≤ i-end) × (i-end ≤ length at) × (i-end ≤ length value) × (length ram ≡ length ram₀)
-    × Lent (written (actingBy mapping₀ permissions₀ flips) ram₀ at value i) mapping permissions flips ram
+    × Lent (written (fresh mapping₀ permissions₀ flips) ram₀ at value i) mapping permissions flips ram
 
 abbrev μ-loop : tie.MeasureT-loop
 μ-loop mapping₀ permissions₀ flips ram₀ at value i₀ i-end mapping permissions ram i = i-end - i

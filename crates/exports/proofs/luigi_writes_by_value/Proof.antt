@@ -35,7 +35,7 @@ returns c =
     let made = at-end .before .before .fresh .ensures in
     let i : at-end .loop .i ≡ at-end .before .least .result = omega arith in
     let n = i ∙ at-end .before .least .ensures in
-    (rw (← made, ← n, ← at-end .loop .inv .4) (c .active-of .ensures), ram-last _ _ _ _ _ _ _ _ made n (at-end .loop .inv .5))
+    (rw (← made, ← n, ← at-end .loop .inv .4) (c .active-as .ensures), ram-last _ _ _ _ _ _ _ _ made n (at-end .loop .inv .5))
 
 pub luigi-writes-by-value-spec : {M : Type 1} → statement M
 luigi-writes-by-value-spec =

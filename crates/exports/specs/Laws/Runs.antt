@@ -1,18 +1,18 @@
 -- One access more, after a run of them.
 use Prim.Native.Nat.{ℕ, _+_}
 use mathlib.Core.List.{List, _∷_, []}
-use mathlib.Core.Path.{_≡_, refl, _∙_, sym}
+use mathlib.Core.Path.{_≡_, refl}
 use native.Mathlib.Omega.{arith}
 use native.Mathlib.Numerals.{add-one}
 use lib.ListN.{set, getD}
 use Rattle.basics.specs.Lists.{laid}
 use Rattle.basics.specs.Laws.Lists.{laid-more}
-use Rattle.places.specs.declared.Console.{Console}
+use Rattle.switches.specs.Flips.{active}
 use Rattle.cart.specs.declared.Answer.{Answer}
 use Rattle.cart.specs.declared.Cartridge.{Cartridge}
-use Rattle.cart.specs.declared.Taker.{Taker}
-use Rattle.cart.specs.declared.Taker.the-variants.{Flip, Ram}
-use Rattle.cart.specs.Machine.{readBy, cartridgeBy, actingBy, ramBy, writeOf, takes, writeRamOf}
+use Rattle.cart.specs.Reads.{readBy}
+use Rattle.cart.specs.Writes.{leaves, leavesRam}
+use Rattle.cart.specs.Cartridges.{fresh, writeOf, writeRamOf}
 use Rattle.cart.specs.Run.{World, step, Write}
 use Rattle.cart.specs.Laws.Run.{after-append}
 use Rattle.exports.specs.Runs.{answered, address, heard, written, writes}
@@ -25,47 +25,13 @@ module _ (mapping permissions ram at out : List ℕ) where
   pub answered-one :
       (t : List ℕ) (i : ℕ) (a : Answer) (x : ℕ)
       → t ≡ answered mapping permissions ram at i out
-      → a ≡ readBy mapping permissions ram (address at i)
+      → a ≡ readBy (active mapping permissions) ram (address at i)
       → x ≡ heard a
       → set t i x ≡ answered mapping permissions ram at (i + 1) out
   unfolding answered
   answered-one t i a x e f g =
       let z : 0 + i ≡ i = omega arith in
-      rw z at (laid-more 0 (λ j. heard (readBy mapping permissions ram (address at j))) out i t x e (rw (g, f)))
-
--- a write goes by the active tables and the flip table alone, and keeps the flip table
-module _ (c : Cartridge) (at : Console) (x : ℕ) where
-  mapping-by : (t : Taker) → cartridgeBy t (actingBy (c .mapping) (c .permissions) (c .flips)) .mapping ≡ cartridgeBy t c .mapping
-  mapping-by (Flip n) = refl
-  mapping-by Ram = refl
-
-  permissions-by : (t : Taker) → cartridgeBy t (actingBy (c .mapping) (c .permissions) (c .flips)) .permissions ≡ cartridgeBy t c .permissions
-  permissions-by (Flip n) = refl
-  permissions-by Ram = refl
-
-  flips-by : (t : Taker) → cartridgeBy t c .flips ≡ c .flips
-  flips-by (Flip n) = refl
-  flips-by Ram = refl
-
-  ram-by : (t : Taker) (ram : List ℕ) → ramBy t (actingBy (c .mapping) (c .permissions) (c .flips)) ram at x ≡ ramBy t c ram at x
-  ram-by (Flip n) ram = refl
-  ram-by Ram ram = refl
-
-  acting-mapping : writeOf (actingBy (c .mapping) (c .permissions) (c .flips)) at x .mapping ≡ writeOf c at x .mapping
-  unfolding writeOf
-  acting-mapping = mapping-by (takes c at x)
-
-  acting-permissions : writeOf (actingBy (c .mapping) (c .permissions) (c .flips)) at x .permissions ≡ writeOf c at x .permissions
-  unfolding writeOf
-  acting-permissions = permissions-by (takes c at x)
-
-  acting-flips : writeOf c at x .flips ≡ c .flips
-  unfolding writeOf
-  acting-flips = flips-by (takes c at x)
-
-  acting-ram : (ram : List ℕ) → writeRamOf (actingBy (c .mapping) (c .permissions) (c .flips)) ram at x ≡ writeRamOf c ram at x
-  unfolding writeRamOf
-  acting-ram ram = ram-by (takes c at x) ram
+      rw z at (laid-more 0 (λ j. heard (readBy (active mapping permissions) ram (address at j))) out i t x e (rw (g, f)))
 
 -- lent tables and RAM that are a world's
 pub record Lent (w : World) (mapping permissions flips ram : List ℕ) : Type 0 where
@@ -98,18 +64,17 @@ module _ (c : Cartridge) (ram at v : List ℕ) where
   pub lent-one :
       (n : ℕ) (m p f k x y z : List ℕ)
       → Lent (written c ram at v n) m p f k
-      → x ≡ writeOf (actingBy m p f) (address at n) (getD v n 0) .mapping
-      → y ≡ writeOf (actingBy m p f) (address at n) (getD v n 0) .permissions
-      → z ≡ writeRamOf (actingBy m p f) k (address at n) (getD v n 0)
+      → x ≡ leaves (active m p) f (address at n) (getD v n 0) .mapping
+      → y ≡ leaves (active m p) f (address at n) (getD v n 0) .permissions
+      → z ≡ leavesRam (active m p) f k (address at n) (getD v n 0)
       → Lent (written c ram at v (n + 1)) x y f z
   lent-one n m p f k x y z l a b d =
-      let w = written c ram at v n in
       rw (one n)
       (record {
-        by-mapping = rw (a, l .by-mapping, l .by-permissions, l .by-flips) (acting-mapping (w .cartridge) (address at n) (getD v n 0));
-        by-permissions = rw (b, l .by-mapping, l .by-permissions, l .by-flips) (acting-permissions (w .cartridge) (address at n) (getD v n 0));
-        by-flips = l .by-flips ∙ sym (acting-flips (w .cartridge) (address at n) (getD v n 0));
-        by-ram = rw (d, l .by-mapping, l .by-permissions, l .by-flips, l .by-ram) (acting-ram (w .cartridge) (address at n) (getD v n 0) (w .ram));
+        by-mapping = rw (a, l .by-mapping, l .by-permissions, l .by-flips);
+        by-permissions = rw (b, l .by-mapping, l .by-permissions, l .by-flips);
+        by-flips = l .by-flips;
+        by-ram = rw (d, l .by-mapping, l .by-permissions, l .by-flips, l .by-ram);
       })
 
   pub lent-last :
@@ -119,6 +84,6 @@ module _ (c : Cartridge) (ram at v : List ℕ) where
       → (m ≡ written c ram at v n .cartridge .mapping) × (p ≡ written c ram at v n .cartridge .permissions) × (k ≡ written c ram at v n .ram)
   lent-last i n m p f k e l = rw (← e) (l .by-mapping, l .by-permissions, l .by-ram)
 
-pub lent-none : (m p f ram at v : List ℕ) → Lent (written (actingBy m p f) ram at v 0) m p f ram
+pub lent-none : (m p f ram at v : List ℕ) → Lent (written (fresh m p f) ram at v 0) m p f ram
 unfolding written writes
 lent-none m p f ram at v = record { by-mapping = refl; by-permissions = refl; by-flips = refl; by-ram = refl }

@@ -8,7 +8,7 @@ use lib.ListN.{getD}
 use lib.Dec.{eqb, leb, ltb}
 use Rattle.basics.specs.Tables.{table}
 use Rattle.basics.specs.Counts.{count, nth}
-use Rattle.cart.specs.Machine.{firstK, flipMapping, flipPermissions}
+use Rattle.switches.specs.Flips.{firstK, flipMapping, flipPermissions}
 use Rattle.lines.specs.declared.Line.{Line}
 use Rattle.lines.specs.Lines.{first}
 use Rattle.rules.specs.declared.Survey.{Survey}

@@ -18,7 +18,7 @@ use Rattle.basics.specs.Laws.Tests.{not-cond, cases, and-right}
 use Rattle.basics.specs.Tables.{table}
 use Rattle.basics.specs.Lists.{laid}
 use Rattle.basics.specs.Laws.Lists.{laid-same}
-use Rattle.cart.specs.Machine.{flipMapping}
+use Rattle.switches.specs.Flips.{flipMapping}
 use Rattle.lines.specs.declared.Entry.{Entry}
 use Rattle.lines.specs.declared.Line.{Line}
 use Rattle.lines.specs.Lines.{first, layer}

@@ -12,7 +12,7 @@ use borrow.Author.Tests.{eq-eqb, le-leb, leb-true}
 use Rattle.basics.specs.Laws.Tests.{cases, true-is-not-false, and-left, and-right}
 use Rattle.basics.specs.Laws.Options.{some-is-not-none}
 use Rattle.places.specs.declared.Console.{Console}
-use Rattle.cart.specs.Machine.{PFE, firstK}
+use Rattle.switches.specs.Flips.{PFE, firstK}
 use Rattle.lines.specs.declared.Line.{Line}
 use Rattle.lines.specs.declared.Entry.{Entry}
 use Rattle.lines.specs.declared.Entry.the-variants.{Rom, Paged, Ram}

@@ -11,8 +11,8 @@ use Rattle.basics.specs.Options.{isSome}
 use Rattle.basics.specs.Laws.Tables.{getD-table}
 use Rattle.basics.specs.Laws.Tests.{true-is-not-false}
 use Rattle.places.specs.declared.Console.{Console}
+use Rattle.switches.specs.Flips.{firstK}
 use Rattle.cart.specs.declared.Answer.the-variants.{Word, Silence}
-use Rattle.cart.specs.Machine.{firstK}
 use Rattle.lines.specs.declared.Line.{Line}
 use Rattle.lines.specs.declared.Entry.{Entry}
 use Rattle.lines.specs.declared.Entry.the-variants.{Rom, Paged, Ram}

@@ -1,5 +1,5 @@
 -- One access, by the machine and by the plain cartridge: a read is answered alike, and a write keeps the two tied.
-use Prim.Native.Nat.{ℕ, _≤_, _*_, _/_, _%_, _+_, _<_, min}
+use Prim.Native.Nat.{ℕ, _≤_, _*_, _/_, _%_, _+_, _<_}
 use mathlib.Core.List.{List}
 use mathlib.Core.Path.{_≡_, _∙_, ap, refl, sym}
 use mathlib.Core.Bool.{Bool, false, true, cond, _&&_}
@@ -12,11 +12,18 @@ use Rattle.basics.specs.Laws.Tables.{past-table}
 use Rattle.basics.specs.Laws.Tests.{true-is-not-false, cases, and-left, and-right}
 use Rattle.basics.specs.Laws.Options.{some-is-not-none}
 use Rattle.places.specs.declared.Console.{Console}
+use Rattle.places.specs.Limits.{lentLimit, lent, paragraphs, chapters, flipEntries}
+use Rattle.switches.specs.declared.Request.the-variants.{Entry}
+use Rattle.switches.specs.Flips.{firstK, asks}
+use Rattle.switches.specs.Laws.Flips.{first-small}
 use Rattle.cart.specs.declared.Cartridge.{Cartridge}
+use Rattle.cart.specs.declared.Cell.{Cell}
+use Rattle.cart.specs.declared.Taker.{Taker}
 use Rattle.cart.specs.declared.Taker.the-variants.{Ram, Flip}
-use Rattle.cart.specs.declared.Request.the-variants.{Entry}
-use Rattle.cart.specs.Machine.{READ, paragraph, locate, lies, readOf, readBy, fetched, storedBy, WRITE, stored, storedWord, NARROW, takes, asks, writeOf, writeRamOf, firstK}
-use Rattle.cart.specs.Laws.Machine.{first-small}
+use Rattle.cart.specs.Cells.{READ, WRITE, NARROW, paragraph, locate, cellAt, lies}
+use Rattle.cart.specs.Reads.{silent, fetched, readBy}
+use Rattle.cart.specs.Writes.{takerOf, storedWord, stored, leaves, leavesRam}
+use Rattle.cart.specs.Cartridges.{activeOf, readOf, writeOf, writeRamOf}
 use Rattle.lines.specs.declared.Line.{Line}
 use Rattle.lines.specs.declared.Width.the-variants.{Sixteen, Eight}
 use Rattle.lines.specs.Lines.{lineAt, layer, isRam}
@@ -36,18 +43,18 @@ use Rattle.lines.specs.declared.Entry as Entries
 use Rattle.lines.specs.declared.Entry.the-variants as Kinds
 
 module _ {lines : List Line} (g : Good lines) where
-  permissions-past : (y p : ℕ) → 256 ≤ p → permissionsAt lines y p ≡ 0
+  permissions-past : (y p : ℕ) → paragraphs ≤ p → permissionsAt lines y p ≡ 0
   permissions-past y p s =
       let q : 256 * p / 256 ≡ p = omega arith in
       let e : permissionsAt lines y (256 * p / 256) ≡ permissionOf (shownLine lines y (record { 0 = 256 * p })) =
       shows g y (record { 0 = 256 * p }) .permissions in
       rw q at e ∙ ap permissionOf (none-past g y (record { 0 = 256 * p }) (omega arith))
 
-  unpaged-past : (x : ℕ) → 16 ≤ x → (b : Bool) → paged lines x ≡ b → paged lines x ≡ false
+  unpaged-past : (x : ℕ) → chapters ≤ x → (b : Bool) → paged lines x ≡ b → paged lines x ≡ false
   unpaged-past x s true e = absurd (omega (arith, paged-below (g .fine) x e))
   unpaged-past x s false e = e
 
-  flip-past : (x y : ℕ) → 16 ≤ x → flipEntry lines x y ≡ 0
+  flip-past : (x y : ℕ) → chapters ≤ x → flipEntry lines x y ≡ 0
   unfolding flipEntry
   flip-past x y s = simp (unpaged-past x s (paged lines x) refl)
 
@@ -64,8 +71,9 @@ module _ {bin : List ℕ} {lines : List Line} (g : Good lines) (c : Cartridge) (
   abbrev shown : Option Line
   shown = shownLine lines (number (at .0 / 4096)) at
 
-  permission : ℕ
-  permission = getD (c .permissions) (paragraph at) 0
+  -- the cell that the address reaches
+  abbrev reached : Cell
+  reached = cellAt (activeOf c) at
 
   -- the permissions of every paragraph, and every flip entry: past the tables both are 0
   permissions-at : (p : ℕ) → getD (c .permissions) p 0 ≡ permissionsAt lines (number (p / 16)) p
@@ -96,17 +104,17 @@ module _ {bin : List ℕ} {lines : List Line} (g : Good lines) (c : Cartridge) (
         let p : mappingAt lines (number (at .0 / 4096)) (at .0 / 256) * 256 + at .0 % 256 ≡ placeOf lines (layer (l .entry)) at .0 =
         shows g (number (at .0 / 4096)) at .mapping l e in
         let b : placeOf lines (layer (l .entry)) at .0 < needed lines = place-below (g .fine) (layer (l .entry)) at l line-there in
-        let s : placeOf lines (layer (l .entry)) at .0 % 524288 ≡ placeOf lines (layer (l .entry)) at .0 = omega (arith, needed-small g) in
+        let s : placeOf lines (layer (l .entry)) at .0 % lentLimit ≡ placeOf lines (layer (l .entry)) at .0 = omega (arith, needed-small g) in
         rw (m, p, s)
 
   lies-there : (u : ℕ) (l : Line) → lineAt lines u (at .0) ≡ some l → lies (placeOf lines u at) ram ≡ true
   lies-there u l e =
-      lt-ltb (placeOf lines u at .0) (min (length ram) 524288) (omega (arith, place-below (g .fine) u at l e, h .room, needed-small g))
+      lt-ltb (placeOf lines u at .0) (lent ram) (omega (arith, place-below (g .fine) u at l e, h .room, needed-small g))
 
   -- a read
   read-case : (o : Option Line) → shown ≡ o → readOf c ram at ≡ answerBy bin mem o at
   unfolding readBy fetched
-  read-case none e = simp (permissions-there, e)
+  read-case none e = cases (silent at) (λ s. rw s) (λ s. simp (s, permissions-there, e))
   read-case (some l) e =
       simp (
         permissions-there,
@@ -140,10 +148,10 @@ module _ {bin : List ℕ} {lines : List Line} (g : Good lines) (c : Cartridge) (
 
   -- and by the line that is shown
   Stores : ℕ → Type 0
-  Stores v = Held bin lines (storedBy (c .mapping) (c .permissions) ram at v) (ramAfter (lineAt lines 0 (at .0)) mem at v)
+  Stores v = Held bin lines (stored reached ram v) (ramAfter (lineAt lines 0 (at .0)) mem at v)
 
   still : (v : ℕ) (o : Option Line) → shown ≡ o → ((l : Line) → o ≡ some l → isRam (l .entry) ≡ false) → WRITE (permissionOf o) ≡ false → Stores v
-  unfolding Stores storedBy stored
+  unfolding Stores stored
   still v o e f w = simp (permissions-there, kept v (λ l q. f l (sym e ∙ q)), e, w) h
 
   module _ (v : ℕ) (l : Line) (e : shown ≡ some l) (r : isRam (l .entry) ≡ true) where
@@ -151,9 +159,9 @@ module _ {bin : List ℕ} {lines : List Line} (g : Good lines) (c : Cartridge) (
     ram-there = rw (ram-plain (l .entry) r) at (line-there l e)
 
     ram-stored : WRITE (permissionBy (l .entry)) ≡ true →
-        storedBy (c .mapping) (c .permissions) ram at v
+        stored reached ram v
         ≡ set ram (placeOf lines 0 at .0) (storedWord (NARROW (permissionBy (l .entry))) (getD ram (placeOf lines 0 at .0) 0) v)
-    unfolding storedBy stored
+    unfolding stored
     ram-stored w = simp (permissions-there, place-there l e, e, w, ram-plain (l .entry) r, lies-there 0 l ram-there)
 
   store-by : (v : ℕ) (l : Line) → shown ≡ some l → (k : Entries.Entry) → l .entry ≡ k → Stores v
@@ -181,7 +189,10 @@ module _ {bin : List ℕ} {lines : List Line} (g : Good lines) (c : Cartridge) (
 
   -- a request
   module _ (v : ℕ) where
-    takes-nothing : isRequest at v ≡ false → takes c at v ≡ Ram
+    abbrev taker : Taker
+    taker = takerOf (activeOf c) (c .flips) at v
+
+    takes-nothing : isRequest at v ≡ false → taker ≡ Ram reached
     unfolding asks
     takes-nothing e = simp e
 
@@ -194,7 +205,7 @@ module _ {bin : List ℕ} {lines : List Line} (g : Good lines) (c : Cartridge) (
         let q : v / 4096 ≡ at .0 / 4096 = eqb-true _ _ (and-left (eqb (v / 4096) (at .0 / 4096)) _ (and-right (eqb (at .0 % 4096) 0xFFF) _ e)) in
         rw (e, q)
 
-    entry-small : paged lines (at .0 / 4096) ≡ true → entry < 256
+    entry-small : paged lines (at .0 / 4096) ≡ true → entry < flipEntries
     unfolding entry
     entry-small p = omega (arith, paged-below (g .fine) (at .0 / 4096) p)
 
@@ -206,18 +217,18 @@ module _ {bin : List ℕ} {lines : List Line} (g : Good lines) (c : Cartridge) (
     unfolding entry
     entry-page = omega arith
 
-    takes-by : isRequest at v ≡ true → takes c at v ≡ cond (paged lines (at .0 / 4096) && leb 2 (at .0 / 4096)) (Flip entry) Ram
+    takes-by : isRequest at v ≡ true → taker ≡ cond (paged lines (at .0 / 4096) && leb 2 (at .0 / 4096)) (Flip entry) (Ram reached)
     takes-by e = simp (asks-entry e, flip-at entry, entry-chapter, pfe-is)
 
-    takes-flip : isRequest at v ≡ true → paged lines (at .0 / 4096) ≡ true → takes c at v ≡ Flip entry
+    takes-flip : isRequest at v ≡ true → paged lines (at .0 / 4096) ≡ true → taker ≡ Flip entry
     takes-flip e p = takes-by e ∙ simp (p, le-leb _ _ (paged-above (g .fine) (at .0 / 4096) p))
 
-    takes-ram : isRequest at v ≡ true → paged lines (at .0 / 4096) ≡ false → takes c at v ≡ Ram
+    takes-ram : isRequest at v ≡ true → paged lines (at .0 / 4096) ≡ false → taker ≡ Ram reached
     takes-ram e p = takes-by e ∙ simp p
 
     -- what a write leaves of the tables and of the RAM, by its case
     tables-by : (b q : Bool) → isRequest at v ≡ b → paged lines (at .0 / 4096) ≡ q → Tabled lines (writeOf c at v) (numberAfter number at v)
-    unfolding writeOf numberAfter
+    unfolding leaves numberAfter
     tables-by true true e p =
         rw (takes-flip e p, e, ← entry-chapter, ← entry-page) (tabled-flip t entry (entry-small p) (rw entry-chapter p))
     tables-by true false e p = rw (takes-ram e p, e) (tabled-idle t (at .0 / 4096) (v % 16) p)
@@ -228,7 +239,7 @@ module _ {bin : List ℕ} {lines : List Line} (g : Good lines) (c : Cartridge) (
 
     ram-of : (b q : Bool) → isRequest at v ≡ b → paged lines (at .0 / 4096) ≡ q →
         Held bin lines (writeRamOf c ram at v) (ramAfter (lineAt lines 0 (at .0)) mem at v)
-    unfolding writeRamOf Stores
+    unfolding leavesRam Stores
     ram-of true true e p =
         let f : firstK (at .0 / 4096) ≤ at .0 / 256 % 16 = omega (arith, request-last e, first-small (at .0 / 4096)) in
         rw (takes-flip e p, kept-at v (lineAt lines 0 (at .0)) (λ l q. not-ram g (at .0) f p l q)) h

@@ -7,7 +7,7 @@ use lib.Dec.{eqb, ltb}
 use lib.ListN.{getD}
 use Rattle.basics.specs.Counts.{any, all}
 use Rattle.basics.specs.Tables.{table}
-use Rattle.cart.specs.Machine.{firstK}
+use Rattle.switches.specs.Flips.{firstK}
 use Rattle.lines.specs.declared.Line.{Line}
 use Rattle.lines.specs.declared.Entry.the-variants.{Rom}
 use Rattle.lines.specs.declared.Entry.{Entry}

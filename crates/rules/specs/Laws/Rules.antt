@@ -17,8 +17,9 @@ use Rattle.basics.specs.Laws.Rows.{first-append}
 use Rattle.basics.specs.Laws.Tests.{same-test, true-is-not-false, cases, or-left, or-right, not-true, and-right, or-cases, and-left}
 use Rattle.basics.specs.Laws.Counts.{any-of, Place, any-at, all-at, all-of}
 use Rattle.places.specs.Limits.{lineLimit}
-use Rattle.cart.specs.Machine.{firstK, silent}
-use Rattle.cart.specs.Laws.Machine.{first-small}
+use Rattle.switches.specs.Flips.{firstK}
+use Rattle.cart.specs.Reads.{silent}
+use Rattle.switches.specs.Laws.Flips.{first-small}
 use Rattle.lines.specs.declared.Line.{Line}
 use Rattle.lines.specs.declared.Entry.{Entry}
 use Rattle.lines.specs.Typed.{All, Typed, nil, cons}

@@ -9,7 +9,7 @@ use borrow.Author.Tests.{leb-false, eqb-true, eq-eqb, ne-eqb, leb-true, ltb-fals
 use Rattle.basics.specs.Laws.Tests.{cases, and-right, not-true, or-false-right, and-left, or-false-left, or-cases, not-false}
 use Rattle.places.specs.declared.BinWord.{BinWord}
 use Rattle.places.specs.declared.Console.{Console}
-use Rattle.cart.specs.Machine.{firstK}
+use Rattle.switches.specs.Flips.{firstK}
 use Rattle.lines.specs.declared.Entry.{Entry}
 use Rattle.lines.specs.declared.Entry.the-variants.{Rom, Paged, Ram}
 use Rattle.lines.specs.Typed.{Typed}

@@ -11,7 +11,7 @@ use Rattle.basics.specs.Laws.Counts.{any-same, all-same}
 use Rattle.basics.specs.Options.{isSome}
 use Rattle.basics.specs.Tables.{table}
 use Rattle.basics.specs.Laws.Tables.{table-same, getD-table, table-of}
-use Rattle.cart.specs.Machine.{firstK}
+use Rattle.switches.specs.Flips.{firstK}
 use Rattle.lines.specs.declared.Line.{Line}
 use Rattle.rules.specs.Code.Numbers.{Owns}
 use Rattle.rules.specs.Survey.{places, claimsPlace, numberOf, claims, surveyOf}

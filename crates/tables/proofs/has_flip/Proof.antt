@@ -8,7 +8,7 @@ use borrow.Author.Tests.{eq-eqb, ne-eqb}
 use borrow.Author.Needs.{needs}
 use Rattle.basics.specs.Counts.{any}
 use Rattle.basics.specs.Laws.Counts.{any-of, any-miss, any-missed}
-use Rattle.cart.specs.Machine.{PFE}
+use Rattle.switches.specs.Flips.{PFE}
 use Rattle.tables.specs.Laws.Laws.{some-none}
 use Rattle.tables.proofs.has_flip.Statement.{statement}
 use Rattle.tables.proofs.has_flip.Tie as tie

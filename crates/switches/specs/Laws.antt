@@ -1,2 +1,2 @@
 -- Theorems over the definitions.
-pub mod Limits
+pub mod Flips

@@ -1,0 +1,56 @@
+-- The cartridge: the initial and the active tables and the flip table; what it answers, and what a write and a reset leave of it
+-- (01, The machine).
+use Prim.Native.Nat.{ℕ}
+use mathlib.Core.List.{List}
+use lib.ListN.{replicate}
+use Rattle.places.specs.declared.Console.{Console}
+use Rattle.places.specs.Limits.{paragraphs, flipEntries}
+use Rattle.switches.specs.Flips.{Active, active}
+use Rattle.cart.specs.declared.Answer.{Answer}
+use Rattle.cart.specs.declared.Cartridge.{Cartridge}
+use Rattle.cart.specs.Reads.{readBy}
+use Rattle.cart.specs.Writes.{leaves, leavesRam}
+
+-- a cartridge of these tables: every cartridge is made here
+abbrev pub assembled : Active → Active → List ℕ → Cartridge
+assembled initial now flips =
+    record {
+      «initial_mapping» = initial .mapping;
+      «initial_permissions» = initial .permissions;
+      mapping = now .mapping;
+      permissions = now .permissions;
+      flips = flips;
+    }
+
+-- its initial and its active tables
+abbrev pub initialOf : Cartridge → Active
+initialOf c = active (c .«initial_mapping») (c .«initial_permissions»)
+
+abbrev pub activeOf : Cartridge → Active
+activeOf c = active (c .mapping) (c .permissions)
+
+-- as loaded: the active tables are the initial ones
+abbrev pub fresh : List ℕ → List ℕ → List ℕ → Cartridge
+fresh mapping permissions flips = assembled (active mapping permissions) (active mapping permissions) flips
+
+-- with other active tables
+abbrev pub withActive : Cartridge → Active → Cartridge
+withActive c a = assembled (initialOf c) a (c .flips)
+
+-- a read, a write, and what it leaves of the RAM
+abbrev pub readOf : Cartridge → List ℕ → Console → Answer
+readOf c ram at = readBy (activeOf c) ram at
+
+abbrev pub writeOf : Cartridge → Console → ℕ → Cartridge
+writeOf c at v = withActive c (leaves (activeOf c) (c .flips) at v)
+
+abbrev pub writeRamOf : Cartridge → List ℕ → Console → ℕ → List ℕ
+writeRamOf c ram at v = leavesRam (activeOf c) (c .flips) ram at v
+
+-- reset copies the initial tables to the active ones
+abbrev pub resetOf : Cartridge → Cartridge
+resetOf c = withActive c (initialOf c)
+
+-- the cartridge of a refused load
+abbrev pub noCartridge : Cartridge
+noCartridge = fresh (replicate paragraphs 0) (replicate paragraphs 0) (replicate flipEntries 0)

@@ -1,0 +1,49 @@
+-- A write: who takes it, then what it leaves of the active tables and of the RAM (01, The machine).
+use Prim.Native.Nat.{ℕ, _+_, _*_, _/_, _%_}
+use mathlib.Core.Bool.{Bool, cond, _&&_}
+use mathlib.Core.List.{List}
+use lib.ListN.{getD, set}
+use Rattle.places.specs.declared.Console.{Console}
+use Rattle.switches.specs.declared.Request.{Request}
+use Rattle.switches.specs.declared.Request.the-variants.{Entry, Nothing}
+use Rattle.switches.specs.Flips.{Active, asks, acts, flipped}
+use Rattle.cart.specs.declared.Cell.{Cell}
+use Rattle.cart.specs.declared.Taker.{Taker}
+use Rattle.cart.specs.declared.Taker.the-variants.{Flip, Ram}
+use Rattle.cart.specs.Cells.{cellAt, lies}
+
+-- a request that acts is its flip entry's; any other write is the next taker's
+abbrev pub flipTaker : List ℕ → Request → Taker → Taker
+flipTaker flips (Entry n) next = cond (acts flips n) (Flip n) next
+flipTaker flips Nothing next = next
+
+-- who takes a write, by the active tables and the flip table: the first that it asks, else the word that the address reaches
+abbrev pub takerOf : Active → List ℕ → Console → ℕ → Taker
+takerOf a flips at v = flipTaker flips (asks at v) (Ram (cellAt a at))
+
+-- the word that a store leaves: NARROW replaces the low 8 bits only
+abbrev pub storedWord : Bool → ℕ → ℕ → ℕ
+storedWord narrow old v = cond narrow (old / 256 * 256 + v % 256) v
+
+-- a cell stores when WRITE is set and its location lies in the lent RAM
+unfoldable pub stored : Cell → List ℕ → ℕ → List ℕ
+stored c ram v =
+    cond (c .rights .write && lies (c .location) ram)
+    (set ram (c .location .0) (storedWord (c .rights .narrow) (getD ram (c .location .0) 0) v))
+    ram
+
+-- what each taker leaves of the active tables, by the flip table, and of the RAM
+abbrev pub leftBy : Taker → Active → List ℕ → Active
+leftBy (Flip n) a flips = flipped flips n a
+leftBy (Ram c) a flips = a
+
+abbrev pub ramBy : Taker → List ℕ → ℕ → List ℕ
+ramBy (Flip n) ram v = ram
+ramBy (Ram c) ram v = stored c ram v
+
+-- what a write leaves
+unfoldable pub leaves : Active → List ℕ → Console → ℕ → Active
+leaves a flips at v = leftBy (takerOf a flips at v) a flips
+
+unfoldable pub leavesRam : Active → List ℕ → List ℕ → Console → ℕ → List ℕ
+leavesRam a flips ram at v = ramBy (takerOf a flips at v) ram v

@@ -1,0 +1,23 @@
+-- Any two answers that the promise of a public function allows are equal (01, What the promises rule out).
+use denote.Ref.{now}
+use Rattle.basics.specs.Same.{OneAnswer, OneLent}
+use Rattle.basics.specs.Laws.Same.{same}
+use Rattle.switches.proofs.asked.Reads as asked
+use Rattle.switches.proofs.acts.Reads as acts
+use Rattle.switches.proofs.first_k.Reads as first-k
+use Rattle.switches.proofs.flip.Reads as flip
+
+pub one-asked : OneAnswer asked.Learnt
+one-asked κs a y z e f = same
+
+pub one-acts : OneAnswer acts.Learnt
+one-acts κs a y z e f = same
+
+pub one-first-k : OneAnswer first-k.Learnt
+one-first-k κs a y z e f p q = same (p .0) (q .0)
+
+pub one-flip-mapping : OneLent flip.Learnt (λ κs e. now (e .0))
+one-flip-mapping κs a y z e f p q = same (p .0) (q .0)
+
+pub one-flip-permissions : OneLent flip.Learnt (λ κs e. now (e .1 .0))
+one-flip-permissions κs a y z e f p q = same (p .1) (q .1)

@@ -1,0 +1,3 @@
+-- Page flips.
+pub mod Flips
+pub mod Laws
