@@ -1,0 +1,4 @@
+-- Names of files, what a read's answer means, and what may be replaced.
+pub mod Names
+pub mod Rule
+pub mod Laws
