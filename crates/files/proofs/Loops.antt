@@ -9,6 +9,7 @@ use lib.Dec.{eqb, ltb}
 use lib.ListN.{length, getD, take, drop, set, length-set, length-append, drop-of-length-le, length-drop}
 use lib.Seq.{take-all, take-suc, length-take-le, drop-cons, getD-set-same}
 use borrow.Author.Tests.{eq-eqb, ne-eqb, lt-ltb, le-ltb}
+use Rattle.io.specs.Counts.{Counts}
 use Rattle.io.specs.Digits.{glyph}
 use Rattle.libc.specs.Io.{Ended}
 use Rattle.basics.specs.Counts.{all}
@@ -140,3 +141,6 @@ pub ended-last :
 ended-last name x b k e n h m =
     let l : length x ≡ k = ap length e ∙ length-take-le k name n in
     getD-set-same (x ++ drop k b) 4095 0 1 (simp (length-append, length-drop) (omega arith))
+
+pub counted : (n : ℕ) (xs : List ℕ) → n ≤ length xs → Counts n xs
+counted n xs h = (h, sym (length-take-le n xs h))

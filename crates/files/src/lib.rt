@@ -1,12 +1,15 @@
 // What the desk's programs do with files: read one whole, write one whole beside its target and move it into place, and say
 // what stopped them. Functions on slices and numbers promise equations; what the system does is tried by tests/files.sh.
 mod names;
+mod reading;
 mod rule;
 mod sight;
 
 pub use names::folder;
 pub use names::is_name;
 pub use names::part_name;
+pub use reading::meaning;
+pub use reading::read_all;
 pub use rule::is_input;
 pub use rule::kind_of;
 pub use rule::same_file;
