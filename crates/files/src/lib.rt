@@ -3,18 +3,29 @@
 mod names;
 mod reading;
 mod rule;
+mod saying;
 mod sight;
+mod writing;
 
 pub use names::folder;
 pub use names::is_name;
 pub use names::part_name;
 pub use reading::meaning;
 pub use reading::read_all;
+pub use reading::read_argument;
+pub use reading::read_file;
+pub use reading::stop_of;
 pub use rule::is_input;
 pub use rule::kind_of;
 pub use rule::same_file;
 pub use rule::verdict;
+pub use saying::line;
+pub use saying::say;
+pub use saying::stopped;
+pub use saying::stops;
 pub use sight::nobody;
+pub use writing::write_argument;
+pub use writing::write_file;
 
 // How many files a program may have read before it writes.
 pub const INPUTS: usize = 4;

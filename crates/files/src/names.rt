@@ -3,6 +3,7 @@ ghost use Prim.Native.Nat.{_+_, _*_, _%_, _≤_};
 ghost use mathlib.Core.Path.{_≡_};
 ghost use lib.ListN.{length};
 ghost use Rattle.basics.specs.Lists.{joined};
+ghost use Rattle.io.specs.Counts.{Counts};
 ghost use Rattle.io.specs.Digits.{glyph as Digits·glyph};
 ghost use Rattle.libc.specs.Io.{Ended};
 ghost use Rattle.files.specs.Names.{hexOf, folderOf, isName, partOf, partLength, partIn};
@@ -13,7 +14,7 @@ const PART: usize = 31;
 
 // How many bytes of a name name its folder, the last `/` with them.
 pub fn folder(name: &[u8]) -> usize
-    ensures { λ r. ⌜ (r ≡ folderOf (now (name .entry))) × (r ≤ length (now (name .entry))) ⌝ }
+    ensures { λ r. ⌜ (r ≡ folderOf (now (name .entry))) × Counts r (now (name .entry)) ⌝ }
 {
     let mut k = 0;
     let mut i = 0;
@@ -99,7 +100,7 @@ fn put_part(out: &mut [u8], name: &[u8], k: usize, tag: &[u8; 12])
 // The name of a part file, in the folder of the file that it is to become, at the front of a buffer; answers its length, and 0
 // where it does not fit.
 pub fn part_name(name: &[u8], tag: &[u8; 12], out: &mut [u8]) -> usize
-    ensures { λ r. ⌜ (r ≡ partLength (now (name .entry)) (length (now (out .entry)))) × (now (out .exit) ≡ partIn (now (name .entry)) (now (tag .entry)) (now (out .entry))) × (r ≤ length (now (out .entry))) ⌝ }
+    ensures { λ r. ⌜ (r ≡ partLength (now (name .entry)) (length (now (out .entry)))) × (now (out .exit) ≡ partIn (now (name .entry)) (now (tag .entry)) (now (out .entry))) × Counts r (now (out .exit)) ⌝ }
 {
     let k = folder(name);
     if out.len() < k {

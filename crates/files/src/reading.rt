@@ -7,6 +7,7 @@ ghost use Rattle.files.specs.Reads.{meaningOf, countIn};
 use crate::Seen;
 use crate::Stop;
 use crate::Why;
+use crate::saying;
 use crate::sight;
 
 // What one read brought.
@@ -105,4 +106,74 @@ pub fn read_all(fd: i32, buf: &mut [u8]) -> Taken
         ending: behind(fd),
         n,
     }
+}
+
+// Why a reading that ended so stops a program: a longer file does not, since its buffer has all that there is room for.
+pub fn stop_of(ending: Ending) -> Stop {
+    match ending {
+        Ending::Whole => saying::go_on(),
+        Ending::Longer => saying::go_on(),
+        Ending::Failed(error) => Stop {
+            why: Why::Read,
+            error,
+        },
+    }
+}
+
+fn unread(stop: Stop) -> Reading
+    ensures { λ r. ⌜ r .n ≡ 0 ⌝ }
+{
+    Reading {
+        stop,
+        n: 0,
+        seen: sight::nobody(),
+    }
+}
+
+// What an open descriptor reads, to its end, and which file it is.
+fn read_open(fd: i32, buf: &mut [u8]) -> Reading
+    ensures { λ r. ⌜ Counts (r .n) (now (buf .exit)) ⌝ }
+{
+    let seen = sight::open_file(fd);
+    if seen.error != 0 {
+        return unread(saying::stop(Why::Look));
+    }
+    let t = read_all(fd, buf);
+    let n = t.n;
+    let ending = t.ending;
+    Reading {
+        stop: stop_of(ending),
+        n,
+        seen,
+    }
+}
+
+// The file of a name, at the front of a buffer. A descriptor below 3 stands in for a closed standard one, and what a program
+// says would go into the file.
+pub fn read_file(name: &[u8], buf: &mut [u8]) -> Reading
+    ensures { λ r. ⌜ Counts (r .n) (now (buf .exit)) ⌝ }
+{
+    let fd = os::open_read(name);
+    if fd < 0 {
+        return unread(saying::stop(Why::Open));
+    }
+    if fd < 3 {
+        libc::close(fd);
+        return unread(saying::stop_by_rule(Why::Closed));
+    }
+    let r = read_open(fd, buf);
+    libc::close(fd);
+    r
+}
+
+// The file that argument i names.
+pub fn read_argument(i: usize, buf: &mut [u8]) -> Reading
+    ensures { λ r. ⌜ Counts (r .n) (now (buf .exit)) ⌝ }
+{
+    let mut name = io::buffer();
+    let k = os::arg(i, &mut name);
+    if os::errno() != 0 {
+        return unread(saying::stop(Why::Argument));
+    }
+    read_file(&name[..k], buf)
 }

@@ -9,6 +9,8 @@ use libc::types::timespec;
 // The system's numbers that the desk names, without the sign that C gives them.
 pub const ENOENT: u32 = 2;
 
+pub const EEXIST: u32 = 17;
+
 const EIO: u32 = 5;
 
 const ENAMETOOLONG: u32 = 36;
@@ -79,9 +81,9 @@ fn told_named(path: &[u8; PATH_MAX]) -> Told
     }
 }
 
-// The system's numbers have no sign, and 0 is none of them: it would say that nothing failed.
-fn number_of(errno: i32) -> u32 {
-    if 0 < errno { errno as u32 } else { EIO }
+// A number of the system's without its sign. 0 is none: it would say that nothing failed.
+pub fn number_of(number: i32) -> u32 {
+    if 0 < number { number as u32 } else { EIO }
 }
 
 // The system's number for a call that just failed.

@@ -3,7 +3,7 @@ use Prim.Native.Nat.{_-_}
 use mathlib.Core.Logic.{⊎-elim}
 use lib.ListN.{length}
 use borrow.Author.Needs.{needs}
-use Rattle.files.proofs.Loops.{Behind, behind-none, behind-here, behind-before, behind-all, behind-within}
+use Rattle.files.proofs.Loops.{Behind, behind-none, behind-here, behind-before, behind-all, behind-within, counted}
 use Rattle.files.proofs.names.folder.Statement.{statement}
 use Rattle.files.proofs.names.folder.Tie as tie
 
@@ -20,7 +20,7 @@ loop-again : tie.Need-loop-again Inv-loop μ-loop
 loop-again c = ⊎-elim (λ w. search (needs, behind-here)) (λ w. search (needs, behind-before)) (c .if1 .came)
 
 returns : tie.Need-returns Inv-loop μ-loop
-returns c = (search (needs, behind-all), search (needs, behind-within))
+returns c = (search (needs, behind-all), counted _ _ (search (needs, behind-within)))
 
 pub folder-spec : {M : Type 1} → statement M
 folder-spec = tie.close (tie.spec Inv-loop μ-loop loop-holds (λ c. search needs) (λ c. search needs) (λ c. search needs) (λ c. search needs) loop-again returns)

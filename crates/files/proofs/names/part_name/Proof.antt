@@ -1,6 +1,7 @@
 use native.Mathlib.Omega.{arith}
-use lib.ListN.{length-take}
+use lib.ListN.{length-take, length-append, length-drop}
 use borrow.Author.Needs.{needs}
+use Rattle.files.proofs.Loops.{counted}
 use Rattle.files.proofs.Parts.{short-length, short-out, whole-length, whole-out}
 use Rattle.files.proofs.names.part_name.Statement.{statement}
 use Rattle.files.proofs.names.part_name.Tie as tie
@@ -50,7 +51,7 @@ returns-3 : tie.Need-returns-3
 returns-3 c =
     let put = c .before .before in
     let folder = put .before .before .before .before .folder in
-    (whole-length _ _ (folder .ensures .0) _ (omega arith), whole-out _ _ (folder .ensures .0) _ _ _ (omega arith) (put .put-part .ensures), omega arith)
+    (whole-length _ _ (folder .ensures .0) _ (omega arith), whole-out _ _ (folder .ensures .0) _ _ _ (omega arith) (put .put-part .ensures), counted _ _ (simp (length-append, length-drop, put .put-part .kept .0, length-take) (omega arith)))
 
 pub part-name-spec : {M : Type 1} → statement M
 part-name-spec =
