@@ -3,3 +3,4 @@ pub mod Loops
 pub mod Parts
 pub mod Verdicts
 pub mod Filled
+pub mod Same

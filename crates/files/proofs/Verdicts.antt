@@ -5,7 +5,10 @@ use mathlib.Core.List.{List}
 use mathlib.Core.Path.{_≡_}
 use borrow.Author.Tests.{eq-eqb, ne-eqb}
 use Rattle.files.specs.declared.Seen.{Seen}
-use Rattle.files.specs.declared.Why.the-variants.{Nothing, Look, Link, Kind, Input}
+use Rattle.files.specs.declared.Why.the-variants.{Nothing, Read, Look, Link, Kind, Input}
+use Rattle.files.specs.declared.reading.Ending.{Ending}
+use Rattle.files.specs.declared.reading.Ending.the-variants.{Failed}
+use Rattle.files.specs.Stops.{stopBy, stopOf}
 use Rattle.files.specs.Rule.{kindOf, isInput, verdictOf}
 
 module _ (seen : Seen) (inputs : List Seen) where
@@ -33,3 +36,7 @@ module _ (seen : Seen) (inputs : List Seen) where
     pub not-read : (b : Bool) → (kind ≡ 10 → ⊥) → kind ≡ 8 → b ≡ isInput seen inputs → b ≡ false → Nothing ≡ verdictOf seen inputs
     unfolding verdictOf
     not-read b t u q r = simp (ne-eqb _ _ n, eq-eqb _ _ e, ← is, ne-eqb _ _ t, eq-eqb _ _ u, ← q, r)
+
+-- a reading that failed stops with its number
+pub stop-failed : (ending : Ending) (error : ℕ) → ending ≡ Failed error → stopBy Read error ≡ stopOf ending
+stop-failed ending error e = rw e

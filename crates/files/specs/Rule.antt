@@ -13,6 +13,13 @@ use Rattle.files.specs.declared.Why.the-variants.{Nothing, Look, Link, K
 abbrev pub kindOf : ℕ → ℕ
 kindOf mode = mode / 4096 % 16
 
+-- nothing is told of a file but why; and what stands for an input that a program does not have
+abbrev pub unseen : ℕ → Seen
+unseen error = record { error = error; device = 0; node = 0; mode = 0; owner = 0; group = 0 }
+
+abbrev pub nobody : Seen
+nobody = unseen 2
+
 -- the system tells of both, and they are one number on one device
 abbrev pub sameFile : Seen → Seen → Bool
 sameFile a b = (eqb (a .error) 0 && eqb (b .error) 0) && (eqb (a .device) (b .device) && eqb (a .node) (b .node))

@@ -4,6 +4,7 @@ ghost use mathlib.Core.Path.{_≡_};
 ghost use lib.ListN.{length};
 ghost use Rattle.io.specs.Counts.{Counts};
 ghost use Rattle.files.specs.Reads.{meaningOf, countIn};
+ghost use Rattle.files.specs.Stops.{stopOf};
 use crate::Seen;
 use crate::Stop;
 use crate::Why;
@@ -109,7 +110,9 @@ pub fn read_all(fd: i32, buf: &mut [u8]) -> Taken
 }
 
 // Why a reading that ended so stops a program: a longer file does not, since its buffer has all that there is room for.
-pub fn stop_of(ending: Ending) -> Stop {
+pub fn stop_of(ending: Ending) -> Stop
+    ensures { λ r. ⌜ r ≡ stopOf ending ⌝ }
+{
     match ending {
         Ending::Whole => saying::go_on(),
         Ending::Longer => saying::go_on(),

@@ -1,10 +1,14 @@
 // What a program says on its standard output, lines KEY=VALUE, and what stopped it.
+ghost use mathlib.Core.Path.{_≡_};
+ghost use Rattle.files.specs.Stops.{noStop, isStop};
 use crate::Stop;
 use crate::Why;
 use crate::sight;
 use libc::STDOUT_FILENO;
 
-pub fn go_on() -> Stop {
+pub fn go_on() -> Stop
+    ensures { λ r. ⌜ r ≡ noStop ⌝ }
+{
     Stop {
         why: Why::Nothing,
         error: 0,
@@ -24,11 +28,26 @@ pub fn stop(why: Why) -> Stop {
     }
 }
 
-pub fn stops(s: Stop) -> bool {
+pub fn stops(s: Stop) -> bool
+    ensures { λ r. ⌜ r ≡ isStop (s .why) ⌝ }
+{
     let why = s.why;
     match why {
         Why::Nothing => false,
-        _ => true,
+        Why::Argument => true,
+        Why::Closed => true,
+        Why::Open => true,
+        Why::Read => true,
+        Why::Look => true,
+        Why::Link => true,
+        Why::Kind => true,
+        Why::Input => true,
+        Why::Protected => true,
+        Why::Create => true,
+        Why::Mode => true,
+        Why::Write => true,
+        Why::Sync => true,
+        Why::Move => true,
     }
 }
 

@@ -1,5 +1,7 @@
 // What the system tells of a file, by its name or by a descriptor. The two functions that lend C its struct are proved by a walk.
+ghost use mathlib.Core.Path.{_≡_};
 ghost use Rattle.libc.specs.Io.{Ended};
+ghost use Rattle.files.specs.Rule.{unseen, nobody};
 use crate::Seen;
 use crate::names;
 use libc::PATH_MAX;
@@ -91,7 +93,9 @@ pub fn error_number() -> u32 {
     number_of(os::errno())
 }
 
-fn unseen(error: u32) -> Seen {
+fn unseen(error: u32) -> Seen
+    ensures { λ r. ⌜ r ≡ unseen error ⌝ }
+{
     Seen {
         error,
         device: 0,
@@ -103,7 +107,9 @@ fn unseen(error: u32) -> Seen {
 }
 
 // No file: what stands for an input that a program does not have.
-pub fn nobody() -> Seen {
+pub fn nobody() -> Seen
+    ensures { λ r. ⌜ r ≡ nobody ⌝ }
+{
     unseen(ENOENT)
 }
 

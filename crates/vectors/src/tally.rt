@@ -73,7 +73,10 @@ pub fn report_all(t: Tally, had: u64, files: u64) {
     io::print_decimal(STDOUT_FILENO, files);
     io::write_all(STDOUT_FILENO, b" files run");
     if had != files {
-        io::write_all(STDOUT_FILENO, b"; a file is missing, cannot be read or is empty");
+        io::write_all(
+            STDOUT_FILENO,
+            b"; a file is missing, cannot be read or is empty",
+        );
     }
     io::write_all(STDOUT_FILENO, b"\n");
 }
