@@ -1,10 +1,11 @@
 // Presses a title: its BIN, its CFG and the image's name are the arguments. Prints what the desk reads: `result=built` with the
-// image's length and the words of RAM that it needs, `result=refused` with number and place, or `result=stopped` with the reason.
+// image's length and the words of RAM that it needs, `result=refused` with number and place, or `result=stopped` with the file
+// and the reason.
 ghost use mathlib.Core.Path.{_≡_};
 ghost use lib.ListN.{length};
-ghost use Rattle.io.specs.Counts.{Counts};
 use build::Building;
-use libc::STDOUT_FILENO;
+use files::INPUTS;
+use files::Seen;
 
 // Room for one byte more than a BIN and a CFG may have, so that a longer file is seen to be longer, and for any image that the
 // builder makes.
@@ -26,142 +27,79 @@ fn image_room() -> [u8; 655360]
     [0; 655360]
 }
 
-// What was read of a file: whether it was read to its end or until the buffer was full, and how many bytes.
-struct Taken {
-    whole: bool,
-    n: usize,
+// What the desk reads of a build.
+struct Answer {
+    number: u64,
+    place: u64,
+    with: u64,
+    length: usize,
+    needed: u64,
 }
 
-// Whether nothing is left to read: a read that fails is no end.
-fn at_end(fd: i32) -> bool {
-    let mut one = [0u8; 1];
-    libc::read(fd, &mut one) == 0
-}
-
-// The file that argument i names, at the front of a buffer.
-fn take(i: usize, buf: &mut [u8]) -> Taken
-    ensures { λ r. ⌜ Counts (r .n) (now (buf .exit)) ⌝ }
-{
-    let mut name = io::buffer();
-    let k = os::arg(i, &mut name);
-    if os::errno() != 0 {
-        return Taken { whole: false, n: 0 };
-    }
-    let fd = os::open_read(&name[..k]);
-    if fd < 0 {
-        return Taken { whole: false, n: 0 };
-    }
-    let n = io::read_full(fd, buf);
-    let whole = n == buf.len() || at_end(fd);
-    libc::close(fd);
-    Taken { whole, n }
-}
-
-// A file's name with `.part` behind it: what is written there takes the file's place only when it is whole.
-fn beside(name: [u8; 4096], k: usize) -> [u8; 4096]
-    ensures { λ r. ⌜ 4096 ≡ length r ⌝ }
-{
-    let mut part = name;
-    if k <= 4090 {
-        part[k] = b'.';
-        part[k + 1] = b'p';
-        part[k + 2] = b'a';
-        part[k + 3] = b'r';
-        part[k + 4] = b't';
-    }
-    part
-}
-
-// Writes a file whole and closes it.
-fn write_file(name: &[u8], bytes: &[u8]) -> bool {
-    let fd = os::open_overwrite(name);
-    if fd < 0 {
-        return false;
-    }
-    let all = io::write_all(fd, bytes);
-    let closed = libc::close(fd);
-    all && closed == 0
-}
-
-// The image into the file that argument 3 names; where that fails, whatever stood there stays.
-fn put(image: &[u8]) -> bool {
-    let mut name = io::buffer();
-    let k = os::arg(3, &mut name);
-    if os::errno() != 0 {
-        return false;
-    }
-    if 4090 < k {
-        return false;
-    }
-    let part = beside(name, k);
-    let e = k + 5;
-    if write_file(&part[..e], image) {
-        if os::rename(&part[..e], &name[..k]) == 0 {
-            return true;
-        }
-    }
-    os::unlink(&part[..e]);
-    false
-}
-
-fn say(text: &[u8]) {
-    io::write_all(STDOUT_FILENO, text);
-}
-
-fn line(name: &[u8], v: u64) {
-    say(name);
-    io::print_decimal(STDOUT_FILENO, v);
-    say(b"\n");
-}
-
-fn refused(b: Building) {
-    say(b"result=refused\n");
-    line(b"code=", b.number as u64);
-    line(b"at=", b.place as u64);
-    if b.number == 27 {
-        line(b"with=", b.with as u64);
+// The one place here that takes the builder's answer apart.
+fn answer_of(b: Building) -> Answer {
+    Answer {
+        number: b.number as u64,
+        place: b.place as u64,
+        with: b.with as u64,
+        length: b.length,
+        needed: b.needed as u64,
     }
 }
 
-fn built(b: Building) {
-    say(b"result=built\n");
-    line(b"length=", b.length as u64);
-    line(b"needed=", b.needed as u64);
+fn refused(a: Answer) {
+    files::say(b"result=refused\n");
+    files::line(b"code=", a.number);
+    files::line(b"at=", a.place);
+    if a.number == 27 {
+        files::line(b"with=", a.with);
+    }
+}
+
+fn built(a: Answer) {
+    files::say(b"result=built\n");
+    files::line(b"length=", a.length as u64);
+    files::line(b"needed=", a.needed);
 }
 
 // Builds the image and writes it.
-fn press(bin: &[u8], cfg: &[u8]) {
+fn press(bin: &[u8], cfg: &[u8], inputs: [Seen; INPUTS]) {
     let mut out = image_room();
-    let b = build::build(bin, cfg, &mut out);
-    let n = b.length;
-    if b.number != 0 {
-        refused(b);
+    let a = answer_of(build::build(bin, cfg, &mut out));
+    let n = a.length;
+    if a.number != 0 {
+        refused(a);
         return;
     }
+    // never so: 29 would have come first
     if out.len() < n {
         return;
     }
-    if put(&out[..n]) {
-        built(b);
+    let s = files::write_argument(3, &out[..n], inputs);
+    if files::stops(s) {
+        files::stopped(b"OUT", s);
     } else {
-        say(b"result=stopped\nwhy=the image can not be written\n");
+        built(a);
     }
 }
 
 fn main() {
     let mut bin = bin_room();
     let mut cfg = cfg_room();
-    let b = take(1, &mut bin);
+    let b = files::read_argument(1, &mut bin);
     let bn = b.n;
-    if !b.whole {
-        say(b"result=stopped\nwhy=the BIN can not be read\n");
+    if files::stops(b.stop) {
+        files::stopped(b"BIN", b.stop);
         return;
     }
-    let c = take(2, &mut cfg);
+    let c = files::read_argument(2, &mut cfg);
     let cn = c.n;
-    if !c.whole {
-        say(b"result=stopped\nwhy=the CFG can not be read\n");
+    if files::stops(c.stop) {
+        files::stopped(b"CFG", c.stop);
         return;
     }
-    press(&bin[..bn], &cfg[..cn]);
+    let from_bin = b.seen;
+    let from_cfg = c.seen;
+    let none = files::nobody();
+    press(&bin[..bn], &cfg[..cn], [from_bin, from_cfg, none, none]);
 }

@@ -1,10 +1,10 @@
-// The image card: reads an image from standard input, loads it into a RAM of zeros, and prints what the load did.
+// The image card: what is printed of an image, and the program that prints it.
+mod program;
+
+pub use program::card;
 ghost use mathlib.Core.Path.{_≡_};
-ghost use lib.ListN.{length};
 ghost use Rattle.places.specs.Limits.{lent};
 ghost use Rattle.report.specs.Report.{reportOf, reportRamOf};
-use libc::STDIN_FILENO;
-use libc::STDOUT_FILENO;
 
 // The longest file that the card takes.
 const CARD_LIMIT: usize = 24576;
@@ -35,41 +35,5 @@ pub fn answer(image: &[u8], ram: &mut [u16]) -> Report
         place: r.place,
         blocks: r.blocks,
         words: r.words,
-    }
-}
-
-// Room for one byte more than the card takes: a longer file fills it, however long it is.
-fn file_room() -> [u8; 24577]
-    ensures { λ r. ⌜ 24577 ≡ length r ⌝ }
-{
-    [0; 24577]
-}
-
-fn blank_ram() -> [u16; 16384]
-    ensures { λ r. ⌜ 16384 ≡ length r ⌝ }
-{
-    [0; 16384]
-}
-
-fn print_line(name: &[u8], value: u64) {
-    io::write_all(STDOUT_FILENO, name);
-    io::print_decimal(STDOUT_FILENO, value);
-    io::write_all(STDOUT_FILENO, b"\n");
-}
-
-// The program.
-pub fn card() {
-    let mut file = file_room();
-    let mut ram = blank_ram();
-    let n = io::read_full(STDIN_FILENO, &mut file);
-    let r = answer(&file[..n], &mut ram);
-    if r.number == 0 {
-        io::write_all(STDOUT_FILENO, b"result=loaded\n");
-        print_line(b"blocks=", r.blocks as u64);
-        print_line(b"words=", r.words as u64);
-    } else {
-        io::write_all(STDOUT_FILENO, b"result=refused\n");
-        print_line(b"code=", r.number as u64);
-        print_line(b"at=", r.place as u64);
     }
 }

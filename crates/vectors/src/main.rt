@@ -1,5 +1,5 @@
 // Runs 001's vectors, and the vector files that the independent second program makes (second/README.md), and compares:
-// a line for each family, and the first case that differs.
+// a line for each family, and the first case that differs; the last line says whether every file was there and had cases.
 ghost use Prim.Native.Nat.{_≤_, _<_};
 ghost use mathlib.Core.Path.{_≡_};
 ghost use lib.ListN.{length};
@@ -110,7 +110,7 @@ fn put_name(family: Family, out: &mut [u8]) -> usize {
     }
 }
 
-// Runs a family's file, NAME.vec, and prints its line.
+// Runs a family's file, NAME.vec, and prints its line. A file that is missing, or not read to its end, has no case.
 fn run_file(
     family: Family,
     ieee: &[u32; 2048],
@@ -119,19 +119,19 @@ fn run_file(
     b: &mut [u8],
     cfg: &mut [u8],
     ram: &mut [u16],
-) {
+) -> Tally {
     let mut name = [0u8; 16];
     let k = put_name(family, &mut name);
     let end = fill::put(&mut name, k, b".vec");
-    let fd = os::open_read(front(&name, end));
-    if fd < 0 {
-        os::fail(front(&name, end));
-        return;
+    let r = files::read_file(front(&name, end), file);
+    let n = r.n;
+    if basics::either(files::stops(r.stop), n == file.len()) {
+        tally::not_run(front(&name, k));
+        return tally::nothing();
     }
-    let n = io::read_full(fd, file);
-    libc::close(fd);
     let t = run(family, front(file, n), ieee, a, b, cfg, ram);
     tally::report(front(&name, k), t);
+    t
 }
 
 fn family_of(k: usize) -> Family {
@@ -147,13 +147,26 @@ fn family_of(k: usize) -> Family {
     }
 }
 
-fn run_files(file: &mut [u8], a: &mut [u8], b: &mut [u8], cfg: &mut [u8], ram: &mut [u16]) {
+// Runs every family's file, and prints the line of all: how many cases, how many differ, how many files had any.
+fn run_files(
+    before: Tally,
+    file: &mut [u8],
+    a: &mut [u8],
+    b: &mut [u8],
+    cfg: &mut [u8],
+    ram: &mut [u16],
+) {
     let ieee = sums::tables(sums::IEEE);
+    let mut all = before;
+    let mut had = 0;
     let mut k = 0;
     while k < FAMILIES {
-        run_file(family_of(k), &ieee, file, a, b, cfg, ram);
+        let t = run_file(family_of(k), &ieee, file, a, b, cfg, ram);
+        had = tally::with_cases(had, t);
+        all = tally::both_of(all, t);
         k += 1;
     }
+    tally::report_all(all, had, FAMILIES as u64);
 }
 
 fn main() {
@@ -162,6 +175,7 @@ fn main() {
     let mut b = byte_room();
     let mut cfg = [0u8; 20480];
     let mut ram = word_room();
-    tally::report(b"001", checksums::vectors());
-    run_files(&mut file, &mut a, &mut b, &mut cfg, &mut ram);
+    let first = checksums::vectors();
+    tally::report(b"001", first);
+    run_files(first, &mut file, &mut a, &mut b, &mut cfg, &mut ram);
 }

@@ -1,12 +1,12 @@
--- `press::press` meets its contract: an image that was written lies in the buffer.
+-- `press::press` is safe and ends: an image that was written lies in the buffer.
 use native.Mathlib.Omega.{arith}
 use lib.ListN.{length-take}
 use borrow.Author.Needs.{needs}
 use Rattle.press.proofs.press.Statement.{statement}
 use Rattle.press.proofs.press.Tie as tie
 
-slice-aggregate-put : tie.Need-slice-aggregate-put
-slice-aggregate-put c = simp length-take (omega arith)
+slice-aggregate-write-argument : tie.Need-slice-aggregate-write-argument
+slice-aggregate-write-argument c = simp length-take (omega arith)
 
 pub press-spec : {M : Type 1} → statement M
 press-spec =
@@ -16,13 +16,15 @@ press-spec =
     (λ c. search needs)
     (λ c κs. search needs)
     (λ c κs. search needs)
+    (λ c κs. search needs)
     (λ c. search needs)
     (λ c. search needs)
     (λ c. search needs)
-    slice-aggregate-put
+    slice-aggregate-write-argument
     (λ c κs. search needs)
     (λ c κs. search needs)
     (λ c. search needs)
+    (λ c κs. search needs)
     (λ c κs. search needs)
     (λ c. search needs)
     (λ c. search needs))

@@ -7,10 +7,11 @@ use Rattle.vectors.proofs.run_files.Statement.{statement}
 use Rattle.vectors.proofs.run_files.Tie as tie
 
 abbrev Inv-loop : tie.InvT-loop
-Inv-loop file₀ a₀ b₀ cfg₀ ram₀ ieee k₀ file a b cfg ram k = (k ≤ 8) × (length file ≡ length file₀) × (length a ≡ length a₀) × (length b ≡ length b₀) × (length cfg ≡ length cfg₀) × (length ram ≡ length ram₀)
+Inv-loop file₀ a₀ b₀ cfg₀ ram₀ ieee all₀ had₀ k₀ file a b cfg ram all had k =
+    (k ≤ 8) × (length file ≡ length file₀) × (length a ≡ length a₀) × (length b ≡ length b₀) × (length cfg ≡ length cfg₀) × (length ram ≡ length ram₀)
 
 abbrev μ-loop : tie.MeasureT-loop
-μ-loop file₀ a₀ b₀ cfg₀ ram₀ ieee k₀ file a b cfg ram k = 8 - k
+μ-loop file₀ a₀ b₀ cfg₀ ram₀ ieee all₀ had₀ k₀ file a b cfg ram all had k = 8 - k
 
 pub run-files-spec : {M : Type 1} → statement M
 run-files-spec =
@@ -22,9 +23,12 @@ run-files-spec =
     (λ c. search needs)
     (λ c κs. search needs)
     (λ c κs. search needs)
+    (λ c κs. search needs)
+    (λ c κs. search needs)
     (λ c. search needs)
     (λ c. search needs)
     (λ c. search needs)
+    (λ c κs. search needs)
     (λ c. search needs)
     (λ c. search needs)
     (λ c. search needs)

@@ -1,0 +1,62 @@
+// The program: reads an image from standard input, loads it into a RAM of zeros, and prints what the load did.
+ghost use mathlib.Core.Path.{_≡_};
+ghost use lib.ListN.{length};
+use crate::Report;
+use libc::STDIN_FILENO;
+
+// Room for one byte more than the card takes: a longer file fills it, however long it is.
+fn file_room() -> [u8; 24577]
+    ensures { λ r. ⌜ 24577 ≡ length r ⌝ }
+{
+    [0; 24577]
+}
+
+fn blank_ram() -> [u16; 16384]
+    ensures { λ r. ⌜ 16384 ≡ length r ⌝ }
+{
+    [0; 16384]
+}
+
+// What is printed of a load.
+struct Shown {
+    number: u64,
+    place: u64,
+    blocks: u64,
+    words: u64,
+}
+
+// The one place here that takes the answer apart.
+fn shown_of(r: Report) -> Shown {
+    Shown {
+        number: r.number as u64,
+        place: r.place as u64,
+        blocks: r.blocks as u64,
+        words: r.words as u64,
+    }
+}
+
+fn show(s: Shown) {
+    if s.number == 0 {
+        files::say(b"result=loaded\n");
+        files::line(b"blocks=", s.blocks);
+        files::line(b"words=", s.words);
+    } else {
+        files::say(b"result=refused\n");
+        files::line(b"code=", s.number);
+        files::line(b"at=", s.place);
+    }
+}
+
+pub fn card() {
+    let mut file = file_room();
+    let mut ram = blank_ram();
+    let t = files::read_all(STDIN_FILENO, &mut file);
+    let n = t.n;
+    let ending = t.ending;
+    let s = files::stop_of(ending);
+    if files::stops(s) {
+        files::stopped(b"IMAGE", s);
+        return;
+    }
+    show(shown_of(crate::answer(&file[..n], &mut ram)));
+}
