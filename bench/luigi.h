@@ -22,7 +22,7 @@ typedef struct {
 Loaded *luigi_load(Loaded *answer, const uint8_t *image, size_t n, uint16_t *ram, size_t words);
 
 typedef struct {
-    uint32_t number, place, with, needed;
+    uint32_t number, needed;
     size_t length;
 } Built;
 

@@ -18,10 +18,13 @@ laid a (suc n) w m = set (laid a n w m) (a + n) (w n)
 abbrev pub lay : ℕ → List ℕ → List ℕ → List ℕ
 lay a ws ram = laid a (length ws) (λ i. getD ws i 0) ram
 
--- what f makes of each, one after the other
+-- what f makes of each, one after the other; and lists, one behind the other
 unfoldable pub joined : {A : Type 0} → (A → List ℕ) → List A → List ℕ
 joined f [] = []
 joined f (x ∷ xs) = f x ++ joined f xs
+
+abbrev pub flat : List (List ℕ) → List ℕ
+flat xs = joined (λ x. x) xs
 
 -- P holds of each
 pub data Each {A : Type 0} (P : A → Type 0) : List A → Type 0 where

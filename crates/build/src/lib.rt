@@ -5,22 +5,25 @@ ghost use lib.ListN.{length, take};
 ghost use Rattle.cfg.specs.File.{entriesOf};
 ghost use Rattle.rules.specs.Accepted.{Accepted};
 ghost use Rattle.build.specs.Building.{flagBytes, uidOf, wrongBin, buildingOf, builtOf};
-ghost use Rattle.build.specs.Code.Answers.{answeredOf, Pressed};
+ghost use Rattle.build.specs.Code.Answers.{answeredOf, bare, Pressed};
+use basics::Refusal;
 use basics::either;
 use basics::high;
 use basics::low;
 use lines::Line;
+use places::BIN_LIMIT;
+use places::LINE_LIMIT;
+use places::PAGE_LIMIT;
+use places::PAGE_SIZE;
 use save::Writing;
 
-// The most bytes that a BIN may have.
-const BIN_LIMIT: usize = 524288;
+// The words that a build lays out.
+const RAM_WORDS: usize = PAGE_LIMIT * PAGE_SIZE;
 
-// What building answers: a refusal's number and place, and at 27 the earlier line that the named one collides with; the
-// image's length, also where the buffer is too short for it; and the words of RAM that the image needs.
+// What building answers: its refusal; the image's length, also where the buffer is too short for it; and the words of RAM that the
+// image needs.
 pub struct Building {
-    pub number: u32,
-    pub place: u32,
-    pub with: u32,
+    pub refusal: Refusal,
     pub length: usize,
     pub needed: u32,
 }
@@ -69,30 +72,38 @@ fn answered(w: Writing, pages: u32) -> Building
     requires { ⌜ pages ≤ 272 ⌝ }
     ensures { λ r. ⌜ r ≡ answeredOf w pages ⌝ }
 {
-    if w.number != 0 {
+    let r = w.refusal;
+    if r.number != 0 {
         return Building {
-            number: w.number,
-            place: w.place,
-            with: 0,
+            refusal: r,
             length: w.length,
             needed: 0,
         };
     }
     Building {
-        number: 0,
-        place: 0,
-        with: 0,
+        refusal: r,
         length: w.length,
-        needed: 4096 * pages,
+        needed: PAGE_SIZE as u32 * pages,
     }
 }
 
-// The image of lines that the rules accept: laid out in a RAM of 80 pages, and written by the plain writer.
-fn press(bin: &[u8], cfg: &[u8], count: u32, lines: [Line; 64], out: &mut [u8]) -> Building
+// A refusal, and zero in all else.
+fn refuse(r: Refusal) -> Building
+    ensures { λ b. ⌜ b ≡ bare r ⌝ }
+{
+    Building {
+        refusal: r,
+        length: 0,
+        needed: 0,
+    }
+}
+
+// The image of lines that the rules accept: laid out in a RAM of PAGE_LIMIT pages, and written by the plain writer.
+fn press(bin: &[u8], cfg: &[u8], count: u32, lines: [Line; LINE_LIMIT], out: &mut [u8]) -> Building
     requires { ⌜ Accepted (now bin) (take count lines) ⌝ }
     ensures { λ r. ⌜ Pressed (now (bin .entry)) (now (cfg .entry)) (take count lines) (now (out .entry)) r (now (out .exit)) ⌝ }
 {
-    let mut ram = [0u16; 327680];
+    let mut ram = [0u16; RAM_WORDS];
     let plan = layout::lay_out(bin, count, lines, &mut ram);
     let flags = flag_bytes();
     let uid = uid_of(bin, cfg);
@@ -118,35 +129,18 @@ pub fn build(bin: &[u8], cfg: &[u8], out: &mut [u8]) -> Building
     ensures { λ r. ⌜ (r ≡ buildingOf (now (bin .entry)) (now (cfg .entry)) (now (out .entry))) × (now (out .exit) ≡ builtOf (now (bin .entry)) (now (cfg .entry)) (now (out .entry))) ⌝ }
 {
     if is_wrong(bin) {
-        return Building {
-            number: 21,
-            place: 0,
-            with: 0,
-            length: 0,
-            needed: 0,
-        };
+        return refuse(basics::refuse(21, 0));
     }
     let r = cfg::read_cfg(cfg);
-    if r.number != 0 {
-        return Building {
-            number: r.number,
-            place: r.place,
-            with: 0,
-            length: 0,
-            needed: 0,
-        };
+    let read = r.refusal;
+    if read.number != 0 {
+        return refuse(read);
     }
     let lines = r.lines;
     let words = (bin.len() / 2) as u32;
     let j = rules::judge(words, r.count, lines);
     if j.number != 0 {
-        return Building {
-            number: j.number,
-            place: j.place,
-            with: j.with,
-            length: 0,
-            needed: 0,
-        };
+        return refuse(basics::refuse(j.number, j.place as usize));
     }
     press(bin, cfg, r.count, lines, out)
 }

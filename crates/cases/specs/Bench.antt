@@ -1,17 +1,17 @@
 -- The bench cases marked (P), of the definitions that the promises use, as one table under one statement (01, Bench cases).
-use Prim.Native.Nat.{ℕ, suc}
+use Prim.Native.Nat.{ℕ}
 use mathlib.Core.Path.{_≡_}
 use mathlib.Core.Bool.{true}
+use Rattle.basics.specs.Refusals.{refuse, noRefusal}
 use Rattle.places.specs.declared.Console.{Console}
-use Rattle.places.specs.Limits.{lineLimit}
 use Rattle.sums.specs.Crc.{dowcrcOf, crc32Of}
 use Rattle.sums.specs.Cases.{upTo15, four}
 use Rattle.switches.specs.declared.Request.the-variants.{Entry, Nothing}
 use Rattle.switches.specs.Flips.{flipMapping, flipPermissions, asks}
 use Rattle.cart.specs.Cells.{locate}
 use Rattle.cart.specs.Writes.{storedWord}
-use Rattle.grammar.specs.Words.{text}
-use Rattle.cfg.specs.File.{entriesOf, readingOf, refusal}
+use Rattle.text.specs.Bytes.{text}
+use Rattle.cfg.specs.File.{entriesOf, readingOf, refused}
 use Rattle.cfg.specs.Examples.{entries}
 use Rattle.plays.specs.Bench.{six, Six, seven, Seven}
 
@@ -42,5 +42,5 @@ pub record Bench : Type 0 where
   pub page-file : entriesOf (text "[mapping]\n$0000 - $0FFF = $C000 PAGE 2") ≡ seven
   pub page-2 : Seven
   -- 8. 64 entries pass rule 24, 65 don't
-  pub entries-64 : readingOf (entries lineLimit) .number ≡ 0
-  pub entries-65 : readingOf (entries (suc lineLimit)) ≡ refusal 24 (suc (suc lineLimit))
+  pub entries-64 : readingOf (entries 64) .refusal ≡ noRefusal
+  pub entries-65 : readingOf (entries 65) ≡ refused (refuse 24 66)

@@ -1,5 +1,4 @@
-pub mod Ends
-pub mod Bytes
 pub mod Scans
-pub mod Verdicts
+pub mod Notes
+pub mod Answers
 pub mod Same

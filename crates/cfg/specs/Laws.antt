@@ -1,5 +1,4 @@
 -- Theorems over the definitions.
-pub mod Steps
-pub mod Examples
-pub mod File
+pub mod Refusals
 pub mod Entries
+pub mod Examples

@@ -3,4 +3,4 @@ use Rattle.build.specs.declared.Building.{Building}
 use Rattle.exports.specs.declared.Built.{Built}
 
 abbrev pub builtAs : Building → Built
-builtAs b = record { number = b .number; place = b .place; with = b .with; needed = b .needed; length = b .length }
+builtAs b = record { number = b .refusal .number; needed = b .needed; place = b .refusal .place; length = b .length }

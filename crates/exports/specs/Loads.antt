@@ -1,7 +1,7 @@
 -- What a load answers, as C lays it out (01, Numbers that come back).
 use Prim.Native.Nat.{ℕ}
 use mathlib.Core.List.{List, _∷_, []}
-use Rattle.tables.specs.declared.Compat.{Compat}
+use Rattle.header.specs.declared.Compat.{Compat}
 use Rattle.load.specs.declared.Loading.{Loading}
 use Rattle.exports.specs.declared.Loaded.{Loaded}
 
@@ -12,8 +12,8 @@ fieldsOf c = c .intellivoice ∷ c .ecs ∷ c .intellivision2 ∷ c .keyboard �
 abbrev pub loadedOf : Loading → Loaded
 loadedOf l =
     record {
-      number = l .number;
-      place = l .place;
+      number = l .refusal .number;
+      place = l .refusal .place;
       blocks = l .blocks;
       words = l .words;
       compat = fieldsOf (l .compat);

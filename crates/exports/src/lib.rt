@@ -11,11 +11,11 @@ ghost use Rattle.exports.specs.Runs.{activeAs, heard, answersIn, activeA
 use build::Building;
 use cart::Answer;
 use cart::Cartridge;
+use header::Compat;
 use load::Loading;
 use places::Console;
 use places::FLIP_ENTRIES;
 use places::PARAGRAPHS;
-use tables::Compat;
 
 // The three checksums.
 #[no_mangle]
@@ -71,9 +71,10 @@ fn answered(l: Loading) -> Loaded
     let mapping = cartridge.mapping;
     let permissions = cartridge.permissions;
     let flips = cartridge.flips;
+    let r = l.refusal;
     Loaded {
-        number: l.number,
-        place: l.place,
+        number: r.number,
+        place: r.place,
         blocks: l.blocks,
         words: l.words,
         compat: compat_of(l.compat),
@@ -95,20 +96,19 @@ pub extern "C" fn luigi_load(image: &[u8], ram: &mut [u16]) -> Loaded
 #[repr(C)]
 pub struct Built {
     pub number: u32,
-    pub place: u32,
-    pub with: u32,
     pub needed: u32,
+    pub place: usize,
     pub length: usize,
 }
 
 fn built_as(b: Building) -> Built
     ensures { λ r. ⌜ r ≡ builtAs b ⌝ }
 {
+    let r = b.refusal;
     Built {
-        number: b.number,
-        place: b.place,
-        with: b.with,
+        number: r.number,
         needed: b.needed,
+        place: r.place,
         length: b.length,
     }
 }

@@ -1,5 +1,4 @@
-pub mod Lists
-pub mod Cuts
-pub mod Digits
-pub mod Shapes
+pub mod Words
+pub mod Numbers
+pub mod Entries
 pub mod Same

@@ -1,3 +1,2 @@
 -- What private functions promise.
-pub mod Words
 pub mod Steps

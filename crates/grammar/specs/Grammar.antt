@@ -1,11 +1,12 @@
 -- What a line says, by its words and the section that it stands in (01, What a CFG may say).
-use Prim.Native.Nat.{ℕ, _-_, _+_, _*_}
+use Prim.Native.Nat.{ℕ, _+_, _*_}
 use Prim.Native.Char.{code}
-use Prim.Native.String.{String}
-use mathlib.Core.Bool.{cond, _&&_, Bool, true, false}
+use mathlib.Core.Bool.{cond, _&&_, Bool}
 use mathlib.Core.List.{List, [], _∷_}
 use lib.Dec.{leb, eqb}
 use lib.ListN.{length}
+use Rattle.places.specs.Places.{binWord, console, page}
+use Rattle.text.specs.Spelling.{is, digitOf}
 use Rattle.lines.specs.declared.Width.{Width}
 use Rattle.lines.specs.declared.Width.the-variants.{Sixteen, Eight}
 use Rattle.lines.specs.declared.Entry.{Entry}
@@ -16,24 +17,20 @@ use Rattle.grammar.specs.declared.Says.{Says}
 use Rattle.grammar.specs.declared.Says.the-variants.{Outside, Claims, Heading, Blank}
 use Rattle.grammar.specs.declared.Section.the-variants.{Mapping, Memattr, Nowhere}
 use Rattle.grammar.specs.declared.Section.{Section}
-use Rattle.grammar.specs.Words.{text, wordsOf}
-
--- a hex digit's value, in either case; 16 for any other byte
-abbrev pub digitOf : ℕ → ℕ
-digitOf b =
-    cond (leb (code "0") b && leb b (code "9")) (b - code "0")
-    (cond (leb (code "A") b && leb b (code "F")) (b - code "A" + 10)
-    (cond (leb (code "a") b && leb b (code "f")) (b - code "a" + 10) 16))
+use Rattle.grammar.specs.Words.{wordsOf, word}
 
 -- hex digits to the word's end, after those that make n
 unfoldable pub hexFrom : ℕ → List ℕ → Number
 hexFrom n [] = Is n
 hexFrom n (b ∷ w) = cond (eqb (digitOf b) 16) Not (hexFrom (n * 16 + digitOf b) w)
 
+abbrev pub hexOf : List ℕ → Number
+hexOf w = hexFrom 0 w
+
 -- `$` and 1 to `most` hex digits
 unfoldable pub dollar : ℕ → List ℕ → Number
 dollar most [] = Not
-dollar most (b ∷ w) = cond (leb 1 (length w) && leb (length w) most && eqb b (code "$")) (hexFrom 0 w) Not
+dollar most (b ∷ w) = cond (leb 1 (length w) && leb (length w) most && eqb b (code "$")) (hexOf w) Not
 
 -- an offset in the BIN has 1 to 5 digits, an address 1 to 4; a page number is one digit, with no `$`
 abbrev pub offset : List ℕ → Number
@@ -42,18 +39,8 @@ offset w = dollar 5 w
 abbrev pub address : List ℕ → Number
 address w = dollar 4 w
 
-unfoldable pub page : List ℕ → Number
-page w = cond (eqb (length w) 1) (hexFrom 0 w) Not
-
--- a word that is spelt so
-unfoldable pub same : List ℕ → List ℕ → Bool
-same [] [] = true
-same [] (c ∷ v) = false
-same (b ∷ w) [] = false
-same (b ∷ w) (c ∷ v) = cond (eqb b c) (same w v) false
-
-abbrev pub is : String → List ℕ → Bool
-is t w = same w (text t)
+unfoldable pub oneDigit : List ℕ → Number
+oneDigit w = cond (eqb (length w) 1) (hexOf w) Not
 
 -- the bits of a RAM word
 unfoldable pub bits : List ℕ → Number
@@ -68,77 +55,53 @@ after spelt n = cond spelt n Not
 
 -- an entry from its numbers
 abbrev pub rom : ℕ → ℕ → ℕ → Entry
-rom lo hi at = Rom (record { 0 = lo }) (record { 0 = hi }) (record { 0 = at })
+rom lo hi at = Rom (binWord lo) (binWord hi) (console at)
 
 abbrev pub paged : ℕ → ℕ → ℕ → ℕ → Entry
-paged lo hi at y = Paged (record { 0 = lo }) (record { 0 = hi }) (record { 0 = at }) (record { 0 = y })
+paged lo hi at y = Paged (binWord lo) (binWord hi) (console at) (page y)
 
 abbrev pub ram : ℕ → ℕ → Width → Entry
-ram lo hi w = Ram (record { 0 = lo }) (record { 0 = hi }) w
+ram lo hi w = Ram (console lo) (console hi) w
 
 -- where a number is missing, the line is outside the grammar
 unfoldable pub _>>=_ : Number → (ℕ → Says) → Says
 _>>=_ (Is n) entry = entry n
 _>>=_ Not entry = Outside
 
-unfoldable pub romOf : Number → Number → Number → Says
-romOf a b c = do
-  lo ← a
-  hi ← b
-  at ← c
+-- `$lo - $hi = $addr`
+unfoldable pub romLine : List (List ℕ) → Says
+romLine ws = do
+  lo ← offset (word ws 0)
+  hi ← after (is "-" (word ws 1)) (offset (word ws 2))
+  at ← after (is "=" (word ws 3)) (address (word ws 4))
   Claims (rom lo hi at)
 
-unfoldable pub pagedOf : Number → Number → Number → Number → Says
-pagedOf a b c d = do
-  lo ← a
-  hi ← b
-  at ← c
-  y ← d
+-- `$lo - $hi = $addr PAGE d`
+unfoldable pub pagedLine : List (List ℕ) → Says
+pagedLine ws = do
+  lo ← offset (word ws 0)
+  hi ← after (is "-" (word ws 1)) (offset (word ws 2))
+  at ← after (is "=" (word ws 3)) (address (word ws 4))
+  y ← after (is "PAGE" (word ws 5)) (oneDigit (word ws 6))
   Claims (paged lo hi at y)
 
-unfoldable pub ramOf : Number → Number → Number → Says
-ramOf a b c = do
-  lo ← a
-  hi ← b
-  n ← c
-  Claims (ram lo hi (widthOf n))
-
--- `$lo - $hi = $addr`
-unfoldable pub romLine : List ℕ → List ℕ → List ℕ → List ℕ → List ℕ → Says
-romLine a b c d e = romOf (offset a) (after (is "-" b) (offset c)) (after (is "=" d) (address e))
-
--- `$lo - $hi = $addr PAGE d`
-unfoldable pub pagedLine : List ℕ → List ℕ → List ℕ → List ℕ → List ℕ → List ℕ → List ℕ → Says
-pagedLine a b c d e f g = pagedOf (offset a) (after (is "-" b) (offset c)) (after (is "=" d) (address e)) (after (is "PAGE" f) (page g))
-
 -- `$lo - $hi = RAM 16` or `RAM 8`
-unfoldable pub ramLine : List ℕ → List ℕ → List ℕ → List ℕ → List ℕ → List ℕ → Says
-ramLine a b c d e f = ramOf (address a) (after (is "-" b) (address c)) (after (is "=" d) (after (is "RAM" e) (bits f)))
+unfoldable pub ramLine : List (List ℕ) → Says
+ramLine ws = do
+  lo ← address (word ws 0)
+  hi ← after (is "-" (word ws 1)) (address (word ws 2))
+  n ← after (is "=" (word ws 3)) (after (is "RAM" (word ws 4)) (bits (word ws 5)))
+  Claims (ram lo hi (widthOf n))
 
 -- an entry of [mapping] has five words, or seven with its page
 unfoldable pub mappingLine : List (List ℕ) → Says
-mappingLine [] = Outside
-mappingLine (a ∷ []) = Outside
-mappingLine (a ∷ b ∷ []) = Outside
-mappingLine (a ∷ b ∷ c ∷ []) = Outside
-mappingLine (a ∷ b ∷ c ∷ d ∷ []) = Outside
-mappingLine (a ∷ b ∷ c ∷ d ∷ e ∷ []) = romLine a b c d e
-mappingLine (a ∷ b ∷ c ∷ d ∷ e ∷ f ∷ []) = Outside
-mappingLine (a ∷ b ∷ c ∷ d ∷ e ∷ f ∷ g ∷ []) = pagedLine a b c d e f g
-mappingLine (a ∷ b ∷ c ∷ d ∷ e ∷ f ∷ g ∷ h ∷ ws) = Outside
+mappingLine ws = cond (eqb (length ws) 5) (romLine ws) (cond (eqb (length ws) 7) (pagedLine ws) Outside)
 
 -- an entry of [memattr] has six
 unfoldable pub memattrLine : List (List ℕ) → Says
-memattrLine [] = Outside
-memattrLine (a ∷ []) = Outside
-memattrLine (a ∷ b ∷ []) = Outside
-memattrLine (a ∷ b ∷ c ∷ []) = Outside
-memattrLine (a ∷ b ∷ c ∷ d ∷ []) = Outside
-memattrLine (a ∷ b ∷ c ∷ d ∷ e ∷ []) = Outside
-memattrLine (a ∷ b ∷ c ∷ d ∷ e ∷ f ∷ []) = ramLine a b c d e f
-memattrLine (a ∷ b ∷ c ∷ d ∷ e ∷ f ∷ g ∷ ws) = Outside
+memattrLine ws = cond (eqb (length ws) 6) (ramLine ws) Outside
 
--- a line of one word is a section's heading
+-- a section's name
 unfoldable pub headingLine : List ℕ → Says
 headingLine w = cond (is "[mapping]" w) (Heading Mapping) (cond (is "[memattr]" w) (Heading Memattr) Outside)
 
@@ -147,10 +110,9 @@ entryLine Nowhere ws = Outside
 entryLine Mapping ws = mappingLine ws
 entryLine Memattr ws = memattrLine ws
 
+-- a line of no words is blank, one of a single word a heading, any other an entry
 unfoldable pub wordsSay : Section → List (List ℕ) → Says
-wordsSay s [] = Blank
-wordsSay s (a ∷ []) = headingLine a
-wordsSay s (a ∷ b ∷ ws) = entryLine s (a ∷ b ∷ ws)
+wordsSay s ws = cond (eqb (length ws) 0) Blank (cond (eqb (length ws) 1) (headingLine (word ws 0)) (entryLine s ws))
 
 -- what a line says in a section; Nowhere is before any section
 abbrev pub lineSays : Section → List ℕ → Says

@@ -1,32 +1,19 @@
 -- The words of a line (01, What a CFG may say): blanks part words, `-` and `=` are words by themselves, and `;` ends the line.
 -- So `$5000PAGE` is one word, which no entry has: that is 01's rule on the blanks around PAGE.
-use Prim.Native.String.{String, [] as no-more, _∷_ as _then_}
 use Prim.Native.Nat.{ℕ}
 use Prim.Native.Char.{code}
 use mathlib.Core.List.{List, [], _∷_}
 use mathlib.Core.Bool.{cond, _||_}
 use lib.Dec.{eqb}
+use lib.ListN.{getD}
+use Rattle.text.specs.Bytes.{tab}
 use Rattle.grammar.specs.declared.Kind.{Kind}
 use Rattle.grammar.specs.declared.Kind.the-variants.{Blank, Sign, Comment, Letter}
 
--- the bytes of a text
-abbrev pub text : String → List ℕ
-text no-more = []
-text (c then s) = code c ∷ text s
-
-abbrev pub tab : ℕ
-tab = code "\t"
-
-abbrev pub lf : ℕ
-lf = code "\n"
-
-abbrev pub cr : ℕ
-cr = code "\r"
-
--- what a byte does to the words: a CR, which stands only before the LF of its line (01, refusal 22), parts words as blanks do
+-- what a byte does to the words
 abbrev pub kindOf : ℕ → Kind
 kindOf b =
-    cond (eqb b (code " ") || eqb b tab || eqb b cr) Blank
+    cond (eqb b (code " ") || eqb b tab) Blank
     (cond (eqb b (code "-") || eqb b (code "=")) Sign (cond (eqb b (code ";")) Comment Letter))
 
 -- a line cut into words: the letters that stand at its front, and the words after them
@@ -59,3 +46,7 @@ cut (b ∷ s) = before (kindOf b) b (cut s)
 -- the words of a line
 abbrev pub wordsOf : List ℕ → List (List ℕ)
 wordsOf line = wordsAfter (cut line)
+
+-- word k, counted from 0; no bytes where there are fewer words
+abbrev pub word : List (List ℕ) → ℕ → List ℕ
+word ws k = getD ws k []

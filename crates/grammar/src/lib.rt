@@ -1,11 +1,11 @@
 // One line of a CFG: its words, and what they say (01, "What a CFG may say").
-ghost use Prim.Native.Nat.{_+_, _≤_, _<_};
+ghost use Prim.Native.Nat.{_≤_, _<_};
 ghost use mathlib.Core.Path.{_≡_};
-ghost use lib.ListN.{length, drop};
-ghost use Rattle.grammar.specs.Words.{kindOf, wordsOf};
-ghost use Rattle.grammar.specs.Code.Words.{wordAt};
-ghost use Rattle.grammar.specs.Grammar.{digitOf, hexFrom, dollar, page, same, bits, after, widthOf, romOf, pagedOf, ramOf, romLine, pagedLine, ramLine, mappingLine, memattrLine, headingLine, lineSays};
-ghost use Rattle.grammar.specs.Code.Steps.{Skipped, Ended, NextWord, Below};
+ghost use lib.ListN.{length};
+ghost use Rattle.text.specs.Spelling.{same};
+ghost use Rattle.grammar.specs.Words.{kindOf, wordsOf, word};
+ghost use Rattle.grammar.specs.Grammar.{hexOf, dollar, oneDigit, offset, address, bits, after, widthOf, romLine, pagedLine, ramLine, mappingLine, memattrLine, headingLine, lineSays};
+ghost use Rattle.grammar.specs.Code.Steps.{isBlank, isLetter, runEnd, NextWord, Below, romOf, pagedOf, ramOf};
 use lines::Entry;
 use lines::Width;
 use places::BinWord;
@@ -51,49 +51,61 @@ fn kind_of(b: u8) -> Kind
     ensures { λ r. ⌜ r ≡ kindOf b ⌝ }
 {
     match b {
-        b' ' | b'\t' | b'\r' => Kind::Blank,
+        b' ' | b'\t' => Kind::Blank,
         b'-' | b'=' => Kind::Sign,
         b';' => Kind::Comment,
         _ => Kind::Letter,
     }
 }
 
+fn is_blank(b: u8) -> bool
+    ensures { λ r. ⌜ r ≡ isBlank (kindOf b) ⌝ }
+{
+    let k = kind_of(b);
+    match k {
+        Kind::Blank => true,
+        Kind::Sign => false,
+        Kind::Comment => false,
+        Kind::Letter => false,
+    }
+}
+
+fn is_letter(b: u8) -> bool
+    ensures { λ r. ⌜ r ≡ isLetter (kindOf b) ⌝ }
+{
+    let k = kind_of(b);
+    match k {
+        Kind::Blank => false,
+        Kind::Sign => false,
+        Kind::Comment => false,
+        Kind::Letter => true,
+    }
+}
+
 // The first place from `at` on that holds no blank, or the line's length.
-fn skip(line: &[u8], at: usize) -> usize
-    requires { ⌜ at ≤ length (now line) ⌝ }
-    ensures { λ r. ⌜ Skipped (now (line .entry)) at r ⌝ }
+fn blanks_end(line: &[u8], at: usize) -> usize
+    ensures { λ r. ⌜ r ≡ runEnd isBlank (now (line .entry)) at ⌝ }
 {
     let mut i = at;
     while i < line.len() {
-        let k = kind_of(line[i]);
-        match k {
-            Kind::Blank => {
-                i += 1;
-            }
-            _ => {
-                return i;
-            }
+        if !is_blank(line[i]) {
+            return i;
         }
+        i += 1;
     }
     i
 }
 
 // The first place from `at` on that holds no letter, or the line's length.
-fn word_end(line: &[u8], at: usize) -> usize
-    requires { ⌜ at ≤ length (now line) ⌝ }
-    ensures { λ r. ⌜ Ended (now (line .entry)) at r ⌝ }
+fn letters_end(line: &[u8], at: usize) -> usize
+    ensures { λ r. ⌜ r ≡ runEnd isLetter (now (line .entry)) at ⌝ }
 {
     let mut i = at;
     while i < line.len() {
-        let k = kind_of(line[i]);
-        match k {
-            Kind::Letter => {
-                i += 1;
-            }
-            _ => {
-                return i;
-            }
+        if !is_letter(line[i]) {
+            return i;
         }
+        i += 1;
     }
     i
 }
@@ -103,28 +115,45 @@ fn next_word(line: &[u8], at: usize) -> Word
     requires { ⌜ at ≤ length (now line) ⌝ }
     ensures { λ r. ⌜ NextWord (now (line .entry)) at r ⌝ }
 {
-    let start = skip(line, at);
-    if start < line.len() {
-        let k = kind_of(line[start]);
-        match k {
-            Kind::Sign => Word {
-                start,
-                end: start + 1,
-            },
-            Kind::Letter => Word {
-                start,
-                end: word_end(line, start),
-            },
-            _ => Word { start, end: start },
-        }
-    } else {
-        Word { start, end: start }
+    let start = blanks_end(line, at);
+    if line.len() <= start {
+        return Word { start, end: start };
     }
+    let k = kind_of(line[start]);
+    match k {
+        Kind::Blank => Word { start, end: start },
+        Kind::Sign => Word {
+            start,
+            end: start + 1,
+        },
+        Kind::Comment => Word { start, end: start },
+        Kind::Letter => Word {
+            start,
+            end: letters_end(line, start),
+        },
+    }
+}
+
+// How many words a line has.
+fn word_count(line: &[u8]) -> usize
+    ensures { λ r. ⌜ r ≡ length (wordsOf (now (line .entry))) ⌝ }
+{
+    let mut at = 0;
+    let mut n = 0;
+    while at < line.len() {
+        let w = next_word(line, at);
+        if w.start == w.end {
+            return n;
+        }
+        at = w.end;
+        n += 1;
+    }
+    n
 }
 
 // Word k of a line, found from its start: an entry has seven at most. No bytes where the line has fewer.
 fn word_at(line: &[u8], k: usize) -> &[u8]
-    ensures { λ r. ⌜ now r ≡ wordAt (now (line .entry)) k ⌝ }
+    ensures { λ r. ⌜ now r ≡ word (wordsOf (now (line .entry))) k ⌝ }
 {
     let mut at = 0;
     let mut left = k;
@@ -139,27 +168,22 @@ fn word_at(line: &[u8], k: usize) -> &[u8]
     &line[start..end]
 }
 
-// A hex digit's value; 16 for any other byte.
-fn digit_of(b: u8) -> u32
-    ensures { λ r. ⌜ (r ≡ digitOf b) × (r ≤ 16) ⌝ }
+// Whether word k is spelt so.
+fn is_word(line: &[u8], k: usize, spelt: &[u8]) -> bool
+    ensures { λ r. ⌜ r ≡ same (word (wordsOf (now (line .entry))) k) (now (spelt .entry)) ⌝ }
 {
-    match b {
-        b'0'..=b'9' => (b - b'0') as u32,
-        b'A'..=b'F' => (b - b'A') as u32 + 10,
-        b'a'..=b'f' => (b - b'a') as u32 + 10,
-        _ => 16,
-    }
+    text::same_text(word_at(line, k), spelt)
 }
 
-// The number that the bytes of `w` from `from` on say in hex; they are five at most.
-fn hex(w: &[u8], from: usize) -> Number
-    requires { ⌜ (from ≤ length (now w)) × (length (now w) ≤ from + 5) ⌝ }
-    ensures { λ r. ⌜ r ≡ hexFrom 0 (drop from (now (w .entry))) ⌝ }
+// The number that a word's bytes say in hex; they are five at most.
+fn hex(w: &[u8]) -> Number
+    requires { ⌜ length (now w) ≤ 5 ⌝ }
+    ensures { λ r. ⌜ r ≡ hexOf (now (w .entry)) ⌝ }
 {
     let mut n: u32 = 0;
-    let mut i = from;
+    let mut i = 0;
     while i < w.len() {
-        let d = digit_of(w[i]);
+        let d = text::digit_of(w[i]);
         if d == 16 {
             return Number::Not;
         }
@@ -180,43 +204,41 @@ fn dollar_word(w: &[u8], most: usize) -> Number
     if most + 1 < w.len() {
         return Number::Not;
     }
-    if w[0] == b'$' { hex(w, 1) } else { Number::Not }
-}
-
-// One hex digit.
-fn page_word(w: &[u8]) -> Number
-    ensures { λ r. ⌜ r ≡ page (now (w .entry)) ⌝ }
-{
-    if w.len() == 1 { hex(w, 0) } else { Number::Not }
-}
-
-// Whether a word is spelt so.
-fn is_word(w: &[u8], v: &[u8]) -> bool
-    ensures { λ r. ⌜ r ≡ same (now (w .entry)) (now (v .entry)) ⌝ }
-{
-    let mut i = 0;
-    while i < w.len() {
-        if i < v.len() {
-            if w[i] == v[i] {
-                i += 1;
-            } else {
-                return false;
-            }
-        } else {
-            return false;
-        }
+    if w[0] == b'$' {
+        hex(&w[1..])
+    } else {
+        Number::Not
     }
-    i == v.len()
 }
 
-// 16 or 8.
-fn bits_word(w: &[u8]) -> Number
-    ensures { λ r. ⌜ r ≡ bits (now (w .entry)) ⌝ }
+// Word k as an offset in the BIN, and as an address.
+fn offset_at(line: &[u8], k: usize) -> Number
+    ensures { λ r. ⌜ r ≡ offset (word (wordsOf (now (line .entry))) k) ⌝ }
 {
-    if is_word(w, b"16") {
+    dollar_word(word_at(line, k), 5)
+}
+
+fn address_at(line: &[u8], k: usize) -> Number
+    ensures { λ r. ⌜ r ≡ address (word (wordsOf (now (line .entry))) k) ⌝ }
+{
+    dollar_word(word_at(line, k), 4)
+}
+
+// Word k as one hex digit, and as the bits of a RAM word: 16 or 8.
+fn digit_at(line: &[u8], k: usize) -> Number
+    ensures { λ r. ⌜ r ≡ oneDigit (word (wordsOf (now (line .entry))) k) ⌝ }
+{
+    let w = word_at(line, k);
+    if w.len() == 1 { hex(w) } else { Number::Not }
+}
+
+fn bits_at(line: &[u8], k: usize) -> Number
+    ensures { λ r. ⌜ r ≡ bits (word (wordsOf (now (line .entry))) k) ⌝ }
+{
+    if is_word(line, k, b"16") {
         return Number::Is(16);
     }
-    if is_word(w, b"8") {
+    if is_word(line, k, b"8") {
         return Number::Is(8);
     }
     Number::Not
@@ -291,76 +313,56 @@ fn ram_of(a: Number, b: Number, c: Number) -> Says
 }
 
 // `$lo - $hi = $addr`
-fn rom_line(a: &[u8], b: &[u8], c: &[u8], d: &[u8], e: &[u8]) -> Says
-    ensures { λ r. ⌜ r ≡ romLine (now (a .entry)) (now (b .entry)) (now (c .entry)) (now (d .entry)) (now (e .entry)) ⌝ }
+fn rom_line(line: &[u8]) -> Says
+    ensures { λ r. ⌜ r ≡ romLine (wordsOf (now (line .entry))) ⌝ }
 {
-    let lo = dollar_word(a, 5);
-    let hi = after_word(is_word(b, b"-"), dollar_word(c, 5));
-    let at = after_word(is_word(d, b"="), dollar_word(e, 4));
+    let lo = offset_at(line, 0);
+    let hi = after_word(is_word(line, 1, b"-"), offset_at(line, 2));
+    let at = after_word(is_word(line, 3, b"="), address_at(line, 4));
     rom_of(lo, hi, at)
 }
 
 // `$lo - $hi = $addr PAGE d`
-fn paged_line(a: &[u8], b: &[u8], c: &[u8], d: &[u8], e: &[u8], f: &[u8], g: &[u8]) -> Says
-    ensures { λ r. ⌜ r ≡ pagedLine (now (a .entry)) (now (b .entry)) (now (c .entry)) (now (d .entry)) (now (e .entry)) (now (f .entry)) (now (g .entry)) ⌝ }
+fn paged_line(line: &[u8]) -> Says
+    ensures { λ r. ⌜ r ≡ pagedLine (wordsOf (now (line .entry))) ⌝ }
 {
-    let lo = dollar_word(a, 5);
-    let hi = after_word(is_word(b, b"-"), dollar_word(c, 5));
-    let at = after_word(is_word(d, b"="), dollar_word(e, 4));
-    let y = after_word(is_word(f, b"PAGE"), page_word(g));
+    let lo = offset_at(line, 0);
+    let hi = after_word(is_word(line, 1, b"-"), offset_at(line, 2));
+    let at = after_word(is_word(line, 3, b"="), address_at(line, 4));
+    let y = after_word(is_word(line, 5, b"PAGE"), digit_at(line, 6));
     paged_of(lo, hi, at, y)
 }
 
 // `$lo - $hi = RAM 16` or `RAM 8`
-fn ram_line(a: &[u8], b: &[u8], c: &[u8], d: &[u8], e: &[u8], f: &[u8]) -> Says
-    ensures { λ r. ⌜ r ≡ ramLine (now (a .entry)) (now (b .entry)) (now (c .entry)) (now (d .entry)) (now (e .entry)) (now (f .entry)) ⌝ }
+fn ram_line(line: &[u8]) -> Says
+    ensures { λ r. ⌜ r ≡ ramLine (wordsOf (now (line .entry))) ⌝ }
 {
-    let lo = dollar_word(a, 4);
-    let hi = after_word(is_word(b, b"-"), dollar_word(c, 4));
-    let n = after_word(is_word(e, b"RAM"), bits_word(f));
-    ram_of(lo, hi, after_word(is_word(d, b"="), n))
+    let lo = address_at(line, 0);
+    let hi = after_word(is_word(line, 1, b"-"), address_at(line, 2));
+    let n = after_word(is_word(line, 4, b"RAM"), bits_at(line, 5));
+    ram_of(lo, hi, after_word(is_word(line, 3, b"="), n))
 }
 
-// An entry of [mapping].
+// An entry of [mapping] has five words, or seven with its page.
 fn mapping_line(line: &[u8]) -> Says
     ensures { λ r. ⌜ r ≡ mappingLine (wordsOf (now (line .entry))) ⌝ }
 {
-    if word_at(line, 5).len() == 0 {
-        return rom_line(
-            word_at(line, 0),
-            word_at(line, 1),
-            word_at(line, 2),
-            word_at(line, 3),
-            word_at(line, 4),
-        );
+    let n = word_count(line);
+    if n == 5 {
+        return rom_line(line);
     }
-    if word_at(line, 7).len() == 0 {
-        return paged_line(
-            word_at(line, 0),
-            word_at(line, 1),
-            word_at(line, 2),
-            word_at(line, 3),
-            word_at(line, 4),
-            word_at(line, 5),
-            word_at(line, 6),
-        );
+    if n == 7 {
+        return paged_line(line);
     }
     Says::Outside
 }
 
-// An entry of [memattr].
+// An entry of [memattr] has six.
 fn memattr_line(line: &[u8]) -> Says
     ensures { λ r. ⌜ r ≡ memattrLine (wordsOf (now (line .entry))) ⌝ }
 {
-    if word_at(line, 6).len() == 0 {
-        return ram_line(
-            word_at(line, 0),
-            word_at(line, 1),
-            word_at(line, 2),
-            word_at(line, 3),
-            word_at(line, 4),
-            word_at(line, 5),
-        );
+    if word_count(line) == 6 {
+        return ram_line(line);
     }
     Says::Outside
 }
@@ -369,10 +371,10 @@ fn memattr_line(line: &[u8]) -> Says
 fn heading_line(w: &[u8]) -> Says
     ensures { λ r. ⌜ r ≡ headingLine (now (w .entry)) ⌝ }
 {
-    if is_word(w, b"[mapping]") {
+    if text::same_text(w, b"[mapping]") {
         return Says::Heading(Section::Mapping);
     }
-    if is_word(w, b"[memattr]") {
+    if text::same_text(w, b"[memattr]") {
         return Says::Heading(Section::Memattr);
     }
     Says::Outside
@@ -382,12 +384,12 @@ fn heading_line(w: &[u8]) -> Says
 pub fn read_line(line: &[u8], section: Section) -> Says
     ensures { λ r. ⌜ r ≡ lineSays section (now (line .entry)) ⌝ }
 {
-    let first = word_at(line, 0);
-    if first.len() == 0 {
+    let n = word_count(line);
+    if n == 0 {
         return Says::Blank;
     }
-    if word_at(line, 1).len() == 0 {
-        return heading_line(first);
+    if n == 1 {
+        return heading_line(word_at(line, 0));
     }
     match section {
         Section::Nowhere => Says::Outside,

@@ -1,3 +1,5 @@
-pub mod Laws
+pub mod ByForm
+pub mod Stored
 pub mod Loops
+pub mod Written
 pub mod Same

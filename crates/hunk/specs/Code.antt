@@ -1,2 +1,2 @@
 -- What private functions promise.
-pub mod Hunk
+pub mod Blocks

@@ -1,3 +1,8 @@
 -- Theorems over the definitions.
-pub mod Hunk
+pub mod Forms
+pub mod Walk
+pub mod Refusals
+pub mod Cuts
+pub mod Sizes
+pub mod ReadBack
 pub mod Examples

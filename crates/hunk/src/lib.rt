@@ -1,20 +1,44 @@
-// Data hunks: a check that names the byte where one breaks, and a store that goes by the same data blocks (001, "Data Hunk").
-ghost use Prim.Native.Nat.{_+_, _*_, _/_, _%_, _≤_, _<_};
-ghost use mathlib.Core.Path.{_≡_};
-ghost use lib.ListN.{length, getD};
-ghost use Rattle.basics.specs.Bytes.{at16};
-ghost use Rattle.basics.specs.Lists.{laid};
-ghost use Rattle.hunk.specs.Hunk.{address, countOf, sizeOf, decle, word, blockAt, checkHunk, storeHunk};
-ghost use Rattle.hunk.specs.Code.Hunk.{Room};
-use basics::wide;
-use basics::wide16;
-use places::Locutus;
+// Data hunks, both ways: a check that names the byte where one breaks, a store of its words, and a payload written of a paragraph's
+// words (001, "Block Type 0x02: Data Hunk").
+mod data;
+mod forms;
+mod stores;
 
-// What stands at a place of a hunk: its end, a data block that breaks it, or one of so many words, with the place of the next.
-pub enum Block {
+ghost use Prim.Native.Nat.{_+_, _*_, _≤_};
+ghost use mathlib.Core.Path.{_≡_};
+ghost use lib.Dec.{ltb};
+ghost use lib.ListN.{length};
+ghost use Rattle.basics.specs.Lists.{lay, putFront};
+ghost use Rattle.places.specs.Limits.{lent, lentLimit, paragraphSize};
+ghost use Rattle.places.specs.Places.{locutus};
+ghost use Rattle.hunk.specs.Hunk.{hunk, address, wordsOf, checkHunk, storeHunk, hunkPayload, payloadSize};
+ghost use Rattle.hunk.specs.Code.Blocks.{blockAt, Storable};
+use basics::wide;
+use data::cuts_size;
+use data::put_address;
+use data::write_cuts;
+use forms::count_of;
+use forms::form_of;
+use forms::reserved;
+use forms::size_of;
+use places::Locutus;
+use places::PARAGRAPH_SIZE;
+use places::lent_words;
+use stores::store_block;
+
+// The forms of a data block: 8-bit, 10-bit, 16-bit, and what a start byte may not say.
+pub enum Form {
+    Bytes,
+    Decles,
+    Words,
+    Reserved,
+}
+
+// What stands at a place of a payload: its end, a data block that is cut or reserved, or one of so many words, with the place of the next.
+enum Block {
     End,
     Wrong,
-    Words(usize, usize),
+    Data(usize, usize),
 }
 
 // A hunk that is whole, with its number of words, or the byte where it breaks.
@@ -23,60 +47,24 @@ pub enum Checked {
     Broken(usize),
 }
 
-// The number of words of a data block, by its start byte; 0 where that is reserved.
-fn count_of(b: usize) -> usize
-    requires { ⌜ b < 256 ⌝ }
-    ensures { λ r. ⌜ (r ≡ countOf b) × (r < 129) ⌝ }
-{
-    if b < 0x40 {
-        return b;
-    }
-    if b < 0xC0 {
-        return b - 0x3F;
-    }
-    if b < 0xFE {
-        return b - 0xBF;
-    }
-    0
-}
-
-// The number of bytes of a data block, by its start byte and its number of words.
-fn size_of(b: usize, n: usize) -> usize
-    requires { ⌜ (n ≡ countOf b) × (n < 129) ⌝ }
-    ensures { λ r. ⌜ r ≡ sizeOf b ⌝ }
-{
-    if b < 0x40 {
-        return 2 + n;
-    }
-    if b < 0xC0 {
-        return 2 + (n + 2) / 4 + n;
-    }
-    1 + 2 * n
-}
-
-// What stands at p, where the next word goes to word a of m.
-fn block_at(s: &[u8], m: usize, p: usize, a: usize) -> Block
-    ensures { λ r. ⌜ r ≡ blockAt (now (s .entry)) m p a ⌝ }
+// What stands at p.
+fn block_at(s: &[u8], p: usize) -> Block
+    ensures { λ r. ⌜ r ≡ blockAt (now (s .entry)) p ⌝ }
 {
     if s.len() <= p {
         return Block::End;
     }
     let b = wide(s[p]);
-    let n = count_of(b);
-    if n == 0 {
+    let f = form_of(b);
+    if reserved(f) {
         return Block::Wrong;
     }
-    let z = size_of(b, n);
+    let n = count_of(f, b);
+    let z = size_of(f, n);
     if s.len() - p < z {
         return Block::Wrong;
     }
-    if m < n {
-        return Block::Wrong;
-    }
-    if m - n < a {
-        return Block::Wrong;
-    }
-    Block::Words(n, p + z)
+    Block::Data(n, p + z)
 }
 
 // The word address at a hunk's start.
@@ -87,6 +75,16 @@ fn address_of(s: &[u8]) -> Locutus
     Locutus((wide(s[0]) + 256 * wide(s[1]) + 65536 * wide(s[2])) as u32)
 }
 
+// Whether n words from an address on go past m words of RAM.
+fn past(at: Locutus, n: usize, m: usize) -> bool
+    ensures { λ r. ⌜ r ≡ ltb m (at .0 + n) ⌝ }
+{
+    if m < n {
+        return true;
+    }
+    m - n < at.0 as usize
+}
+
 // Whether a hunk's words all lie in m words of RAM, and where it breaks if not.
 pub fn check(s: &[u8], m: usize) -> Checked
     ensures { λ r. ⌜ r ≡ checkHunk (now (s .entry)) m ⌝ }
@@ -95,155 +93,45 @@ pub fn check(s: &[u8], m: usize) -> Checked
         return Checked::Broken(0);
     }
     let at = address_of(s);
-    let start = at.0 as usize;
     let mut p = 3;
-    let mut a = start;
+    let mut n = 0;
     loop {
-        let b = block_at(s, m, p, a);
+        let b = block_at(s, p);
         match b {
             Block::End => {
-                return Checked::Whole(a - start);
+                return Checked::Whole(n);
             }
             Block::Wrong => {
                 return Checked::Broken(p);
             }
-            Block::Words(n, next) => {
-                a = a + n;
+            Block::Data(k, next) => {
+                n = n + k;
+                if past(at, n, m) {
+                    return Checked::Broken(p);
+                }
                 p = next;
             }
         }
     }
 }
 
-// 16 bits, the lower byte first.
-fn get16(s: &[u8], at: usize) -> u16
-    requires { ⌜ at + 1 < length (now s) ⌝ }
-    ensures { λ r. ⌜ r ≡ at16 (now (s .entry)) at ⌝ }
+// The place n words on.
+fn after(at: Locutus, n: usize) -> Locutus
+    requires { ⌜ at .0 + n ≤ lentLimit ⌝ }
+    ensures { λ r. ⌜ r ≡ locutus (at .0 + n) ⌝ }
 {
-    wide16(s[at]) + 256 * wide16(s[at + 1])
+    Locutus(at.0 + n as u32)
 }
 
-// n words of 16 bits, to word a and on.
-fn store16(s: &[u8], at: usize, n: usize, ram: &mut [u16], a: usize)
-    requires { ⌜ (at + 2 * n ≤ length (now s)) × (a + n ≤ length (now ram)) ⌝ }
-    ensures { λ _. ⌜ now (ram .exit) ≡ laid a n (λ i. at16 (now (s .entry)) (at + 2 * i)) (now (ram .entry)) ⌝ }
+// The words of a hunk that has passed the check, one data block after the other.
+fn store_blocks(s: &[u8], ram: &mut [u16])
+    requires { ⌜ Storable (now s) (lent (now ram)) ⌝ }
+    ensures { λ _. ⌜ now (ram .exit) ≡ lay (address (now (s .entry)) .0) (wordsOf (now (s .entry))) (now (ram .entry)) ⌝ }
 {
-    let mut i = 0;
-    while i < n {
-        ram[a + i] = get16(s, at + 2 * i);
-        i += 1;
-    }
-}
-
-// n bytes, each a word.
-fn store8(s: &[u8], at: usize, n: usize, ram: &mut [u16], a: usize)
-    requires { ⌜ (at + n ≤ length (now s)) × (a + n ≤ length (now ram)) ⌝ }
-    ensures { λ _. ⌜ now (ram .exit) ≡ laid a n (λ i. getD (now (s .entry)) (at + i) 0) (now (ram .entry)) ⌝ }
-{
-    let mut i = 0;
-    while i < n {
-        ram[a + i] = wide16(s[at + i]);
-        i += 1;
-    }
-}
-
-// The four decles of a whole packet.
-fn packet(s: &[u8], at: usize, ram: &mut [u16], a: usize)
-    requires { ⌜ (at + 5 ≤ length (now s)) × (a + 4 ≤ length (now ram)) ⌝ }
-    ensures { λ _. ⌜ now (ram .exit) ≡ laid a 4 (decle (now (s .entry)) at) (now (ram .entry)) ⌝ }
-{
-    let upper = wide16(s[at]);
-    ram[a] = upper / 64 % 4 * 256 + wide16(s[at + 1]);
-    ram[a + 1] = upper / 16 % 4 * 256 + wide16(s[at + 2]);
-    ram[a + 2] = upper / 4 % 4 * 256 + wide16(s[at + 3]);
-    ram[a + 3] = upper % 4 * 256 + wide16(s[at + 4]);
-}
-
-// k whole packets.
-fn packets(s: &[u8], at: usize, k: usize, ram: &mut [u16], a: usize)
-    requires { ⌜ (at + 5 * k ≤ length (now s)) × (a + 4 * k ≤ length (now ram)) ⌝ }
-    ensures { λ _. ⌜ now (ram .exit) ≡ laid a (4 * k) (λ i. decle (now (s .entry)) (at + 5 * (i / 4)) (i % 4)) (now (ram .entry)) ⌝ }
-{
-    let mut j = 0;
-    while j < k {
-        packet(s, at + 5 * j, ram, a + 4 * j);
-        j += 1;
-    }
-}
-
-// Decle k of the packet at a place.
-fn decle_at(s: &[u8], at: usize, k: usize) -> u16
-    requires { ⌜ (k < 4) × (at + 1 + k < length (now s)) ⌝ }
-    ensures { λ r. ⌜ r ≡ decle (now (s .entry)) at k ⌝ }
-{
-    let upper = wide16(s[at]);
-    let lower = wide16(s[at + 1 + k]);
-    if k == 0 {
-        return upper / 64 % 4 * 256 + lower;
-    }
-    if k == 1 {
-        return upper / 16 % 4 * 256 + lower;
-    }
-    if k == 2 {
-        return upper / 4 % 4 * 256 + lower;
-    }
-    upper % 4 * 256 + lower
-}
-
-// The n decles of a short packet.
-fn short(s: &[u8], at: usize, n: usize, ram: &mut [u16], a: usize)
-    requires { ⌜ (n < 4) × (at + (n + 3) / 4 + n ≤ length (now s)) × (a + n ≤ length (now ram)) ⌝ }
-    ensures { λ _. ⌜ now (ram .exit) ≡ laid a n (decle (now (s .entry)) at) (now (ram .entry)) ⌝ }
-{
-    let mut i = 0;
-    while i < n {
-        ram[a + i] = decle_at(s, at, i);
-        i += 1;
-    }
-}
-
-// n decles, in packets of four and a short one.
-fn store10(s: &[u8], at: usize, n: usize, ram: &mut [u16], a: usize)
-    requires { ⌜ (at + (n + 3) / 4 + n ≤ length (now s)) × (a + n ≤ length (now ram)) ⌝ }
-    ensures { λ _. ⌜ now (ram .exit) ≡ laid a n (λ i. decle (now (s .entry)) (at + 5 * (i / 4)) (i % 4)) (now (ram .entry)) ⌝ }
-{
-    let k = n / 4;
-    packets(s, at, k, ram, a);
-    short(s, at + 5 * k, n % 4, ram, a + 4 * k);
-}
-
-// The n words of the data block at p, to word a and on.
-fn store_block(s: &[u8], p: usize, n: usize, ram: &mut [u16], a: usize)
-    requires { ⌜ Room (now s) p n (length (now ram)) a ⌝ }
-    ensures { λ _. ⌜ now (ram .exit) ≡ laid a n (word (now (s .entry)) p) (now (ram .entry)) ⌝ }
-{
-    let b = wide(s[p]);
-    if 0xC0 <= b {
-        store16(s, p + 1, n, ram, a);
-        return;
-    }
-    let z = size_of(b, n);
-    if b < 0x40 {
-        store8(s, p + 1, n - 1, ram, a);
-        ram[a + (n - 1)] = get16(s, p + z - 2);
-        return;
-    }
-    store10(s, p + 1, n - 1, ram, a);
-    ram[a + (n - 1)] = get16(s, p + z - 2);
-}
-
-// Stores a hunk's words; where it breaks, those of the data blocks before.
-pub fn store(s: &[u8], ram: &mut [u16])
-    ensures { λ _. ⌜ now (ram .exit) ≡ storeHunk (now (s .entry)) (now (ram .entry)) ⌝ }
-{
-    if s.len() < 3 {
-        return;
-    }
-    let at = address_of(s);
+    let mut at = address_of(s);
     let mut p = 3;
-    let mut a = at.0 as usize;
     loop {
-        let b = block_at(s, ram.len(), p, a);
+        let b = block_at(s, p);
         match b {
             Block::End => {
                 return;
@@ -251,11 +139,43 @@ pub fn store(s: &[u8], ram: &mut [u16])
             Block::Wrong => {
                 return;
             }
-            Block::Words(n, next) => {
-                store_block(s, p, n, ram, a);
-                a = a + n;
+            Block::Data(n, next) => {
+                store_block(s, p, n, ram, at);
+                at = after(at, n);
                 p = next;
             }
         }
     }
+}
+
+// Stores a hunk's words, where the check passes for the words lent; else nothing.
+pub fn store(s: &[u8], ram: &mut [u16])
+    ensures { λ _. ⌜ now (ram .exit) ≡ storeHunk (now (s .entry)) (now (ram .entry)) ⌝ }
+{
+    let c = check(s, lent_words(ram));
+    match c {
+        Checked::Broken(_) => {}
+        Checked::Whole(_) => {
+            store_blocks(s, ram);
+        }
+    }
+}
+
+// How many bytes the payload of a paragraph's words has.
+pub fn size(words: &[u16; PARAGRAPH_SIZE]) -> usize
+    ensures { λ r. ⌜ (r ≡ payloadSize (now (words .entry))) × (r ≤ 3 + 3 * paragraphSize) ⌝ }
+{
+    3 + cuts_size(words)
+}
+
+// The payload of a paragraph's words, at the front of a buffer that has room for it.
+pub fn write(out: &mut [u8], at: Locutus, words: &[u16; PARAGRAPH_SIZE])
+    ensures { λ _. ⌜ now (out .exit) ≡ putFront (hunkPayload (hunk at (now (words .entry)))) (now (out .entry)) ⌝ }
+{
+    let n = size(words);
+    if out.len() < n {
+        return;
+    }
+    put_address(&mut out[0..3], at);
+    write_cuts(&mut out[3..n], words);
 }

@@ -1,2 +1,2 @@
 -- What private functions promise.
-pub mod Steps
+pub mod Passes

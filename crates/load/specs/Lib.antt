@@ -1,6 +1,5 @@
--- A load: the header, the blocks, and the answer, each said of the image; then what follows of them.
-pub mod Header
-pub mod Blocks
+-- The load of an image: its refusals, its answer, and the RAM afterwards.
 pub mod Load
+pub mod Leaves
 pub mod Code
 pub mod Laws

@@ -1,73 +1,58 @@
--- The load: all refusals of an image as one table in 01's order, the answer, and the RAM afterwards (01, Numbers that come back).
+-- The load: every refusal of an image as one table in 01's order, the answer, and the RAM afterwards (01, Numbers that come back).
 use Prim.Native.Nat.{ℕ}
 use mathlib.Core.List.{List, _∷_, [], _++_}
-use mathlib.Core.Bool.{not, false, Bool, cond}
+use mathlib.Core.Bool.{Bool, false, cond, not}
 use lib.ListN.{length}
-use lib.Dec.{eqb}
-use Rattle.basics.specs.Rows.{Row, firstOf}
+use Rattle.basics.specs.declared.Refusal.{Refusal}
+use Rattle.basics.specs.Rows.{Row}
+use Rattle.basics.specs.Refusals.{refuse, noRefusal, firstRefusal, passes}
 use Rattle.places.specs.Limits.{lent}
+use Rattle.header.specs.Header.{headerRows, flagsOf}
+use Rattle.header.specs.Flags.{compatOf, noCompat}
 use Rattle.cart.specs.declared.Cartridge.{Cartridge}
 use Rattle.cart.specs.Cartridges.{noCartridge}
-use Rattle.tables.specs.Tables.{cartridgeOf, unsupported}
-use Rattle.tables.specs.Flags.{compatOf, noCompat}
+use Rattle.tables.specs.Tables.{tablesIn, cartridgeOf, tablesRows}
+use Rattle.blocks.specs.Images.{firstBlock, blocksIn, stopOf, isCut, judgeAll, anyTables, payloadOfTables, hunksIn, overlay, wordCount}
 use Rattle.load.specs.declared.Loading.{Loading}
-use Rattle.load.specs.Blocks.{payloadOf, firstTables, blocksOf, anyTables, blocksRows, wordCount, hunksOf, overlay}
-use Rattle.load.specs.Header.{Refusal, refuse, flagsOf, headerRows, passes}
 
--- the cartridge in an image's first tables block
-abbrev pub cartridgeIn : List ℕ → Cartridge
-cartridgeIn s = cartridgeOf (payloadOf s (firstTables s (blocksOf s)))
+-- blocks in file order, each 7, 6, 8, 9, then 5 where one is cut; then "none" of 8, place the file's length
+unfoldable pub walkRows : List ℕ → ℕ → List (Row Refusal)
+walkRows s m =
+    judgeAll m false firstBlock (blocksIn s)
+    ++ ((isCut s, refuse 5 (stopOf s)) ∷ (not (anyTables (blocksIn s)), refuse 8 (length s)) ∷ [])
 
--- behind the blocks: no tables block, place the file's length
-unfoldable pub noneRows : List ℕ → List (Row Refusal)
-noneRows s = (not (anyTables s (blocksOf s)), refuse 8 (length s)) ∷ []
+-- the cartridge of the first tables block
+abbrev pub cartridgeIn : List (List ℕ) → Cartridge
+cartridgeIn xs = cartridgeOf (payloadOfTables xs)
 
--- what is asked of the blocks
-abbrev pub walkRows : List ℕ → ℕ → List (Row Refusal)
-walkRows s m = blocksRows s m false (blocksOf s) ++ noneRows s
+-- every refusal of an image that is loaded into m words of RAM: 1 to 4; the blocks; then 10, of the flags and the tables
+abbrev pub refusalRows : List ℕ → ℕ → List (Row Refusal)
+refusalRows s m = headerRows s ++ (walkRows s m ++ tablesRows (flagsOf s) (tablesIn (payloadOfTables (blocksIn s))))
 
--- then 10
-unfoldable pub tenRows : List ℕ → List (Row Refusal)
-tenRows s = (unsupported (flagsOf s) (cartridgeIn s .permissions) (cartridgeIn s .flips), refuse 10 0) ∷ []
-
--- every refusal of an image that is loaded into m words of RAM, in 01's order
-abbrev pub rowsOf : List ℕ → ℕ → List (Row Refusal)
-rowsOf s m = headerRows s ++ (walkRows s m ++ tenRows s)
-
--- the refusal: that of the first row that holds
 unfoldable pub refusalOf : List ℕ → ℕ → Refusal
-refusalOf s m = firstOf (rowsOf s m) passes
+refusalOf s m = firstRefusal (refusalRows s m)
 
 abbrev pub loads : List ℕ → ℕ → Bool
-loads s m = eqb (refusalOf s m .number) 0
+loads s m = passes (refusalOf s m)
 
--- the answer of a load, and of a refused one: number and place, and zero in all else
-abbrev pub loaded : List ℕ → Loading
-loaded s =
+-- the answer of a load with these flags and blocks; and of a refused one: number and place, and zero in all else
+abbrev pub loadedOf : List ℕ → List (List ℕ) → Loading
+loadedOf flags xs =
     record {
-      number = 0;
-      place = 0;
-      cartridge = cartridgeIn s;
-      compat = compatOf (flagsOf s);
-      blocks = length (blocksOf s);
-      words = wordCount (hunksOf s);
+      refusal = noRefusal;
+      cartridge = cartridgeIn xs;
+      compat = compatOf flags;
+      blocks = length xs;
+      words = wordCount (hunksIn xs);
     }
 
 abbrev pub refused : Refusal → Loading
-refused r =
-    record {
-      number = r .number;
-      place = r .place;
-      cartridge = noCartridge;
-      compat = noCompat;
-      blocks = 0;
-      words = 0;
-    }
+refused r = record { refusal = r; cartridge = noCartridge; compat = noCompat; blocks = 0; words = 0 }
 
 -- the answer for m words of lent RAM
 unfoldable pub loadingOf : List ℕ → ℕ → Loading
-loadingOf s m = cond (loads s m) (loaded s) (refused (refusalOf s m))
+loadingOf s m = cond (loads s m) (loadedOf (flagsOf s) (blocksIn s)) (refused (refusalOf s m))
 
 -- the RAM afterwards: the hunks over it in file order, and as it was where the load is refused
 unfoldable pub loadRamOf : List ℕ → List ℕ → List ℕ
-loadRamOf s ram = cond (loads s (lent ram)) (overlay (hunksOf s) ram) ram
+loadRamOf s ram = cond (loads s (lent ram)) (overlay (hunksIn (blocksIn s)) ram) ram

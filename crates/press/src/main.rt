@@ -6,6 +6,7 @@ ghost use lib.ListN.{length};
 use build::Building;
 use files::INPUTS;
 use files::Seen;
+use places::BIN_LIMIT;
 
 // Room for one byte more than a BIN and a CFG may have, so that a longer file is seen to be longer, and for any image that the
 // builder makes.
@@ -31,28 +32,39 @@ fn image_room() -> [u8; 655360]
 struct Answer {
     number: u64,
     place: u64,
-    with: u64,
     length: usize,
     needed: u64,
 }
 
+// The earlier line that 27 names beside its own: what the rules say, asked again.
+fn rival_of(bin: &[u8], cfg: &[u8]) -> u64 {
+    let n = bin.len();
+    if BIN_LIMIT < n {
+        return 0;
+    }
+    let r = cfg::read_cfg(cfg);
+    let lines = r.lines;
+    let j = rules::judge((n / 2) as u32, r.count, lines);
+    j.with as u64
+}
+
 // The one place here that takes the builder's answer apart.
 fn answer_of(b: Building) -> Answer {
+    let r = b.refusal;
     Answer {
-        number: b.number as u64,
-        place: b.place as u64,
-        with: b.with as u64,
+        number: r.number as u64,
+        place: r.place as u64,
         length: b.length,
         needed: b.needed as u64,
     }
 }
 
-fn refused(a: Answer) {
+fn refused(a: Answer, bin: &[u8], cfg: &[u8]) {
     files::say(b"result=refused\n");
     files::line(b"code=", a.number);
     files::line(b"at=", a.place);
     if a.number == 27 {
-        files::line(b"with=", a.with);
+        files::line(b"with=", rival_of(bin, cfg));
     }
 }
 
@@ -68,7 +80,7 @@ fn press(bin: &[u8], cfg: &[u8], inputs: [Seen; INPUTS]) {
     let a = answer_of(build::build(bin, cfg, &mut out));
     let n = a.length;
     if a.number != 0 {
-        refused(a);
+        refused(a, bin, cfg);
         return;
     }
     // never so: 29 would have come first

@@ -20,7 +20,7 @@ worldOf l ram = record { cartridge = l .cartridge; ram = ram }
 pub record Pressing (bin cfg out left ram stored : List ℕ) (b : Building) (l : Loading) : Type 0 where
   pub building : b ≡ buildingOf bin cfg out
   pub leaving : left ≡ builtOf bin cfg out
-  pub accepts : b .number ≡ 0
+  pub accepts : b .refusal .number ≡ 0
   pub enough : b .needed ≤ length ram
   pub loading : l ≡ loadingOf (take (b .length) left) (lent ram)
   pub storing : stored ≡ loadRamOf (take (b .length) left) ram

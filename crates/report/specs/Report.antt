@@ -4,16 +4,17 @@ use mathlib.Core.List.{List}
 use mathlib.Core.Bool.{cond}
 use lib.Dec.{ltb}
 use lib.ListN.{length}
+use Rattle.basics.specs.Refusals.{refuse}
 use Rattle.places.specs.Limits.{cardLimit}
 use Rattle.load.specs.declared.Loading.{Loading}
 use Rattle.load.specs.Load.{loadingOf, loadRamOf}
 use Rattle.report.specs.declared.Report.{Report}
 
 abbrev pub printed : Loading → Report
-printed r = record { number = r .number; place = r .place; blocks = r .blocks; words = r .words }
+printed r = record { refusal = r .refusal; blocks = r .blocks; words = r .words }
 
 abbrev pub tooLong : Report
-tooLong = record { number = 30; place = 0; blocks = 0; words = 0 }
+tooLong = record { refusal = refuse 30 0; blocks = 0; words = 0 }
 
 -- 30 is asked before all others
 unfoldable pub reportOf : List ℕ → ℕ → Report

@@ -5,14 +5,12 @@ pub use program::card;
 ghost use mathlib.Core.Path.{_≡_};
 ghost use Rattle.places.specs.Limits.{lent};
 ghost use Rattle.report.specs.Report.{reportOf, reportRamOf};
+use basics::Refusal;
+use places::CARD_LIMIT;
 
-// The longest file that the card takes.
-const CARD_LIMIT: usize = 24576;
-
-// What is printed of a load; number 0 is no refusal.
+// What is printed of a load.
 pub struct Report {
-    pub number: u32,
-    pub place: usize,
+    pub refusal: Refusal,
     pub blocks: usize,
     pub words: usize,
 }
@@ -23,16 +21,15 @@ pub fn answer(image: &[u8], ram: &mut [u16]) -> Report
 {
     if CARD_LIMIT < image.len() {
         return Report {
-            number: 30,
-            place: 0,
+            refusal: basics::refuse(30, 0),
             blocks: 0,
             words: 0,
         };
     }
     let r = load::load(image, ram);
+    let refusal = r.refusal;
     Report {
-        number: r.number,
-        place: r.place,
+        refusal,
         blocks: r.blocks,
         words: r.words,
     }

@@ -27,9 +27,10 @@ struct Shown {
 
 // The one place here that takes the answer apart.
 fn shown_of(r: Report) -> Shown {
+    let f = r.refusal;
     Shown {
-        number: r.number as u64,
-        place: r.place as u64,
+        number: f.number as u64,
+        place: f.place as u64,
         blocks: r.blocks as u64,
         words: r.words as u64,
     }

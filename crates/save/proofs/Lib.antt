@@ -1,5 +1,3 @@
--- Laws that the writers' proofs cite.
-pub mod Puts
-pub mod Blocks
-pub mod Marks
+pub mod Laws
+pub mod Loops
 pub mod Same

@@ -1,3 +1,3 @@
 -- Theorems over the definitions.
-pub mod Writing
+pub mod Chosen
 pub mod Refusals

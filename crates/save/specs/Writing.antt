@@ -1,57 +1,71 @@
--- What the plain writer answers and what it leaves in the lent buffer (01, How an image is laid out by the builder; Numbers that come back).
-use Prim.Native.Nat.{ℕ, _*_, _+_}
-use mathlib.Core.List.{List, _∷_, [], _++_}
-use mathlib.Core.Bool.{Bool, false, _&&_, cond}
-use lib.ListN.{getD, length, drop}
+-- What the plain writer takes, what it answers, and what it leaves in the lent buffer (01, How an image is laid out by the builder; Numbers that come back).
+use Prim.Native.Nat.{ℕ, _+_, _*_}
+use mathlib.Core.List.{List, [], _∷_}
+use mathlib.Core.Bool.{Bool, false, cond, _&&_, _||_}
+use lib.ListN.{length, getD}
 use lib.Dec.{ltb, eqb}
-use Rattle.basics.specs.Lists.{part}
-use Rattle.basics.specs.Rows.{Row, firstOf}
+use Rattle.basics.specs.declared.Refusal.{Refusal}
+use Rattle.basics.specs.Lists.{putFront}
+use Rattle.basics.specs.Tables.{table}
 use Rattle.basics.specs.Counts.{any, lowest}
-use Rattle.places.specs.Limits.{locutusParagraphs, lent, imageLimit}
-use Rattle.tables.specs.Tables.{unsupported}
-use Rattle.image.specs.Form.{Hunk, Tables, imageOf}
-use Rattle.image.specs.Chosen.{chosen}
+use Rattle.basics.specs.Rows.{Row}
+use Rattle.basics.specs.Refusals.{refuse, firstRefusal, passes}
+use Rattle.places.specs.Limits.{imageLimit, lent, locutusParagraphs, paragraphSize}
+use Rattle.tables.specs.Tables.{Tables, unsupported}
+use Rattle.hunk.specs.Hunk.{Hunk}
 use Rattle.save.specs.declared.Writing.{Writing}
+use Rattle.save.specs.Chosen.{chosen, imageFor}
 
--- the marked paragraphs of a RAM, and the image that is to be written
+-- flag bytes, UID, the three tables, a RAM, and one mark for each of 2,048 Locutus paragraphs
+pub record Content : Type 0 where
+  pub flags : List ℕ
+  pub uid : List ℕ
+  pub tables : Tables
+  pub ram : List ℕ
+  pub marks : List Bool
+
+abbrev pub content : List ℕ → List ℕ → Tables → List ℕ → List Bool → Content
+content flags uid tables ram marks = record { flags = flags; uid = uid; tables = tables; ram = ram; marks = marks }
+
+-- the marked paragraphs with their words, and the image that is to be written
 unfoldable pub isMarked : List Bool → ℕ → Bool
 isMarked marks p = getD marks p false
 
 abbrev pub paragraphOf : List ℕ → ℕ → List ℕ
-paragraphOf ram p = part ram (256 * p) (256 * p + 256)
+paragraphOf ram p = table paragraphSize (λ i. getD ram (paragraphSize * p + i) 0)
 
-abbrev pub marked : List Bool → List ℕ → List Hunk
-marked marks ram = chosen locutusParagraphs (isMarked marks) (paragraphOf ram)
+abbrev pub marked : List ℕ → List Bool → List Hunk
+marked ram marks = chosen locutusParagraphs (isMarked marks) (paragraphOf ram)
 
-abbrev pub imageBy : List ℕ → List ℕ → Tables → List ℕ → List Bool → List ℕ
-imageBy flags uid t ram marks = imageOf flags uid t (marked marks ram)
+abbrev pub imageBy : Content → List ℕ
+imageBy c = imageFor (c .flags) (c .uid) (c .tables) (marked (c .ram) (c .marks))
 
--- paragraph p is marked and does not lie wholly in n words
+-- 9: paragraph p is marked and does not lie wholly in n words
 abbrev pub past : List Bool → ℕ → ℕ → Bool
-past marks n p = isMarked marks p && ltb n (256 * p + 256)
+past marks n p = isMarked marks p && ltb n (paragraphSize * p + paragraphSize)
 
--- the answers: a refusal, all else zero but the length at 29; and the image's length
-abbrev pub refusal : ℕ → ℕ → ℕ → Writing
-refusal number place length = record { number = number; place = place; length = length }
+abbrev pub pastLent : Content → ℕ → Bool
+pastLent c p = past (c .marks) (lent (c .ram)) p
 
-abbrev pub done : ℕ → Writing
-done length = record { number = 0; place = 0; length = length }
-
--- the refusals in their order: 10 where loading would; 9; 1; 29
-abbrev pub refusals : List ℕ → List ℕ → List ℕ → Tables → List ℕ → List Bool → List (Row Writing)
-refusals out flags uid t ram marks =
-    (unsupported flags (t .permissions) (t .flips), refusal 10 0 0)
-    ∷ (any locutusParagraphs (past marks (lent ram)), refusal 9 (lowest locutusParagraphs (past marks (lent ram))) 0)
-    ∷ (ltb imageLimit (length (imageBy flags uid t ram marks)), refusal 1 0 0)
-    ∷ (ltb (length out) (length (imageBy flags uid t ram marks)), refusal 29 0 (length (imageBy flags uid t ram marks)))
+-- the refusals in their order: 10 where loading would; 9 for the lowest such paragraph; 1; 29
+abbrev pub refusalRows : List ℕ → Content → List (Row Refusal)
+refusalRows out c =
+    (unsupported (c .flags) (c .tables .permissions) (c .tables .flips), refuse 10 0)
+    ∷ (any locutusParagraphs (pastLent c), refuse 9 (lowest locutusParagraphs (pastLent c)))
+    ∷ (ltb imageLimit (length (imageBy c)), refuse 1 0)
+    ∷ (ltb (length out) (length (imageBy c)), refuse 29 0)
     ∷ []
 
-unfoldable pub writingOf : List ℕ → List ℕ → List ℕ → Tables → List ℕ → List Bool → Writing
-writingOf out flags uid t ram marks = firstOf (refusals out flags uid t ram marks) (done (length (imageBy flags uid t ram marks)))
+unfoldable pub refusalOf : List ℕ → Content → Refusal
+refusalOf out c = firstRefusal (refusalRows out c)
+
+-- the answer: the refusal, and zero in all else but the length at 29; and the image's length where nothing is refused
+abbrev pub answerFor : Refusal → ℕ → Writing
+answerFor r long = record { refusal = r; length = cond (passes r || eqb (r .number) 29) long 0 }
+
+unfoldable pub writingOf : List ℕ → Content → Writing
+writingOf out c = answerFor (refusalOf out c) (length (imageBy c))
 
 -- the buffer: the image at its front where it was written, and all bytes kept where it was not
-unfoldable pub writtenOf : List ℕ → List ℕ → List ℕ → Tables → List ℕ → List Bool → List ℕ
-writtenOf out flags uid t ram marks =
-    cond (eqb (writingOf out flags uid t ram marks .number) 0)
-    (imageBy flags uid t ram marks ++ drop (length (imageBy flags uid t ram marks)) out)
-    out
+unfoldable pub writtenOf : List ℕ → Content → List ℕ
+writtenOf out c = cond (passes (refusalOf out c)) (putFront (imageBy c) out) out

@@ -1,241 +1,226 @@
 // The plain writer: an image of the marked paragraphs of a RAM (01, "How an image is laid out by the builder").
-ghost use Prim.Native.Nat.{_+_, _*_, _≤_, _<_};
 ghost use mathlib.Core.Path.{_≡_};
-ghost use mathlib.Core.Bool.{false};
 ghost use mathlib.Core.List.{_++_, _∷_, []};
-ghost use lib.ListN.{length, drop};
-ghost use Rattle.basics.specs.Bytes.{bytes16};
-ghost use Rattle.basics.specs.Counts.{count, lowest};
-ghost use Rattle.basics.specs.Lists.{joined};
-ghost use Rattle.places.specs.Limits.{lent, locutusParagraphs};
-ghost use Rattle.sums.specs.Crc.{dowPoly, c324Poly, dowcrcOf, crc324Of};
+ghost use Prim.Native.Nat.{_+_, _*_, _≤_, _<_};
+ghost use lib.ListN.{length, getD};
+ghost use Rattle.basics.specs.Counts.{lowest};
+ghost use Rattle.basics.specs.Lists.{putFront};
+ghost use Rattle.places.specs.Limits.{locutusParagraphs};
+ghost use Rattle.sums.specs.Crc.{c324Poly, crc324Of};
 ghost use Rattle.sums.specs.Tables.{tablesOf};
-ghost use Rattle.tables.specs.Tables.{unsupported};
-ghost use Rattle.image.specs.Form.{tables, hunk, blockOf, dataOf, dataWords, hunkPayload, tablesPayload, headOf, headerOf, tablesBlock, hunkBlock};
-ghost use Rattle.image.specs.Chosen.{Sized, Chosen};
-ghost use Rattle.save.specs.Writing.{isMarked, paragraphOf, marked, imageBy, past, refusal, writingOf, writtenOf};
+ghost use Rattle.tables.specs.Tables.{tables, tablesPayload};
+ghost use Rattle.hunk.specs.Hunk.{hunk, payloadSize};
+ghost use Rattle.blocks.specs.Blocks.{frameSize, endMark, payloadIn, putFrame};
+ghost use Rattle.save.specs.Chosen.{tablesBlock, hunkBlock};
+ghost use Rattle.save.specs.Writing.{content, paragraphOf, imageBy, past, answerFor, writingOf, writtenOf};
+ghost use Rattle.save.specs.Code.Writing.{blockLimit, frontOf, frontSize, hunkBytes, imageSize, judgedBy};
+use basics::Refusal;
+use blocks::FRAME_SIZE;
+use header::FLAGS_SIZE;
+use header::UID_SIZE;
+use places::LOCUTUS_PARAGRAPHS;
+use places::Locutus;
+use places::PARAGRAPH_SIZE;
+use places::PARAGRAPHS;
 
-// What writing answers: a refusal's number and place, 0 where there is none; the image's length, also where the
-// buffer is too short for it.
+// What writing answers: its refusal, and the image's length, also where the buffer is too short for it.
 pub struct Writing {
-    pub number: u32,
-    pub place: u32,
+    pub refusal: Refusal,
     pub length: usize,
 }
 
-// The bytes of an image without hunks (header 32, tables block 8 + 1,280, end 1), and of a hunk's block (8, address 3,
-// data blocks 4 x 125 + 17).
-const BARE: usize = 1321;
-
-const HUNK: usize = 528;
-
-// The two checksums, by the tables of their polynomials.
-fn header_sum(dow: &[u32; 2048], s: &[u8]) -> u8
-    requires { ⌜ now dow ≡ tablesOf dowPoly ⌝ }
-    ensures { λ r. ⌜ r ≡ dowcrcOf (now (s .entry)) ⌝ }
+// A word of a RAM; 0 past its end, as in the definitions.
+fn word_of(ram: &[u16], at: usize) -> u16
+    ensures { λ r. ⌜ r ≡ getD (now (ram .entry)) at 0 ⌝ }
 {
-    sums::dowcrc_by(dow, s)
+    if at < ram.len() { ram[at] } else { 0 }
 }
 
-fn payload_sum(crc: &[u32; 2048], s: &[u8]) -> u32
-    requires { ⌜ now crc ≡ tablesOf c324Poly ⌝ }
-    ensures { λ r. ⌜ r ≡ crc324Of (now (s .entry)) ⌝ }
+// The words of paragraph p of a RAM.
+fn paragraph_of(ram: &[u16], p: usize) -> [u16; PARAGRAPH_SIZE]
+    requires { ⌜ p < locutusParagraphs ⌝ }
+    ensures { λ r. ⌜ r ≡ paragraphOf (now (ram .entry)) p ⌝ }
 {
-    sums::sum_by(crc, 0, s)
-}
-
-// Bytes, and words of two bytes each, into a part of just their size.
-fn put_bytes(out: &mut [u8], bytes: &[u8])
-    requires { ⌜ length (now out) ≡ length (now bytes) ⌝ }
-    ensures { λ _. ⌜ now (out .exit) ≡ now (bytes .entry) ⌝ }
-{
-    let mut i = 0;
-    while i < bytes.len() {
-        out[i] = bytes[i];
-        i += 1;
+    let mut words = [0u16; PARAGRAPH_SIZE];
+    for i in 0..PARAGRAPH_SIZE {
+        words[i] = word_of(ram, PARAGRAPH_SIZE * p + i);
     }
+    words
 }
 
-fn put_words(out: &mut [u8], words: &[u16])
-    requires { ⌜ length (now out) ≡ 2 * length (now words) ⌝ }
-    ensures { λ _. ⌜ now (out .exit) ≡ bytes16 (now (words .entry)) ⌝ }
+// CRC32/4 of a block's payload, by its own tables.
+fn payload_sum(c324: &[u32; 2048], x: &[u8]) -> u32
+    requires { ⌜ now c324 ≡ tablesOf c324Poly ⌝ }
+    ensures { λ r. ⌜ r ≡ crc324Of (payloadIn (now (x .entry))) ⌝ }
 {
-    let mut i = 0;
-    while i < words.len() {
-        let w = words[i];
-        out[2 * i] = basics::low(w);
-        out[2 * i + 1] = basics::high(w);
-        i += 1;
-    }
+    let a = basics::least(FRAME_SIZE, x.len());
+    sums::sum_by(c324, 0, &x[a..])
 }
 
-// A 16-bit data block.
-fn put_data(out: &mut [u8], words: &[u16])
-    requires { ⌜ (length (now out) ≡ 1 + 2 * length (now words)) × (length (now words) ≤ dataWords) ⌝ }
-    ensures { λ _. ⌜ now (out .exit) ≡ dataOf (now (words .entry)) ⌝ }
+// The frame of a block whose payload stands from byte 8 on.
+fn frame(out: &mut [u8], t: u8, c324: &[u32; 2048])
+    requires { ⌜ now c324 ≡ tablesOf c324Poly ⌝ }
+    ensures { λ _. ⌜ now (out .exit) ≡ putFrame t (crc324Of (payloadIn (now (out .entry)))) (now (out .entry)) ⌝ }
 {
-    let n = words.len();
-    out[0] = (0xBF + n) as u8;
-    put_words(&mut out[1..], words);
+    let sum = payload_sum(c324, out);
+    blocks::put_frame(out, t, sum);
 }
 
-// A hunk's payload: the address of paragraph p's first word, and its words in data blocks.
-fn put_hunk(out: &mut [u8], p: u16, words: &[u16])
-    requires { ⌜ (length (now out) ≡ 520) × (length (now words) ≡ 256) ⌝ }
-    ensures { λ _. ⌜ now (out .exit) ≡ hunkPayload (hunk p (now (words .entry))) ⌝ }
-{
-    out[0] = 0;
-    out[1] = basics::low(p);
-    out[2] = basics::high(p);
-    let mut at = 3;
-    let mut i = 0;
-    while i < words.len() {
-        let n = basics::least(image::DATA_WORDS, words.len() - i);
-        let e = at + (1 + 2 * n);
-        let j = i + n;
-        put_data(&mut out[at..e], &words[i..j]);
-        at = e;
-        i = j;
-    }
-}
-
-// A block's header, before a payload that stands from byte 8 on.
-fn frame(out: &mut [u8], t: u8, dow: &[u32; 2048], crc: &[u32; 2048])
-    requires { ⌜ (now dow ≡ tablesOf dowPoly) × (now crc ≡ tablesOf c324Poly) ⌝ }
-    requires { ⌜ (8 ≤ length (now out)) × (length (now out) < 65536) ⌝ }
-    ensures { λ _. ⌜ now (out .exit) ≡ blockOf t (drop 8 (now (out .entry))) ⌝ }
-{
-    let sum = payload_sum(crc, &out[8..]);
-    let long = (out.len() - 8) as u16;
-    let lower = (sum % 65536) as u16;
-    let upper = (sum / 65536) as u16;
-    out[0] = t;
-    out[1] = basics::low(long);
-    out[2] = basics::high(long);
-    let start = header_sum(dow, &out[..3]);
-    out[3] = start;
-    out[4] = basics::low(lower);
-    out[5] = basics::high(lower);
-    out[6] = basics::low(upper);
-    out[7] = basics::high(upper);
-}
-
-// The header's first 31 bytes; then all 32, with their checksum.
-fn put_head(out: &mut [u8], flags: &[u8], uid: &[u8])
-    requires { ⌜ (length (now out) ≡ 31) × (length (now flags) ≡ 16) × (length (now uid) ≡ 8) ⌝ }
-    ensures { λ _. ⌜ now (out .exit) ≡ headOf (now (flags .entry)) (now (uid .entry)) ⌝ }
-{
-    put_bytes(&mut out[0..4], &[0x4C, 0x54, 0x4F, 0x01]);
-    put_bytes(&mut out[4..20], flags);
-    put_bytes(&mut out[20..28], uid);
-    put_bytes(&mut out[28..31], &[0, 0, 0]);
-}
-
-fn write_header(out: &mut [u8], flags: &[u8], uid: &[u8], dow: &[u32; 2048])
-    requires { ⌜ now dow ≡ tablesOf dowPoly ⌝ }
-    requires { ⌜ (length (now out) ≡ 32) × (length (now flags) ≡ 16) × (length (now uid) ≡ 8) ⌝ }
-    ensures { λ _. ⌜ now (out .exit) ≡ headerOf (now (flags .entry)) (now (uid .entry)) ⌝ }
-{
-    put_head(&mut out[0..31], flags, uid);
-    let sum = header_sum(dow, &out[..31]);
-    out[31] = sum;
-}
-
-// The three tables, into a payload's 1,280 bytes.
-fn put_tables(out: &mut [u8], mapping: &[u16], permissions: &[u8], flips: &[u16])
-    requires { ⌜ (length (now out) ≡ 1280) × (length (now mapping) ≡ 256) × (length (now permissions) ≡ 256) × (length (now flips) ≡ 256) ⌝ }
-    ensures { λ _. ⌜ now (out .exit) ≡ tablesPayload (tables (now (mapping .entry)) (now (permissions .entry)) (now (flips .entry))) ⌝ }
-{
-    put_words(&mut out[0..512], mapping);
-    put_bytes(&mut out[512..768], permissions);
-    put_words(&mut out[768..1280], flips);
-}
-
-// The tables block, into its 1,288 bytes.
-fn write_tables(
+// The tables block, into a part of just its size.
+fn put_tables<'a>(
     out: &mut [u8],
-    mapping: &[u16],
-    permissions: &[u8],
-    flips: &[u16],
-    dow: &[u32; 2048],
-    crc: &[u32; 2048],
+    mapping: &[u16; PARAGRAPHS],
+    permissions: &'a [u8; PARAGRAPHS],
+    flips: &'a [u16; PARAGRAPHS],
+    c324: &[u32; 2048],
 )
-    requires { ⌜ (now dow ≡ tablesOf dowPoly) × (now crc ≡ tablesOf c324Poly) ⌝ }
-    requires { ⌜ (length (now out) ≡ 1288) × (length (now mapping) ≡ 256) × (length (now permissions) ≡ 256) × (length (now flips) ≡ 256) ⌝ }
+    requires { ⌜ (now c324 ≡ tablesOf c324Poly) × (length (now out) ≡ frameSize + length (tablesPayload (tables (now mapping) (now permissions) (now flips)))) × (length (now out) ≤ blockLimit) ⌝ }
     ensures { λ _. ⌜ now (out .exit) ≡ tablesBlock (tables (now (mapping .entry)) (now (permissions .entry)) (now (flips .entry))) ⌝ }
 {
-    put_tables(&mut out[8..], mapping, permissions, flips);
-    frame(out, 0x01, dow, crc);
+    tables::write(&mut out[FRAME_SIZE..], mapping, permissions, flips);
+    frame(out, blocks::TABLES_TYPE, c324);
 }
 
-// The block of a hunk, into its 528 bytes.
-fn write_hunk(out: &mut [u8], p: u16, words: &[u16], dow: &[u32; 2048], crc: &[u32; 2048])
-    requires { ⌜ (now dow ≡ tablesOf dowPoly) × (now crc ≡ tablesOf c324Poly) ⌝ }
-    requires { ⌜ (length (now out) ≡ 528) × (length (now words) ≡ 256) ⌝ }
-    ensures { λ _. ⌜ now (out .exit) ≡ hunkBlock (hunk p (now (words .entry))) ⌝ }
+// The block of a hunk, into a part of just its size.
+fn put_hunk(out: &mut [u8], at: Locutus, words: &[u16; PARAGRAPH_SIZE], c324: &[u32; 2048])
+    requires { ⌜ (now c324 ≡ tablesOf c324Poly) × (length (now out) ≡ frameSize + payloadSize (now words)) × (length (now out) ≤ blockLimit) ⌝ }
+    ensures { λ _. ⌜ now (out .exit) ≡ hunkBlock (hunk at (now (words .entry))) ⌝ }
 {
-    put_hunk(&mut out[8..], p, words);
-    frame(out, 0x02, dow, crc);
+    hunk::write(&mut out[FRAME_SIZE..], at, words);
+    frame(out, blocks::HUNK_TYPE, c324);
 }
 
-// A block for each marked paragraph, and the end.
-fn write_hunks(
+// The bytes before the hunks: those of the header and of the tables block.
+fn front_size<'a>(
+    flags: &[u8; FLAGS_SIZE],
+    uid: &[u8; UID_SIZE],
+    mapping: &[u16; PARAGRAPHS],
+    permissions: &'a [u8; PARAGRAPHS],
+    flips: &'a [u16; PARAGRAPHS],
+) -> usize
+    ensures { λ r. ⌜ (r ≡ frontSize (now (flags .entry)) (now (uid .entry)) (tables (now (mapping .entry)) (now (permissions .entry)) (now (flips .entry)))) × (r ≤ 2 * blockLimit) ⌝ }
+{
+    header::size(flags, uid) + (FRAME_SIZE + tables::size(mapping, permissions, flips))
+}
+
+// The header and the tables block, each in a part of its own.
+fn put_front<'a>(
     out: &mut [u8],
-    ram: &[u16],
-    marks: &[bool; 2048],
-    dow: &[u32; 2048],
-    crc: &[u32; 2048],
+    flags: &[u8; FLAGS_SIZE],
+    uid: &[u8; UID_SIZE],
+    mapping: &[u16; PARAGRAPHS],
+    permissions: &'a [u8; PARAGRAPHS],
+    flips: &'a [u16; PARAGRAPHS],
+    c324: &[u32; 2048],
 )
-    requires { ⌜ (now dow ≡ tablesOf dowPoly) × (now crc ≡ tablesOf c324Poly) ⌝ }
-    requires { ⌜ (length (now out) ≡ 528 * count (isMarked (now marks)) locutusParagraphs + 1) × Chosen (lent (now ram)) locutusParagraphs (isMarked (now marks)) (paragraphOf (now ram)) ⌝ }
-    ensures { λ _. ⌜ now (out .exit) ≡ joined hunkBlock (marked (now (marks .entry)) (now (ram .entry))) ++ (0xFF ∷ []) ⌝ }
+    requires { ⌜ (now c324 ≡ tablesOf c324Poly) × (length (now out) ≡ frontSize (now flags) (now uid) (tables (now mapping) (now permissions) (now flips))) ⌝ }
+    ensures { λ _. ⌜ now (out .exit) ≡ frontOf (now (flags .entry)) (now (uid .entry)) (tables (now (mapping .entry)) (now (permissions .entry)) (now (flips .entry))) ⌝ }
+{
+    let a = header::size(flags, uid);
+    let e = a + (FRAME_SIZE + tables::size(mapping, permissions, flips));
+    header::write(&mut out[0..a], flags, uid);
+    put_tables(&mut out[a..e], mapping, permissions, flips, c324);
+}
+
+// The bytes of the block of a paragraph's words.
+fn block_size(words: &[u16; PARAGRAPH_SIZE]) -> usize
+    ensures { λ r. ⌜ (r ≡ frameSize + payloadSize (now (words .entry))) × (r ≤ blockLimit) ⌝ }
+{
+    FRAME_SIZE + hunk::size(words)
+}
+
+// The bytes of the blocks of the marked paragraphs.
+fn hunks_size(ram: &[u16], marks: &[bool; LOCUTUS_PARAGRAPHS]) -> usize
+    ensures { λ r. ⌜ (r ≡ length (hunkBytes (now (ram .entry)) (now (marks .entry)))) × (r ≤ blockLimit * locutusParagraphs) ⌝ }
+{
+    let mut long = 0;
+    let mut p = 0;
+    while p < LOCUTUS_PARAGRAPHS {
+        if marks[p] {
+            let words = paragraph_of(ram, p);
+            long = long + block_size(&words);
+        }
+        p += 1;
+    }
+    long
+}
+
+// A block for each marked paragraph, each in a part of its own, and the end.
+fn put_hunks(out: &mut [u8], ram: &[u16], marks: &[bool; LOCUTUS_PARAGRAPHS], c324: &[u32; 2048])
+    requires { ⌜ (now c324 ≡ tablesOf c324Poly) × (length (now out) ≡ length (hunkBytes (now ram) (now marks)) + 1) ⌝ }
+    ensures { λ _. ⌜ now (out .exit) ≡ hunkBytes (now (ram .entry)) (now (marks .entry)) ++ (endMark ∷ []) ⌝ }
 {
     let mut at = 0;
     let mut p = 0;
-    while p < image::PARAGRAPHS {
+    while p < LOCUTUS_PARAGRAPHS {
         if marks[p] {
-            let e = at + HUNK;
-            let a = 256 * p;
-            let b = a + 256;
-            write_hunk(&mut out[at..e], p as u16, &ram[a..b], dow, crc);
+            let words = paragraph_of(ram, p);
+            let e = at + block_size(&words);
+            put_hunk(
+                &mut out[at..e],
+                Locutus((PARAGRAPH_SIZE * p) as u32),
+                &words,
+                c324,
+            );
             at = e;
         }
         p += 1;
     }
-    out[at] = 0xFF;
+    out[at] = blocks::END_MARK;
 }
 
-// The whole image, into the front of a buffer that holds it.
-fn write_image(
-    out: &mut [u8],
-    flags: &[u8],
-    uid: &[u8],
-    mapping: &[u16],
-    permissions: &[u8],
-    flips: &[u16],
+// How many bytes the image has: header, blocks, end.
+fn image_size<'a>(
+    flags: &[u8; FLAGS_SIZE],
+    uid: &[u8; UID_SIZE],
+    mapping: &[u16; PARAGRAPHS],
+    permissions: &'a [u8; PARAGRAPHS],
+    flips: &'a [u16; PARAGRAPHS],
     ram: &[u16],
-    marks: &[bool; 2048],
+    marks: &[bool; LOCUTUS_PARAGRAPHS],
+) -> usize
+    ensures { λ r. ⌜ r ≡ imageSize (content (now (flags .entry)) (now (uid .entry)) (tables (now (mapping .entry)) (now (permissions .entry)) (now (flips .entry))) (now (ram .entry)) (now (marks .entry))) ⌝ }
+{
+    front_size(flags, uid, mapping, permissions, flips) + hunks_size(ram, marks) + 1
+}
+
+// The image, into the front of a buffer that holds its bytes.
+fn put_image<'a>(
+    out: &mut [u8],
+    flags: &[u8; FLAGS_SIZE],
+    uid: &[u8; UID_SIZE],
+    mapping: &[u16; PARAGRAPHS],
+    permissions: &'a [u8; PARAGRAPHS],
+    flips: &'a [u16; PARAGRAPHS],
+    ram: &[u16],
+    marks: &[bool; LOCUTUS_PARAGRAPHS],
     long: usize,
 )
-    requires { ⌜ (long ≡ 1321 + 528 * count (isMarked (now marks)) locutusParagraphs) × (long ≤ length (now out)) ⌝ }
-    requires { ⌜ Sized (now flags) (now uid) (tables (now mapping) (now permissions) (now flips)) × Chosen (lent (now ram)) locutusParagraphs (isMarked (now marks)) (paragraphOf (now ram)) ⌝ }
-    ensures { λ _. ⌜ now (out .exit) ≡ imageBy (now (flags .entry)) (now (uid .entry)) (tables (now (mapping .entry)) (now (permissions .entry)) (now (flips .entry))) (now (ram .entry)) (now (marks .entry)) ++ drop long (now (out .entry)) ⌝ }
+    requires { ⌜ (long ≡ imageSize (content (now flags) (now uid) (tables (now mapping) (now permissions) (now flips)) (now ram) (now marks))) × (long ≤ length (now out)) ⌝ }
+    ensures { λ _. ⌜ now (out .exit) ≡ putFront (imageBy (content (now (flags .entry)) (now (uid .entry)) (tables (now (mapping .entry)) (now (permissions .entry)) (now (flips .entry))) (now (ram .entry)) (now (marks .entry)))) (now (out .entry)) ⌝ }
 {
-    let dow = sums::tables(sums::DOW);
-    let crc = sums::tables(sums::C324);
-    write_header(&mut out[0..32], flags, uid, &dow);
-    write_tables(&mut out[32..1320], mapping, permissions, flips, &dow, &crc);
-    write_hunks(&mut out[1320..long], ram, marks, &dow, &crc);
+    let c324 = sums::tables(sums::C324);
+    let a = front_size(flags, uid, mapping, permissions, flips);
+    put_front(
+        &mut out[0..a],
+        flags,
+        uid,
+        mapping,
+        permissions,
+        flips,
+        &c324,
+    );
+    put_hunks(&mut out[a..long], ram, marks, &c324);
 }
 
 // The lowest marked paragraph that does not lie in n words, or 2,048.
-fn lowest_past(marks: &[bool; 2048], n: usize) -> usize
+fn lowest_past(marks: &[bool; LOCUTUS_PARAGRAPHS], n: usize) -> usize
     ensures { λ r. ⌜ r ≡ lowest locutusParagraphs (past (now (marks .entry)) n) ⌝ }
 {
     let mut p = 0;
-    while p < image::PARAGRAPHS {
+    while p < LOCUTUS_PARAGRAPHS {
         if marks[p] {
-            if n < 256 * p + 256 {
+            if n < PARAGRAPH_SIZE * p + PARAGRAPH_SIZE {
                 return p;
             }
         }
@@ -244,59 +229,78 @@ fn lowest_past(marks: &[bool; 2048], n: usize) -> usize
     p
 }
 
-// How many paragraphs are marked.
-fn count_marks(marks: &[bool; 2048]) -> usize
-    ensures { λ r. ⌜ (r ≡ count (isMarked (now (marks .entry))) locutusParagraphs) × (r ≤ 2048) ⌝ }
+// The refusals of a writing whose image has so many bytes, in their order: 10, 9, 1, 29.
+fn judge<'a>(
+    room: usize,
+    flags: &[u8; FLAGS_SIZE],
+    permissions: &'a [u8; PARAGRAPHS],
+    flips: &'a [u16; PARAGRAPHS],
+    words: usize,
+    marks: &[bool; LOCUTUS_PARAGRAPHS],
+    long: usize,
+) -> Refusal
+    ensures { λ r. ⌜ r ≡ judgedBy room (now (flags .entry)) (now (permissions .entry)) (now (flips .entry)) words (now (marks .entry)) long ⌝ }
 {
-    let mut n = 0;
-    let mut p = 0;
-    while p < image::PARAGRAPHS {
-        if marks[p] {
-            n += 1;
-        }
-        p += 1;
+    if tables::refused(flags, permissions, flips) {
+        return basics::refuse(10, 0);
     }
-    n
+    let first = lowest_past(marks, words);
+    if first < LOCUTUS_PARAGRAPHS {
+        return basics::refuse(9, first);
+    }
+    if places::IMAGE_LIMIT < long {
+        return basics::refuse(1, 0);
+    }
+    if room < long {
+        return basics::refuse(29, 0);
+    }
+    basics::no_refusal()
 }
 
-// An answer: a refusal says nothing else but the length where the buffer is too short, a success has no number.
-fn answer(number: u32, place: u32, length: usize) -> Writing
-    ensures { λ r. ⌜ r ≡ refusal number place length ⌝ }
+// The answer: a refusal has the length only at 29.
+fn answer(r: Refusal, long: usize) -> Writing
+    ensures { λ w. ⌜ w ≡ answerFor r long ⌝ }
 {
+    if basics::either(r.number == 0, r.number == 29) {
+        return Writing {
+            refusal: r,
+            length: long,
+        };
+    }
     Writing {
-        number: number,
-        place: place,
-        length: length,
+        refusal: r,
+        length: 0,
     }
 }
 
-// The plain writer behind refusal 10, of parts that have their sizes.
-fn write_parts(
+// The plain writer.
+pub fn write<'a>(
     out: &mut [u8],
-    flags: &[u8],
-    uid: &[u8],
-    mapping: &[u16],
-    permissions: &[u8],
-    flips: &[u16],
+    flags: &[u8; FLAGS_SIZE],
+    uid: &[u8; UID_SIZE],
+    mapping: &[u16; PARAGRAPHS],
+    permissions: &'a [u8; PARAGRAPHS],
+    flips: &'a [u16; PARAGRAPHS],
     ram: &[u16],
-    marks: &[bool; 2048],
+    marks: &[bool; LOCUTUS_PARAGRAPHS],
 ) -> Writing
-    requires { ⌜ Sized (now flags) (now uid) (tables (now mapping) (now permissions) (now flips)) × (unsupported (now flags) (now permissions) (now flips) ≡ false) ⌝ }
-    ensures { λ r. ⌜ (r ≡ writingOf (now (out .entry)) (now (flags .entry)) (now (uid .entry)) (tables (now (mapping .entry)) (now (permissions .entry)) (now (flips .entry))) (now (ram .entry)) (now (marks .entry)))
-        × (now (out .exit) ≡ writtenOf (now (out .entry)) (now (flags .entry)) (now (uid .entry)) (tables (now (mapping .entry)) (now (permissions .entry)) (now (flips .entry))) (now (ram .entry)) (now (marks .entry))) ⌝ }
+    ensures { λ r. ⌜ (r ≡ writingOf (now (out .entry)) (content (now (flags .entry)) (now (uid .entry)) (tables (now (mapping .entry)) (now (permissions .entry)) (now (flips .entry))) (now (ram .entry)) (now (marks .entry))))
+        × (now (out .exit) ≡ writtenOf (now (out .entry)) (content (now (flags .entry)) (now (uid .entry)) (tables (now (mapping .entry)) (now (permissions .entry)) (now (flips .entry))) (now (ram .entry)) (now (marks .entry)))) ⌝ }
 {
-    let first = lowest_past(marks, basics::least(ram.len(), 256 * image::PARAGRAPHS));
-    if first < image::PARAGRAPHS {
-        return answer(9, first as u32, 0);
+    let long = image_size(flags, uid, mapping, permissions, flips, ram, marks);
+    let r = judge(
+        out.len(),
+        flags,
+        permissions,
+        flips,
+        places::lent_words(ram),
+        marks,
+        long,
+    );
+    if r.number != 0 {
+        return answer(r, long);
     }
-    let long = BARE + HUNK * count_marks(marks);
-    if tables::IMAGE_LIMIT < long {
-        return answer(1, 0, 0);
-    }
-    if out.len() < long {
-        return answer(29, 0, long);
-    }
-    write_image(
+    put_image(
         out,
         flags,
         uid,
@@ -307,25 +311,5 @@ fn write_parts(
         marks,
         long,
     );
-    answer(0, 0, long)
-}
-
-// The plain writer.
-pub fn write<'a>(
-    out: &mut [u8],
-    flags: &[u8; 16],
-    uid: &[u8; 8],
-    mapping: &[u16; 256],
-    permissions: &'a [u8; 256],
-    flips: &'a [u16; 256],
-    ram: &[u16],
-    marks: &[bool; 2048],
-) -> Writing
-    ensures { λ r. ⌜ (r ≡ writingOf (now (out .entry)) (now (flags .entry)) (now (uid .entry)) (tables (now (mapping .entry)) (now (permissions .entry)) (now (flips .entry))) (now (ram .entry)) (now (marks .entry)))
-        × (now (out .exit) ≡ writtenOf (now (out .entry)) (now (flags .entry)) (now (uid .entry)) (tables (now (mapping .entry)) (now (permissions .entry)) (now (flips .entry))) (now (ram .entry)) (now (marks .entry))) ⌝ }
-{
-    if tables::refused(flags, permissions, flips) {
-        return answer(10, 0, 0);
-    }
-    write_parts(out, flags, uid, mapping, permissions, flips, ram, marks)
+    answer(r, long)
 }

@@ -1,2 +1,4 @@
 -- Theorems over the definitions.
-pub mod Laws
+pub mod Tables
+pub mod Refusals
+pub mod Examples

@@ -1,4 +1,3 @@
--- What loader and writer share of a header's flags and of the tables.
-pub mod Flags
+-- The payload of a tables block, as it is written and as it is read, and refusal 10.
 pub mod Tables
 pub mod Laws

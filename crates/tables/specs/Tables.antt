@@ -1,43 +1,90 @@
--- The three tables in the payload of a tables block, the cartridge that they make, and refusal 10 (01, File layout, Numbers that come back).
+-- The three tables in the payload of a tables block: as they are written, as they are read, the cartridge that they make, and what is
+-- refused of them (01, File layout, Numbers that come back; 001, Block Type 0x01).
 use Prim.Native.Nat.{ℕ, _+_, _*_, _/_, _%_}
-use mathlib.Core.List.{List}
+use mathlib.Core.List.{List, _++_, _∷_, []}
 use mathlib.Core.Bool.{Bool, not, _||_}
 use lib.ListN.{getD}
 use lib.Dec.{eqb}
+use Rattle.basics.specs.declared.Refusal.{Refusal}
 use Rattle.basics.specs.Tables.{table}
-use Rattle.basics.specs.Bytes.{at16}
+use Rattle.basics.specs.Bytes.{at16, bytes16}
 use Rattle.basics.specs.Counts.{any}
+use Rattle.basics.specs.Rows.{Row}
+use Rattle.basics.specs.Refusals.{refuse}
+use Rattle.places.specs.Limits.{paragraphs, chapterPages}
+use Rattle.header.specs.Flags.{field, flag}
 use Rattle.cart.specs.declared.Cartridge.{Cartridge}
-use Rattle.switches.specs.Flips.{PFE}
 use Rattle.cart.specs.Cartridges.{fresh}
-use Rattle.tables.specs.Flags.{field, flag}
+use Rattle.switches.specs.Flips.{PFE}
 
--- 256 entries of 16 bits, and of 8, that stand at a place
-abbrev pub words256 : List ℕ → ℕ → List ℕ
-words256 t at = table 256 (λ i. at16 t (at + 2 * i))
+-- memory mapping, permissions and page flips
+pub record Tables : Type 0 where
+  pub mapping : List ℕ
+  pub permissions : List ℕ
+  pub flips : List ℕ
 
-abbrev pub bytes256 : List ℕ → ℕ → List ℕ
-bytes256 t at = table 256 (λ i. getD t (at + i) 0)
+abbrev pub tables : List ℕ → List ℕ → List ℕ → Tables
+tables mapping permissions flips = record { mapping = mapping; permissions = permissions; flips = flips }
 
--- memory mapping, permissions, page flips (01, File layout)
+-- the mapping stands first, with 16 bits for each paragraph; then the permissions, with 8; then the flips, with 16 for each page of each chapter
+abbrev pub permissionsAt : ℕ
+permissionsAt = 2 * paragraphs
+
+abbrev pub flipsAt : ℕ
+flipsAt = permissionsAt + paragraphs
+
+abbrev pub tablesSize : ℕ
+tablesSize = flipsAt + 2 * paragraphs
+
+-- written
+unfoldable pub tablesPayload : Tables → List ℕ
+tablesPayload t = bytes16 (t .mapping) ++ (t .permissions ++ bytes16 (t .flips))
+
+-- read: the entries of 16 bits, and of 8, that stand at a place
+abbrev pub wordsAt : List ℕ → ℕ → List ℕ
+wordsAt payload at = table paragraphs (λ i. at16 payload (at + 2 * i))
+
+abbrev pub bytesAt : List ℕ → ℕ → List ℕ
+bytesAt payload at = table paragraphs (λ i. getD payload (at + i) 0)
+
+unfoldable pub tablesIn : List ℕ → Tables
+tablesIn payload = tables (wordsAt payload 0) (bytesAt payload permissionsAt) (wordsAt payload flipsAt)
+
+-- the cartridge that is loaded with these tables, and with those of a payload
+abbrev pub cartridgeWith : Tables → Cartridge
+cartridgeWith t = fresh (t .mapping) (t .permissions) (t .flips)
+
 unfoldable pub cartridgeOf : List ℕ → Cartridge
-cartridgeOf t = fresh (words256 t 0) (bytes256 t 512) (words256 t 768)
+cartridgeOf payload = cartridgeWith (tablesIn payload)
 
--- BANKSW is bit 3 of a permission (001, Permissions Table)
+-- BANKSW is bit 3 of a permission; a paragraph has it, and a flip entry has PFE (001, Permissions Table, Page Flipping Table)
 abbrev pub BANKSW : ℕ → Bool
 BANKSW x = eqb (x / 8 % 2) 1
 
--- BANKSW on a paragraph divisible by 8, of which there are 32; PFE in chapter 1
+abbrev pub hasBANKSW : List ℕ → ℕ → Bool
+hasBANKSW permissions p = BANKSW (getD permissions p 0)
+
+abbrev pub hasPFE : List ℕ → ℕ → Bool
+hasPFE flips n = PFE (getD flips n 0)
+
+-- a half-page is 8 paragraphs (001, LUIGI Memory Organization Terminology)
+abbrev pub halfPageParagraphs : ℕ
+halfPageParagraphs = 8
+
+abbrev pub halfPages : ℕ
+halfPages = paragraphs / halfPageParagraphs
+
+-- BANKSW on a paragraph divisible by 8; PFE in chapter 1
 abbrev pub switches : List ℕ → Bool
-switches permissions = any 32 (λ h. BANKSW (getD permissions (8 * h) 0))
+switches permissions = any halfPages (λ h. hasBANKSW permissions (halfPageParagraphs * h))
 
 abbrev pub flipsOne : List ℕ → Bool
-flipsOne flips = any 16 (λ y. PFE (getD flips (16 + y) 0))
+flipsOne flips = any chapterPages (λ y. hasPFE flips (chapterPages + y))
 
 -- 10: JLP field (flags 16-17) not 0, flag 32 set, or one of these
 unfoldable pub unsupported : List ℕ → List ℕ → List ℕ → Bool
-unsupported flags permissions flips =
-    not (eqb (field flags 16) 0)
-    || (flag flags 32
-    || (switches permissions
-    || flipsOne flips))
+unsupported flags permissions flips = not (eqb (field flags 16) 0) || (flag flags 32 || (switches permissions || flipsOne flips))
+
+-- what is refused of a header's flags and of the tables, in 01's order
+unfoldable pub tablesRows : List ℕ → Tables → List (Row Refusal)
+tablesRows flags t = (unsupported flags (t .permissions) (t .flips), refuse 10 0) ∷ []

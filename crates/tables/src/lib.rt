@@ -1,77 +1,49 @@
-// What a header's flags and a tables block say: the compatibility fields, the cartridge, and refusal 10.
-ghost use Prim.Native.Nat.{_+_, _*_, _≤_};
+// The payload of a tables block, both ways: the cartridge of its tables, and tables written; and refusal 10.
+ghost use Prim.Native.Nat.{_≤_};
 ghost use mathlib.Core.Path.{_≡_};
-ghost use Rattle.basics.specs.Bytes.{at16};
+ghost use lib.ListN.{length};
+ghost use Rattle.basics.specs.Lists.{putFront};
+ghost use Rattle.places.specs.Limits.{paragraphs};
 ghost use Rattle.cart.specs.Cartridges.{noCartridge};
-ghost use Rattle.tables.specs.Flags.{compatOf, noCompat};
-ghost use Rattle.tables.specs.Tables.{words256, bytes256, cartridgeOf, switches, flipsOne, unsupported};
+ghost use Rattle.tables.specs.Tables.{tables, tablesPayload, tablesSize, wordsAt, bytesAt, cartridgeOf, switches, flipsOne, unsupported};
 use basics::byte_at;
-use basics::wide16;
+use basics::put_bytes;
+use basics::put_words;
+use basics::word_at;
 use cart::Cartridge;
+use places::CHAPTER_PAGES;
+use places::PARAGRAPHS;
 
-// The longest image.
-pub const IMAGE_LIMIT: usize = 1048576;
+// Where the permissions and the flips stand behind the mapping, and the bytes of all three.
+pub const PERMISSIONS_AT: usize = 2 * PARAGRAPHS;
 
-// The compatibility fields, two bits each.
-pub struct Compat {
-    pub intellivoice: u8,
-    pub ecs: u8,
-    pub intellivision2: u8,
-    pub keyboard: u8,
-    pub tutorvision: u8,
-}
+pub const FLIPS_AT: usize = PERMISSIONS_AT + PARAGRAPHS;
 
-pub fn compat_of(flags: &[u8]) -> Compat
-    ensures { λ r. ⌜ r ≡ compatOf (now (flags .entry)) ⌝ }
+pub const TABLES_SIZE: usize = FLIPS_AT + 2 * PARAGRAPHS;
+
+// The paragraphs of a half-page, and the half-pages.
+pub const HALF_PAGE_PARAGRAPHS: usize = 8;
+
+pub const HALF_PAGES: usize = PARAGRAPHS / HALF_PAGE_PARAGRAPHS;
+
+// A table of words, and of bytes, that stands at a place of the payload.
+fn words_at(t: &[u8], at: usize) -> [u16; PARAGRAPHS]
+    requires { ⌜ at ≤ tablesSize ⌝ }
+    ensures { λ r. ⌜ r ≡ wordsAt (now (t .entry)) at ⌝ }
 {
-    let x = byte_at(flags, 0);
-    let y = byte_at(flags, 1);
-    Compat {
-        intellivoice: x % 4,
-        ecs: x / 4 % 4,
-        intellivision2: x / 16 % 4,
-        keyboard: x / 64 % 4,
-        tutorvision: y / 4 % 4,
-    }
-}
-
-pub fn no_compat() -> Compat
-    ensures { λ r. ⌜ r ≡ noCompat ⌝ }
-{
-    Compat {
-        intellivoice: 0,
-        ecs: 0,
-        intellivision2: 0,
-        keyboard: 0,
-        tutorvision: 0,
-    }
-}
-
-// 16 bits, the lower byte first.
-fn get16(t: &[u8], at: usize) -> u16
-    requires { ⌜ at ≤ 65536 ⌝ }
-    ensures { λ r. ⌜ r ≡ at16 (now (t .entry)) at ⌝ }
-{
-    wide16(byte_at(t, at)) + 256 * wide16(byte_at(t, at + 1))
-}
-
-fn words_at(t: &[u8], at: usize) -> [u16; 256]
-    requires { ⌜ at ≤ 1024 ⌝ }
-    ensures { λ r. ⌜ r ≡ words256 (now (t .entry)) at ⌝ }
-{
-    let mut w = [0u16; 256];
-    for i in 0..256usize {
-        w[i] = get16(t, at + 2 * i);
+    let mut w = [0u16; PARAGRAPHS];
+    for i in 0..PARAGRAPHS {
+        w[i] = word_at(t, at + 2 * i);
     }
     w
 }
 
-fn bytes_at(t: &[u8], at: usize) -> [u8; 256]
-    requires { ⌜ at ≤ 1024 ⌝ }
-    ensures { λ r. ⌜ r ≡ bytes256 (now (t .entry)) at ⌝ }
+fn bytes_at(t: &[u8], at: usize) -> [u8; PARAGRAPHS]
+    requires { ⌜ at ≤ tablesSize ⌝ }
+    ensures { λ r. ⌜ r ≡ bytesAt (now (t .entry)) at ⌝ }
 {
-    let mut w = [0u8; 256];
-    for i in 0..256usize {
+    let mut w = [0u8; PARAGRAPHS];
+    for i in 0..PARAGRAPHS {
         w[i] = byte_at(t, at + i);
     }
     w
@@ -81,26 +53,69 @@ fn bytes_at(t: &[u8], at: usize) -> [u8; 256]
 pub fn cartridge_of(t: &[u8]) -> Cartridge
     ensures { λ r. ⌜ r ≡ cartridgeOf (now (t .entry)) ⌝ }
 {
-    let m = words_at(t, 0);
-    let p = bytes_at(t, 512);
-    let f = words_at(t, 768);
-    cart::fresh(m, p, f)
+    let mapping = words_at(t, 0);
+    let permissions = bytes_at(t, PERMISSIONS_AT);
+    let flips = words_at(t, FLIPS_AT);
+    cart::fresh(mapping, permissions, flips)
 }
 
+// The cartridge of a refused load.
 pub fn no_cartridge() -> Cartridge
     ensures { λ r. ⌜ r ≡ noCartridge ⌝ }
 {
-    let m = [0u16; 256];
-    let p = [0u8; 256];
-    cart::fresh(m, p, m)
+    let words = [0u16; PARAGRAPHS];
+    let bytes = [0u8; PARAGRAPHS];
+    cart::fresh(words, bytes, words)
+}
+
+// The tables, at the front of a buffer that has room for them: each into its own part.
+fn put_tables(out: &mut [u8], mapping: &[u16], permissions: &[u8], flips: &[u16])
+    requires { ⌜ (length (now mapping) ≡ paragraphs) × (length (now permissions) ≡ paragraphs) × (length (now flips) ≡ paragraphs) ⌝ }
+    ensures { λ _. ⌜ now (out .exit) ≡ putFront (tablesPayload (tables (now (mapping .entry)) (now (permissions .entry)) (now (flips .entry)))) (now (out .entry)) ⌝ }
+{
+    if out.len() < TABLES_SIZE {
+        return;
+    }
+    put_words(&mut out[0..PERMISSIONS_AT], mapping);
+    put_bytes(&mut out[PERMISSIONS_AT..FLIPS_AT], permissions);
+    put_words(&mut out[FLIPS_AT..TABLES_SIZE], flips);
+}
+
+// How many bytes the payload of these tables has.
+fn size_of(mapping: &[u16], permissions: &[u8], flips: &[u16]) -> usize
+    requires { ⌜ (length (now mapping) ≡ paragraphs) × (length (now permissions) ≡ paragraphs) × (length (now flips) ≡ paragraphs) ⌝ }
+    ensures { λ r. ⌜ (r ≡ length (tablesPayload (tables (now (mapping .entry)) (now (permissions .entry)) (now (flips .entry))))) × (r ≡ tablesSize) ⌝ }
+{
+    TABLES_SIZE
+}
+
+pub fn size<'a>(
+    mapping: &[u16; PARAGRAPHS],
+    permissions: &'a [u8; PARAGRAPHS],
+    flips: &'a [u16; PARAGRAPHS],
+) -> usize
+    ensures { λ r. ⌜ (r ≡ length (tablesPayload (tables (now (mapping .entry)) (now (permissions .entry)) (now (flips .entry))))) × (r ≡ tablesSize) ⌝ }
+{
+    size_of(mapping, permissions, flips)
+}
+
+pub fn write<'a>(
+    out: &mut [u8],
+    mapping: &[u16; PARAGRAPHS],
+    permissions: &'a [u8; PARAGRAPHS],
+    flips: &'a [u16; PARAGRAPHS],
+)
+    ensures { λ _. ⌜ now (out .exit) ≡ putFront (tablesPayload (tables (now (mapping .entry)) (now (permissions .entry)) (now (flips .entry)))) (now (out .entry)) ⌝ }
+{
+    put_tables(out, mapping, permissions, flips)
 }
 
 // BANKSW on a paragraph divisible by 8.
-fn has_switch(permissions: &[u8; 256]) -> bool
+fn has_switch(permissions: &[u8; PARAGRAPHS]) -> bool
     ensures { λ r. ⌜ r ≡ switches (now (permissions .entry)) ⌝ }
 {
-    for h in 0..32usize {
-        if permissions[8 * h] / 8 % 2 == 1 {
+    for h in 0..HALF_PAGES {
+        if permissions[HALF_PAGE_PARAGRAPHS * h] / 8 % 2 == 1 {
             return true;
         }
     }
@@ -108,11 +123,11 @@ fn has_switch(permissions: &[u8; 256]) -> bool
 }
 
 // PFE in chapter 1.
-fn has_flip(flips: &[u16; 256]) -> bool
+fn has_flip(flips: &[u16; PARAGRAPHS]) -> bool
     ensures { λ r. ⌜ r ≡ flipsOne (now (flips .entry)) ⌝ }
 {
-    for y in 0..16usize {
-        if flips[16 + y] / 8 % 2 == 1 {
+    for y in 0..CHAPTER_PAGES {
+        if flips[CHAPTER_PAGES + y] / 8 % 2 == 1 {
             return true;
         }
     }
@@ -120,7 +135,11 @@ fn has_flip(flips: &[u16; 256]) -> bool
 }
 
 // Refusal 10.
-pub fn refused<'a>(flags: &[u8], permissions: &'a [u8; 256], flips: &'a [u16; 256]) -> bool
+pub fn refused<'a>(
+    flags: &[u8],
+    permissions: &'a [u8; PARAGRAPHS],
+    flips: &'a [u16; PARAGRAPHS],
+) -> bool
     ensures { λ r. ⌜ r ≡ unsupported (now (flags .entry)) (now (permissions .entry)) (now (flips .entry)) ⌝ }
 {
     if byte_at(flags, 2) % 4 != 0 {

@@ -1,3 +1,3 @@
--- Demand 2: loading an image gives back what was written.
+-- Written, then loaded: what comes back of an image that is made of a header, tables and blocks.
 pub mod Trip
 pub mod Laws

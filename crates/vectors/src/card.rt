@@ -26,14 +26,15 @@ fn put_line(out: &mut [u8], at: usize, name: &[u8], value: usize) -> usize {
 
 // The card's text; answers its length.
 fn put_card(out: &mut [u8], r: Report) -> usize {
-    if r.number == 0 {
+    let f = r.refusal;
+    if f.number == 0 {
         let a = put(out, 0, b"result=loaded\n");
         let b = put_line(out, a, b"blocks=", r.blocks);
         return put_line(out, b, b"words=", r.words);
     }
     let a = put(out, 0, b"result=refused\n");
-    let b = put_line(out, a, b"code=", r.number as usize);
-    put_line(out, b, b"at=", r.place)
+    let b = put_line(out, a, b"code=", f.number as usize);
+    put_line(out, b, b"at=", f.place)
 }
 
 // The text for a record's input, on a RAM of zeros.

@@ -14,8 +14,8 @@ use crate::record::has32;
 use basics::both;
 use basics::least;
 use cart::Cartridge;
+use header::Compat;
 use load::Loading;
-use tables::Compat;
 
 fn same_compat(rec: &[u8], at: usize, c: Compat) -> bool {
     let voice = has8(rec, at, 0, c.intellivoice as usize);
@@ -28,8 +28,9 @@ fn same_compat(rec: &[u8], at: usize, c: Compat) -> bool {
 
 // Number, place, blocks, words and the compatibility fields.
 fn same_verdict(rec: &[u8], at: usize, l: Loading) -> bool {
-    let number = has8(rec, at, 0, l.number as usize);
-    let place = has32(rec, at, 1, l.place);
+    let r = l.refusal;
+    let number = has8(rec, at, 0, r.number as usize);
+    let place = has32(rec, at, 1, r.place);
     let blocks = has32(rec, at, 5, l.blocks);
     let words = has32(rec, at, 9, l.words);
     let compat = same_compat(rec, after(at, 13), l.compat);
@@ -124,9 +125,10 @@ pub fn run_image(rec: &[u8], at: usize, image: &[u8], n: usize, ram: &mut [u16])
     let l = load_in(image, n, ram, w.n);
     let p = play_in(rec, w.next, l.cartridge, ram, w.n);
     let cartridge = p.cartridge;
+    let r = l.refusal;
     Ran {
         cartridge,
-        good: both(l.number == 0, p.good),
+        good: both(r.number == 0, p.good),
         words: w.n,
         next: p.next,
     }

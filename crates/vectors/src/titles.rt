@@ -37,8 +37,9 @@ fn build_in(bin: &[u8], cfg: &[u8], t: Title, out: &mut [u8], n: usize) -> Build
 }
 
 fn same_building(rec: &[u8], at: usize, b: Building, whole: usize) -> bool {
-    let number = has8(rec, at, 0, b.number as usize);
-    let place = has32(rec, at, 1, b.place as usize);
+    let r = b.refusal;
+    let number = has8(rec, at, 0, r.number as usize);
+    let place = has32(rec, at, 1, r.place);
     let length = has32(rec, at, 5, b.length);
     let needed = has32(rec, at, 9, b.needed as usize);
     let bytes = has32(rec, at, 13, whole);
@@ -72,8 +73,9 @@ struct Pressed {
 fn press(rec: &[u8], bin: &mut [u8], cfg: &mut [u8], image: &mut [u8]) -> Pressed {
     let t = take_title(rec, bin, cfg);
     let b = build_in(bin, cfg, t, image, image.len());
+    let r = b.refusal;
     Pressed {
-        good: b.number == 0,
+        good: r.number == 0,
         length: b.length,
         next: t.next,
     }

@@ -88,8 +88,9 @@ fn write_in(
 }
 
 fn same_writing(rec: &[u8], at: usize, w: Writing, whole: usize) -> bool {
-    let number = has8(rec, at, 0, w.number as usize);
-    let place = has32(rec, at, 1, w.place as usize);
+    let r = w.refusal;
+    let number = has8(rec, at, 0, r.number as usize);
+    let place = has32(rec, at, 1, r.place);
     let length = has32(rec, at, 5, w.length);
     let bytes = has32(rec, at, 9, whole);
     both(

@@ -1,14 +1,17 @@
 -- Parts of a list, and words stored one after the other: which place holds what.
-use Prim.Native.Nat.{ℕ, _≤_, _-_, _+_, _<_, zero, suc}
+use Prim.Native.Nat.{ℕ, _≤_, _-_, _+_, _<_, zero, suc, min}
 use mathlib.Core.List.{List, _∷_, []}
 use mathlib.Core.Path.{_≡_, _∙_, ap, sym, refl}
 use mathlib.Core.Logic.{_⊎_, ⊎-elim, inl, inr}
 use native.Mathlib.Omega.{arith}
 use native.Mathlib.Numerals.{add-one}
 use native.Mathlib.Nat.{eq-or-lt-of-le}
-use lib.ListN.{length, length-take, drop, length-drop, getD, take, set, length-set}
-use lib.Seq.{getD-take, getD-drop, take-length, getD-set-other, getD-set-same, drop-cons}
+use lib.ListN.{length, length-take, drop, length-drop, getD, take, set, length-set, drop-of-length-le}
+use lib.Seq.{getD-take, getD-drop, take-length, take-all, getD-set-other, getD-set-same, drop-cons}
+use lib.Dec.{ltb}
+use borrow.Author.Tests.{ltb-true, ltb-false}
 use Rattle.basics.specs.Lists.{part, laid}
+use Rattle.basics.specs.Laws.Tests.{cases}
 
 pub length-part : {A : Type 0} (s : List A) (a e : ℕ) → e ≤ length s → length (part s a e) ≡ e - a
 length-part s a e h = length-take (e - a) (drop a s) ∙ omega (arith, length-drop a s)
@@ -73,3 +76,16 @@ drop-one s i j h e = rw e (drop-cons s i 0 h)
 pub none-left : (ws : List ℕ) → length ws ≡ 0 → [] ≡ ws
 none-left [] e = refl
 none-left (w ∷ ws) e = absurd (omega arith)
+
+-- the first n, or all where there are fewer; and what is behind them
+pub take-min : {A : Type 0} (n k : ℕ) (l : List A) → n ≡ min k (length l) → take n l ≡ take k l
+take-min n k l e =
+    cases (ltb (length l) k)
+    (λ t. let h : length l < k = ltb-true _ _ t in take-all n l (omega arith) ∙ sym (take-all k l (omega arith)))
+    (λ t. let h : k ≤ length l = ltb-false _ _ t in let f : n ≡ k = omega arith in rw f)
+
+pub drop-min : {A : Type 0} (n k : ℕ) (l : List A) → n ≡ min k (length l) → drop n l ≡ drop k l
+drop-min n k l e =
+    cases (ltb (length l) k)
+    (λ t. let h : length l < k = ltb-true _ _ t in drop-of-length-le l {i = n} (omega arith) ∙ sym (drop-of-length-le l {i = k} (omega arith)))
+    (λ t. let h : k ≤ length l = ltb-false _ _ t in let f : n ≡ k = omega arith in rw f)

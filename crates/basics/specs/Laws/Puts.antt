@@ -1,15 +1,16 @@
--- What is put at the front of a buffer; and bytes and words that a loop puts there one after the other.
+-- What is put at the front of a buffer, and of a part of it; and bytes and words that a loop puts there one after the other.
 use Prim.Native.Nat.{ℕ, _≤_, _*_, _<_, _+_, _%_, _/_}
 use mathlib.Core.List.{List, _++_, _∷_, [], append-assoc, append-nil}
 use mathlib.Core.Path.{_≡_, ap, _∙_, sym, refl}
 use native.Mathlib.Omega.{arith}
 use native.Mathlib.Numerals.{add-one}
-use lib.ListN.{length, take, getD, set, drop, length-set, length-append, drop-of-length-le}
+use lib.ListN.{length, take, getD, set, drop, length-set, length-append, drop-of-length-le, length-drop}
 use lib.Seq.{take-all, length-take-le, take-suc}
+use borrow.Rule.Slice.PartMut.{putMid}
 use borrow.Author.Tests.{lt-ltb, le-ltb}
 use Rattle.basics.specs.Lists.{putFront}
 use Rattle.basics.specs.Bytes.{bytes16}
-use Rattle.basics.specs.Laws.Wrote.{Wrote, wrote-none, wrote-set}
+use Rattle.basics.specs.Laws.Wrote.{Wrote, wrote-none, wrote-set, wrote-long, wrote-part}
 use Rattle.basics.specs.Laws.Bytes.{length-bytes16, bytes16-append}
 
 -- no room, and room
@@ -27,6 +28,15 @@ put-all x out e = put-room x out (omega arith) ∙ ap (_++_ x) (drop-of-length-l
 
 pub put-wrote : (out₀ out x : List ℕ) → Wrote out₀ out x → out ≡ putFront x out₀
 put-wrote out₀ out x c = c .is ∙ sym (put-room x out₀ (c .fits))
+
+-- a part of just its size that was lent to be put into, just after what is written
+pub wrote-put :
+    (out₀ out x : List ℕ) (a k : ℕ) (ys y : List ℕ) → Wrote out₀ out x → a ≡ length x → k ≡ length y → a + k ≤ length out₀
+    → ys ≡ putFront y (take k (drop a out)) → Wrote out₀ (putMid a k out ys) (x ++ y)
+wrote-put out₀ out x a k ys y c ea ek h ey =
+    let l : length (take k (drop a out)) ≡ k =
+    length-take-le k (drop a out) (omega (arith, length-drop a out, wrote-long out₀ out x c)) in
+    wrote-part out₀ out x a k ys y c ea ek h (ey ∙ put-all y (take k (drop a out)) (l ∙ ek))
 
 -- the first i of the words are put, k bytes each, by f
 pub record Putting (k : ℕ) (f : List ℕ → List ℕ) (ws out₀ out : List ℕ) (i : ℕ) : Type 0 where

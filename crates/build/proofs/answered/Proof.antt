@@ -16,4 +16,5 @@ answered-spec =
     (tie.spec
     returns
     (λ c. search needs)
+    (λ c. search needs)
     returns-2)

@@ -4,28 +4,29 @@ use mathlib.Core.Bool.{cond}
 use mathlib.Core.List.{List, _++_}
 use mathlib.Core.Path.{_≡_}
 use lib.ListN.{length, drop}
-use lib.Dec.{eqb, ltb}
-use Rattle.image.specs.Form.{imageOf}
+use lib.Dec.{ltb}
+use Rattle.basics.specs.declared.Refusal.{Refusal}
+use Rattle.basics.specs.Refusals.{refuse, noRefusal, passes}
+use Rattle.places.specs.Limits.{pageSize}
 use Rattle.save.specs.declared.Writing.{Writing}
 use Rattle.lines.specs.declared.Line.{Line}
 use Rattle.layout.specs.Layout.{needed}
 use Rattle.build.specs.declared.Building.{Building}
-use Rattle.build.specs.Building.{flagBytes, uidOf, tablesFor, hunksFor}
+use Rattle.build.specs.Building.{imageOn}
+
+-- a refusal, and zero in all else; 29 with the length needed; and an image with the words that it needs
+abbrev pub bare : Refusal → Building
+bare r = record { refusal = r; length = 0; needed = 0 }
 
 abbrev pub short : ℕ → Building
-short n = record { number = 29; place = 0; with = 0; length = n; needed = 0 }
+short n = record { refusal = refuse 29 0; length = n; needed = 0 }
 
 abbrev pub whole : ℕ → ℕ → Building
-whole n words = record { number = 0; place = 0; with = 0; length = n; needed = words }
+whole n words = record { refusal = noRefusal; length = n; needed = words }
 
 abbrev pub answeredOf : Writing → ℕ → Building
 answeredOf w pages =
-    cond (eqb (w .number) 0) (whole (w .length) (4096 * pages))
-    (record { number = w .number; place = w .place; with = 0; length = w .length; needed = 0 })
-
--- the image of some lines
-abbrev pub imageOn : List ℕ → List ℕ → List Line → List ℕ
-imageOn bin cfg lines = imageOf flagBytes (uidOf bin cfg) (tablesFor lines) (hunksFor bin lines)
+    record { refusal = w .refusal; length = w .length; needed = cond (passes (w .refusal)) (pageSize * pages) 0 }
 
 -- what pressing lines that the rules accept answers, and what it leaves
 pub record Pressed (bin cfg : List ℕ) (lines : List Line) (out : List ℕ) (r : Building) (after : List ℕ) : Type 0 where

@@ -8,18 +8,21 @@ use native.Mathlib.Omega.{arith}
 use lib.ListN.{length, take}
 use lib.Dec.{ltb, eqb}
 use borrow.Author.Tests.{ne-eqb, ltb-false}
+use Rattle.basics.specs.declared.Refusal.{Refusal}
 use Rattle.basics.specs.Rows.{Row, Gives, here, later, Silent, none, also, firstOf}
 use Rattle.basics.specs.Laws.Rows.{first-by, gives-first, silent-first, first-append}
 use Rattle.basics.specs.Options.{isSome}
 use Rattle.basics.specs.Tables.{made}
+use Rattle.basics.specs.Refusals.{refuse, noRefusal, firstRefusal}
+use Rattle.basics.specs.Laws.Refusals.{refused-front, silent-behind}
 use Rattle.basics.specs.Laws.Numbered.{accepted-exactly as exactly-accepted}
 use Rattle.basics.specs.Laws.Tests.{cases, or-false-right}
 use Rattle.places.specs.Limits.{binLimit}
 use Rattle.lines.specs.declared.Line.{Line}
 use Rattle.lines.specs.Bin.{binWords}
 use Rattle.cfg.specs.declared.Reading.{Reading}
-use Rattle.cfg.specs.File.{readingOf, rows, accepted, entriesOf, tooLong, hasForeign, hasOutside, noEntry, tooMany}
-use Rattle.cfg.specs.Laws.File.{accepted-exactly}
+use Rattle.cfg.specs.File.{readingOf, entriesOf, tooLong, hasForeign, hasOutside, noEntry, tooMany, refusalRows as cfgRows, refusalOf as cfgRefusal}
+use Rattle.cfg.specs.Laws.Refusals.{exactly, refusal-is}
 use Rattle.cfg.specs.Laws.Entries.{accepted-holds, Holds, all-typed}
 use Rattle.rules.specs.declared.Judged.{Judged}
 use Rattle.rules.specs.Rules.{Verdict, lineRows, outOfRange, misshapen, shareRows, rival, judgeOf, chapterRows, passed, breaksPlain, ruleRows}
@@ -28,41 +31,30 @@ use Rattle.rules.specs.Laws.Refusals.{numberOf, rule-rows}
 use Rattle.rules.specs.Accepted.{Accepted}
 use Rattle.layout.specs.Layout.{needed}
 use Rattle.build.specs.declared.Building.{Building}
-use Rattle.build.specs.Building.{readRow, buildingOf, builtOf, verdictOf, refused, wrongBin, tooShort, imageFor}
-use Rattle.build.specs.Code.Answers.{imageOn, Pressed}
+use Rattle.build.specs.Building.{imageOn, pressedImage, ruled, ruledRow, buildingOf, builtOf, refusalRows, refusalOf, refused, wrongBin, tooShort}
+use Rattle.build.specs.Code.Answers.{bare, Pressed}
 
--- the CFG's rows as rows of verdicts
-map-gives : {rs : List (Row Reading)} {a : Reading} → Gives rs a → Gives (map readRow rs) (a .number, a .place)
-map-gives (here e) = here e
-map-gives (later e g) = later e (map-gives g)
+-- the rules' rows as rows of refusals
+ruled-first : (rs : List (Row Verdict)) (d : Verdict) → firstOf (map ruledRow rs) (ruled d) ≡ ruled (firstOf rs d)
+ruled-first [] d = refl
+ruled-first ((true, v) ∷ rs) d = refl
+ruled-first ((false, v) ∷ rs) d = ruled-first rs d
 
-map-silent : {rs : List (Row Reading)} → Silent rs → Silent (map readRow rs)
-map-silent none = none
-map-silent (also e s) = also e (map-silent s)
+pub ruled-silent : {rs : List (Row Verdict)} → Silent rs → Silent (map ruledRow rs)
+ruled-silent none = none
+ruled-silent (also e s) = also e (ruled-silent s)
 
-read-refuses : (cfg : List ℕ) (d : Verdict) → (readingOf cfg .number ≡ 0 → ⊥) → firstOf (map readRow (rows cfg)) d ≡ (readingOf cfg .number, readingOf cfg .place)
-unfolding readingOf
-read-refuses cfg d h = by (first-by (rows cfg) (accepted (entriesOf cfg)))
-  where
-    by : (Gives (rows cfg) (readingOf cfg)) ⊎ (Silent (rows cfg)) → firstOf (map readRow (rows cfg)) d ≡ (readingOf cfg .number, readingOf cfg .place)
-    by (inl g) = gives-first d (map-gives g)
-    by (inr s) = absurd (h (accepted-exactly cfg .1 s))
+-- the numbers of the CFG's refusals, and of the rules'
+cfg-by : (b : Bool) (x y : Refusal) → x .number < 25 → y .number < 25 → cond b x y .number < 25
+cfg-by true x y h l = h
+cfg-by false x y h l = l
 
-read-passes : (cfg : List ℕ) (d : Verdict) → readingOf cfg .number ≡ 0 → firstOf (map readRow (rows cfg)) d ≡ d
-read-passes cfg d h = silent-first d (map-silent (accepted-exactly cfg .0 h))
-
--- their numbers, and those of the rules
-reading-below : (b : Bool) (x y : Reading) → x .number < 25 → y .number < 25 → cond b x y .number < 25
-reading-below true x y h l = h
-reading-below false x y h l = l
-
-read-below : (cfg : List ℕ) → readingOf cfg .number < 25
-unfolding readingOf
-read-below cfg =
-    reading-below (tooLong cfg) _ _ (omega arith)
-    (reading-below (hasForeign cfg) _ _ (omega arith)
-    (reading-below (hasOutside cfg) _ _ (omega arith)
-    (reading-below (noEntry cfg) _ _ (omega arith) (reading-below (tooMany cfg) _ _ (omega arith) (omega arith)))))
+cfg-below : (cfg : List ℕ) → cfgRefusal cfg .number < 25
+cfg-below cfg =
+    cfg-by (tooLong cfg) _ _ (omega arith)
+    (cfg-by (hasForeign cfg) _ _ (omega arith)
+    (cfg-by (hasOutside cfg) _ _ (omega arith)
+    (cfg-by (noEntry cfg) _ _ (omega arith) (cfg-by (tooMany cfg) _ _ (omega arith) (omega arith)))))
 
 below-by : (b : Bool) (n p : ℕ) (v : Verdict) → n < 29 → v .0 < 29 → cond b (n, p) v .0 < 29
 below-by true n p v h l = h
@@ -96,68 +88,70 @@ module _ (bin cfg out : List ℕ) where
   abbrev Answers : Building → List ℕ → Type 0
   Answers r after = (r ≡ buildingOf bin cfg out) × (after ≡ builtOf bin cfg out)
 
-  refuses : (v : Verdict) → verdictOf bin cfg out ≡ v → (v .0 ≡ 0 → ⊥) → Answers (refused bin cfg v) out
+  refuses : (r : Refusal) → refusalOf bin cfg out ≡ r → (r .number ≡ 0 → ⊥) → Answers (refused bin cfg r) out
   unfolding buildingOf builtOf
-  refuses v e h = (rw (e, ne-eqb (v .0) 0 h), rw (e, ne-eqb (v .0) 0 h))
+  refuses r e h = (rw (e, ne-eqb (r .number) 0 h), rw (e, ne-eqb (r .number) 0 h))
+
+  -- any refusal but 29 answers nothing else
+  refuses-bare : (r : Refusal) → refusalOf bin cfg out ≡ r → (r .number ≡ 0 → ⊥) → (r .number ≡ 29 → ⊥) → Answers (bare r) out
+  refuses-bare r e h k = let a : Answers (refused bin cfg r) out = refuses r e h in rw (ne-eqb (r .number) 29 k) at a
 
   -- 21
-  pub refused-bin : (b : Bool) → b ≡ wrongBin bin → b ≡ true → Answers (record { number = 21; place = 0; with = 0; length = 0; needed = 0 }) out
-  unfolding verdictOf
-  refused-bin b e h = refuses (21, 0) (rw (← e, h)) (λ z. omega arith)
+  pub refused-bin : (b : Bool) → b ≡ wrongBin bin → b ≡ true → (r : Refusal) → r ≡ refuse 21 0 → (q : Building) → q ≡ bare r → Answers q out
+  unfolding refusalOf
+  refused-bin b e h r er q eq = rw (eq, er) (refuses-bare (refuse 21 0) (rw (← e, h)) (λ z. omega arith) (λ z. omega arith))
 
   module _ (b : Bool) (eb : b ≡ wrongBin bin) (hb : b ≡ false) where
-    parts : verdictOf bin cfg out
-        ≡ firstOf (map readRow (rows cfg)) (firstOf (ruleRows (binWords bin) (entriesOf cfg)) (cond (tooShort bin cfg out) (29, 0) passed))
-    unfolding verdictOf
-    parts =
-        rw (← eb, hb)
-        (first-append (map readRow (rows cfg)) (ruleRows (binWords bin) (entriesOf cfg) ++ ((tooShort bin cfg out, (29, 0)) ∷ [])) passed
-        ∙ ap (firstOf (map readRow (rows cfg))) (first-append (ruleRows (binWords bin) (entriesOf cfg)) ((tooShort bin cfg out, (29, 0)) ∷ []) passed))
+    abbrev behind : List (Row Refusal)
+    behind = map ruledRow (ruleRows (binWords bin) (entriesOf cfg)) ++ ((tooShort bin cfg out, refuse 29 0) ∷ [])
+
+    parts : refusalOf bin cfg out ≡ firstRefusal (cfgRows cfg ++ behind)
+    unfolding refusalOf
+    parts = rw (← eb, hb)
 
     -- 22 to 24
-    pub refused-cfg : (r : Reading) → r ≡ readingOf cfg → (r .number ≡ 0 → ⊥) → Answers (record { number = r .number; place = r .place; with = 0; length = 0; needed = 0 }) out
-    refused-cfg r e h =
-        let n : readingOf cfg .number ≡ 0 → ⊥ = λ z. h (ap (λ (x : Reading). x .number) e ∙ z) in
-        let l : readingOf cfg .number < 25 = read-below cfg in
-        let a : Answers (refused bin cfg (readingOf cfg .number, readingOf cfg .place)) out =
-        refuses (readingOf cfg .number, readingOf cfg .place) (parts ∙ read-refuses cfg _ n) n in
-        rw e (rw (ne-eqb (readingOf cfg .number) 27 (λ z. omega arith), ne-eqb (readingOf cfg .number) 29 (λ z. omega arith)) at a)
+    pub refused-cfg : (r : Reading) → r ≡ readingOf cfg → (r .refusal .number ≡ 0 → ⊥) → (q : Building) → q ≡ bare (r .refusal) → Answers q out
+    refused-cfg r e h q eq =
+        let s : r .refusal ≡ cfgRefusal cfg = ap (λ (x : Reading). x .refusal) e ∙ refusal-is cfg in
+        let n : cfgRefusal cfg .number ≡ 0 → ⊥ = rw s at h in
+        rw (eq, s) (refuses-bare (cfgRefusal cfg) (parts ∙ refused-front (cfgRows cfg) behind n) n (λ z. omega (arith, cfg-below cfg)))
 
-    module _ (r : Reading) (er : r ≡ readingOf cfg) (hr : r .number ≡ 0) where
-      read : readingOf cfg .number ≡ 0
-      read = sym (ap (λ (x : Reading). x .number) er) ∙ hr
+    module _ (r : Reading) (er : r ≡ readingOf cfg) (hr : r .refusal .number ≡ 0) where
+      read : readingOf cfg .refusal .number ≡ 0
+      read = sym (ap (λ (x : Reading). x .refusal .number) er) ∙ hr
 
       pub lines-are : take (r .count) (r .lines) ≡ entriesOf cfg
       lines-are = rw er (accepted-holds cfg read .lines)
 
-      ruled : verdictOf bin cfg out ≡ firstOf (ruleRows (binWords bin) (entriesOf cfg)) (cond (tooShort bin cfg out) (29, 0) passed)
-      ruled = parts ∙ read-passes cfg _ read
+      behind-cfg : refusalOf bin cfg out ≡ firstRefusal behind
+      behind-cfg = parts ∙ silent-behind (cfgRows cfg) behind (exactly cfg .accepts .0 read)
 
       module _ (words : ℕ) (ew : words ≡ binWords bin) (j : Judged) (ej : j ≡ judgedOf words (take (r .count) (r .lines))) where
+        abbrev verdict : Verdict
+        verdict = judgeOf (binWords bin) (entriesOf cfg)
+
         judged : j ≡ judgedOf (binWords bin) (entriesOf cfg)
         judged = ej ∙ rw (ew, lines-are)
 
-        number-is : j .number ≡ judgeOf (binWords bin) (entriesOf cfg) .0
+        number-is : j .number ≡ verdict .0
         unfolding judgedOf
         number-is = ap (λ (x : Judged). x .number) judged
 
-        decided : (d : Verdict) → (judgeOf (binWords bin) (entriesOf cfg) .0 ≡ 0 → ⊥) → firstOf (ruleRows (binWords bin) (entriesOf cfg)) d ≡ judgeOf (binWords bin) (entriesOf cfg)
+        place-is : j .place ≡ verdict .1
+        unfolding judgedOf
+        place-is = ap (λ (x : Judged). x .place) judged
+
+        ruled-is : firstRefusal (map ruledRow (ruleRows (binWords bin) (entriesOf cfg))) ≡ ruled verdict
         unfolding judgeOf
-        decided d h = by (first-by (ruleRows (binWords bin) (entriesOf cfg)) passed)
-          where
-            by : (Gives (ruleRows (binWords bin) (entriesOf cfg)) (firstOf (ruleRows (binWords bin) (entriesOf cfg)) passed)) ⊎ (Silent (ruleRows (binWords bin) (entriesOf cfg)))
-                → firstOf (ruleRows (binWords bin) (entriesOf cfg)) d ≡ firstOf (ruleRows (binWords bin) (entriesOf cfg)) passed
-            by (inl g) = gives-first d g
-            by (inr s) = absurd (h (ap (λ (v : Verdict). v .0) (silent-first passed s)))
+        ruled-is = ruled-first (ruleRows (binWords bin) (entriesOf cfg)) passed
 
         -- 25 to 28
-        pub refused-lines : (j .number ≡ 0 → ⊥) → Answers (record { number = j .number; place = j .place; with = j .with; length = 0; needed = 0 }) out
-        unfolding judgedOf
-        refused-lines h =
-            let n : judgeOf (binWords bin) (entriesOf cfg) .0 ≡ 0 → ⊥ = λ z. h (number-is ∙ z) in
-            let a : Answers (refused bin cfg (judgeOf (binWords bin) (entriesOf cfg))) out =
-            refuses (judgeOf (binWords bin) (entriesOf cfg)) (ruled ∙ decided _ n) n in
-            rw judged (rw (ne-eqb (judgeOf (binWords bin) (entriesOf cfg) .0) 29 (λ z. omega (arith, rules-below (binWords bin) (entriesOf cfg)))) at a)
+        pub refused-lines : (j .number ≡ 0 → ⊥) → (f : Refusal) → f ≡ refuse (j .number) (j .place) → (q : Building) → q ≡ bare f → Answers q out
+        refused-lines h f ef q eq =
+            let n : verdict .0 ≡ 0 → ⊥ = λ z. h (number-is ∙ z) in
+            let m : firstRefusal (map ruledRow (ruleRows (binWords bin) (entriesOf cfg))) .number ≡ 0 → ⊥ = λ z. n (sym (ap (λ (x : Refusal). x .number) ruled-is) ∙ z) in
+            let v : refusalOf bin cfg out ≡ ruled verdict = behind-cfg ∙ refused-front (map ruledRow (ruleRows (binWords bin) (entriesOf cfg))) _ m ∙ ruled-is in
+            rw (eq, ef, number-is, place-is) (refuses-bare (ruled verdict) v n (λ z. omega (arith, rules-below (binWords bin) (entriesOf cfg))))
 
         module _ (h : j .number ≡ 0) where
           silent : Silent (ruleRows (binWords bin) (entriesOf cfg))
@@ -175,24 +169,24 @@ module _ (bin cfg out : List ℕ) where
               let k : Holds cfg (readingOf cfg) = accepted-holds cfg read in
               rw lines-are (record { few = omega (arith, k .counted, k .most); typed = all-typed (k .fitting); judged = pass })
 
-          image-is : imageOn bin cfg (take (r .count) (r .lines)) ≡ imageFor bin cfg
-          unfolding imageFor
+          image-is : imageOn bin cfg (take (r .count) (r .lines)) ≡ pressedImage bin cfg
+          unfolding pressedImage
           image-is = rw lines-are
 
-          left : verdictOf bin cfg out ≡ cond (tooShort bin cfg out) (29, 0) passed
-          left = ruled ∙ silent-first _ silent
+          left : refusalOf bin cfg out ≡ cond (tooShort bin cfg out) (refuse 29 0) noRefusal
+          left = behind-cfg ∙ silent-behind (map ruledRow (ruleRows (binWords bin) (entriesOf cfg))) _ (ruled-silent silent)
 
           -- 29, and the image
           pub pressed : (q : Building) (after : List ℕ) → Pressed bin cfg (take (r .count) (r .lines)) out q after → Answers q after
-          unfolding buildingOf builtOf tooShort imageFor
+          unfolding buildingOf builtOf tooShort pressedImage
           pressed q after p =
               cases (tooShort bin cfg out)
               (λ t.
-              let v : verdictOf bin cfg out ≡ (29, 0) = left ∙ rw t in
+              let v : refusalOf bin cfg out ≡ refuse 29 0 = left ∙ rw t in
               let u : ltb (length out) (length (imageOn bin cfg (take (r .count) (r .lines)))) ≡ true = rw image-is t in
               (p .answer ∙ rw (u, image-is, v), p .leaves ∙ rw (u, v)))
               (λ t.
-              let v : verdictOf bin cfg out ≡ passed = left ∙ rw t in
+              let v : refusalOf bin cfg out ≡ noRefusal = left ∙ rw t in
               let u : ltb (length out) (length (imageOn bin cfg (take (r .count) (r .lines)))) ≡ false = rw image-is t in
               (p .answer ∙ rw (u, image-is, lines-are, v), p .leaves ∙ rw (u, image-is, v)))
 

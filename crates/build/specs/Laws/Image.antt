@@ -1,23 +1,22 @@
 -- The image of lines that the rules accept: its parts have their sizes, its hunks lie in the words reported, it is shorter than the
 -- limit, and it asks for nothing that a load refuses with 10.
 use Prim.Native.Nat.{ℕ, _/_, _%_, _≤_, _*_, _<_, _+_}
-use mathlib.Core.List.{List}
+use mathlib.Core.List.{List, [], _∷_}
 use mathlib.Core.Path.{refl, _≡_}
-use mathlib.Core.Bool.{false}
+use mathlib.Core.Bool.{true, false}
 use native.Mathlib.Omega.{arith}
-use lib.ListN.{length, getD}
+use lib.ListN.{length, getD, length-append}
 use borrow.Author.Tests.{ne-eqb}
 use Rattle.basics.specs.Laws.Tables.{length-table}
-use Rattle.basics.specs.Lists.{Each}
+use Rattle.basics.specs.Lists.{joined, Each, none, also}
 use Rattle.basics.specs.Counts.{count}
 use Rattle.basics.specs.Laws.Counts.{count-below, any-nothing}
 use Rattle.places.specs.Limits.{locutusParagraphs, imageLimit}
 use Rattle.switches.specs.Flips.{PFE}
 use Rattle.tables.specs.Tables.{BANKSW, unsupported, switches, flipsOne}
-use Rattle.image.specs.Chosen.{Sized, Chosen, Lies}
-use Rattle.image.specs.Laws.Chosen.{chosen-lie, length-chosen}
-use Rattle.image.specs.Form.{imageOf}
-use Rattle.image.specs.Laws.Form.{length-image}
+use Rattle.hunk.specs.Hunk.{Hunk}
+use Rattle.save.specs.Chosen.{chosen, paragraphHunk, hunkBlock, imageFor, Sized}
+use Rattle.save.specs.Laws.Chosen.{Lies, chosen-each, length-chosen, hunk-block-most, length-sized}
 use Rattle.lines.specs.declared.Line.{Line}
 use Rattle.rules.specs.Accepted.{Accepted}
 use Rattle.rules.specs.Laws.Rules.{good}
@@ -27,26 +26,29 @@ use Rattle.layout.specs.Laws.Few.{pages-75}
 use Rattle.layout.specs.Laws.Tables.{permissions-entry, permissions-below, unflipped, flip-entry}
 use Rattle.build.specs.Building.{flagBytes, uidOf, tablesFor, hunksFor}
 
+-- a paragraph's hunk is a block of at most 779 bytes
+blocks-most : {n : ℕ} (hs : List Hunk) → Each (Lies n) hs → length (joined hunkBlock hs) ≤ 779 * length hs
+unfolding joined
+blocks-most [] none = omega arith
+blocks-most (h ∷ hs) (also l w) = omega (arith, length-append (hunkBlock h) (joined hunkBlock hs), hunk-block-most h (l .whole), blocks-most hs w)
+
 module _ (bin cfg : List ℕ) (lines : List Line) where
   pub sized : Sized flagBytes (uidOf bin cfg) (tablesFor lines)
   unfolding uidOf
   sized =
       record {
-        flags-16 = refl;
-        uid-8 = refl;
-        mapping-256 = length-table 256 (mappingAt lines 0);
-        permissions-256 = length-table 256 (permissionsAt lines 0);
-        flips-256 = length-table 256 (λ n. flipEntry lines (n / 16) (n % 16));
+        flags-long = refl;
+        uid-long = refl;
+        mapping-long = length-table 256 (mappingAt lines 0);
+        permissions-long = length-table 256 (permissionsAt lines 0);
+        flips-long = length-table 256 (λ n. flipEntry lines (n / 16) (n % 16));
       }
 
-  pub lie : (n : ℕ) → needed lines ≤ n → Chosen n locutusParagraphs (covered lines) (paragraphWords bin lines)
-  lie n h =
-      record {
-        each = λ q b e. record { whole = length-words bin lines q; within = omega (arith, covered-inside lines q e) };
-      }
+  pub lie : (n : ℕ) → needed lines ≤ n → (q : ℕ) → q < locutusParagraphs → covered lines q ≡ true → Lies n (paragraphHunk q (paragraphWords bin lines q))
+  lie n h q b e = record { whole = length-words bin lines q; within = omega (arith, covered-inside lines q e) }
 
   pub hunks-lie : (n : ℕ) → needed lines ≤ n → Each (Lies n) (hunksFor bin lines)
-  hunks-lie n h = chosen-lie (covered lines) (paragraphWords bin lines) n locutusParagraphs (lie n h)
+  hunks-lie n h = chosen-each (covered lines) (paragraphWords bin lines) locutusParagraphs (lie n h)
 
   module _ (accepted : Accepted bin lines) where
     hunks-few : length (hunksFor bin lines) ≤ 1200
@@ -55,8 +57,14 @@ module _ (bin cfg : List ℕ) (lines : List Line) where
         count-below (covered lines) (16 * pages lines) locutusParagraphs (λ i l e. covered-below lines i e) in
         omega (arith, length-chosen (covered lines) (paragraphWords bin lines) locutusParagraphs, pages-75 accepted)
 
-    pub short : length (imageOf flagBytes (uidOf bin cfg) (tablesFor lines) (hunksFor bin lines)) ≤ imageLimit
-    short = omega (arith, length-image flagBytes (uidOf bin cfg) (tablesFor lines) (hunksFor bin lines) (needed lines) sized (hunks-lie (needed lines) (omega arith)), hunks-few)
+    pub within-limit : length (imageFor flagBytes (uidOf bin cfg) (tablesFor lines) (hunksFor bin lines)) ≤ imageLimit
+    within-limit =
+        omega (
+          arith,
+          length-sized flagBytes (uidOf bin cfg) (tablesFor lines) sized (hunksFor bin lines),
+          blocks-most (hunksFor bin lines) (hunks-lie (needed lines) (omega arith)),
+          hunks-few,
+        )
 
     -- no BANKSW and no PFE in chapter 1
     unswitched : (h : ℕ) → h < 32 → BANKSW (getD (permissionsTable lines) (8 * h) 0) ≡ false

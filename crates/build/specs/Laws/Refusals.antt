@@ -1,74 +1,119 @@
--- A build is refused exactly when a row of 01's table holds and none before it does; and what an acceptance holds: lines that the
--- rules accept, and an image of the form that a load refuses nowhere.
-use Prim.Native.Nat.{ℕ, _<_}
+-- A build is refused exactly when a row of 01's table holds and none before it does, and a refusal leaves the buffer; and what an
+-- acceptance holds: lines that the rules accept.
+use Prim.Native.Nat.{ℕ}
 use mathlib.Core.List.{List, map, _++_, _∷_, []}
-use mathlib.Core.Path.{_≡_, refl}
-use mathlib.Core.Logic.{_↔_}
+use mathlib.Core.Path.{_≡_, refl, sym, ap, _∙_}
+use mathlib.Core.Logic.{_⊎_, inl, inr, _↔_}
 use mathlib.Core.Bool.{true}
 use native.Mathlib.Omega.{arith}
-use borrow.Author.Tests.{eqb-true}
-use Rattle.basics.specs.Laws.Numbered.{Refusing, refusing-append, refused-exactly as exactly-refused, accepted-exactly as exactly-accepted}
+use borrow.Author.Tests.{eqb-true, ne-eqb}
+use Rattle.basics.specs.declared.Refusal.{Refusal}
 use Rattle.basics.specs.Rows.{Row, Gives, Silent, also, none}
-use Rattle.basics.specs.Laws.Rows.{silent-left, silent-right}
+use Rattle.basics.specs.Refusals.{refuse, noRefusal}
+use Rattle.basics.specs.Laws.Rows.{silent-left, silent-right, silent-first, first-by}
+use Rattle.basics.specs.Laws.Refusals.{Refusing, refusing-append, gives-refused, refused-exactly, accepted-exactly}
+use Rattle.basics.specs.Laws.Numbered as Numbered
 use Rattle.lines.specs.Bin.{binWords}
-use Rattle.cfg.specs.File.{rows, entriesOf, readingOf}
+use Rattle.cfg.specs.File.{refusalRows as cfgRows, entriesOf, readingOf}
+use Rattle.cfg.specs.Laws.Refusals.{each-refuses, exactly}
 use Rattle.cfg.specs.Laws.Entries.{Holds, accepted-holds, all-typed}
-use Rattle.rules.specs.Laws.Refusals.{numberOf, rule-rows, accepted-exactly}
 use Rattle.rules.specs.Rules.{Verdict, ruleRows, passed, judgeOf}
+use Rattle.rules.specs.Laws.Refusals.{numberOf, rule-rows}
+use Rattle.rules.specs.Laws.Refusals as Rules
 use Rattle.rules.specs.Accepted.{Accepted}
-use Rattle.build.specs.Building.{readRow, tooShort, rowsOf, verdictOf, builds}
-use Rattle.cfg.specs.Laws.File as FileLaws
+use Rattle.build.specs.declared.Building.{Building}
+use Rattle.build.specs.Building.{ruledRow, tooShort, refusalRows, refusalOf, builds, buildingOf, builtOf}
+use Rattle.build.specs.Laws.Answers.{ruled-silent}
+
+-- what a build answers and leaves, for every BIN, CFG and buffer
+pub record Answers (bin cfg out : List ℕ) : Type 0 where
+  -- refused so exactly when the row of this refusal holds and none before it does; accepted exactly when none holds
+  pub refused : (r : Refusal) → (r .number ≡ 0 → ⊥) → (buildingOf bin cfg out .refusal ≡ r) ↔ Gives (refusalRows bin cfg out) r
+  pub accepted : (buildingOf bin cfg out .refusal .number ≡ 0) ↔ Silent (refusalRows bin cfg out)
+  -- a refusal leaves the buffer
+  pub kept : (buildingOf bin cfg out .refusal .number ≡ 0 → ⊥) → builtOf bin cfg out ≡ out
+
+-- a row of the rules refuses as a row of refusals
+ruled-refusing : (rs : List (Row Verdict)) → Numbered.Refusing numberOf rs → Refusing (map ruledRow rs)
+ruled-refusing [] r = tt
+ruled-refusing (x ∷ rs) r = (r .0, ruled-refusing rs (r .1))
+
+ruled-back : (rs : List (Row Verdict)) → Silent (map ruledRow rs) → Silent rs
+ruled-back [] none = none
+ruled-back (x ∷ rs) (also e s) = also e (ruled-back rs s)
 
 module _ (bin cfg out : List ℕ) where
-  read-rows : Refusing numberOf (map readRow (rows cfg))
-  read-rows = ((λ z. omega arith), ((λ z. omega arith), ((λ z. omega arith), ((λ z. omega arith), ((λ z. omega arith), tt)))))
+  abbrev rules : List (Row Verdict)
+  rules = ruleRows (binWords bin) (entriesOf cfg)
 
   -- what is asked behind the CFG's rows
-  abbrev behind : List (Row Verdict)
-  behind = ruleRows (binWords bin) (entriesOf cfg) ++ ((tooShort bin cfg out, (29, 0)) ∷ [])
+  abbrev behind : List (Row Refusal)
+  behind = map ruledRow rules ++ ((tooShort bin cfg out, refuse 29 0) ∷ [])
 
-  behind-rows : Refusing numberOf behind
+  behind-rows : Refusing behind
   behind-rows =
-      refusing-append numberOf (ruleRows (binWords bin) (entriesOf cfg)) ((tooShort bin cfg out, (29, 0)) ∷ [])
-      (rule-rows (binWords bin) (entriesOf cfg)) ((λ z. omega arith), tt)
+      refusing-append (map ruledRow rules) ((tooShort bin cfg out, refuse 29 0) ∷ []) (ruled-refusing rules (rule-rows (binWords bin) (entriesOf cfg)))
+      ((λ z. omega arith), tt)
 
-  every-row : Refusing numberOf (rowsOf bin cfg out)
-  every-row = ((λ z. omega arith), refusing-append numberOf (map readRow (rows cfg)) behind read-rows behind-rows)
+  every-row : Refusing (refusalRows bin cfg out)
+  every-row = ((λ z. omega arith), refusing-append (cfgRows cfg) behind (each-refuses cfg) behind-rows)
 
-  -- refused with a number and a place exactly when that row holds and none before it does
-  pub refused-exactly : (v : Verdict) → 0 < v .0 → (verdictOf bin cfg out ≡ v) ↔ Gives (rowsOf bin cfg out) v
-  unfolding verdictOf
-  refused-exactly v h = exactly-refused numberOf (rowsOf bin cfg out) every-row passed refl v (λ z. omega arith)
+  given : (r : Refusal) → refusalOf bin cfg out ≡ r → (r .number ≡ 0 → ⊥) → buildingOf bin cfg out .refusal ≡ r
+  unfolding buildingOf
+  given r e h = rw (e, ne-eqb (r .number) 0 h)
 
-  -- accepted exactly when no row holds
-  pub built-exactly : (verdictOf bin cfg out .0 ≡ 0) ↔ Silent (rowsOf bin cfg out)
-  unfolding verdictOf
-  built-exactly = exactly-accepted numberOf (rowsOf bin cfg out) every-row passed refl
+  quiet : refusalOf bin cfg out ≡ noRefusal → buildingOf bin cfg out .refusal ≡ noRefusal
+  unfolding buildingOf
+  quiet e = rw e
+
+  -- the answer's refusal is the table's
+  pub refusal-is : buildingOf bin cfg out .refusal ≡ refusalOf bin cfg out
+  unfolding refusalOf
+  refusal-is = go (first-by (refusalRows bin cfg out) noRefusal)
+    where
+      go : (Gives (refusalRows bin cfg out) (refusalOf bin cfg out)) ⊎ (Silent (refusalRows bin cfg out)) → buildingOf bin cfg out .refusal ≡ refusalOf bin cfg out
+      go (inl g) = given (refusalOf bin cfg out) refl (gives-refused every-row g)
+      go (inr s) = quiet (silent-first noRefusal s) ∙ sym (silent-first noRefusal s)
+
+  kept-so : (refusalOf bin cfg out .number ≡ 0 → ⊥) → builtOf bin cfg out ≡ out
+  unfolding builtOf
+  kept-so h = rw (ne-eqb (refusalOf bin cfg out .number) 0 h)
+
+  pub answers : Answers bin cfg out
+  unfolding refusalOf
+  answers =
+      let n : buildingOf bin cfg out .refusal .number ≡ refusalOf bin cfg out .number = ap (λ (x : Refusal). x .number) refusal-is in
+      record {
+        refused = λ r h. (
+          λ e. refused-exactly (refusalRows bin cfg out) every-row r h .0 (sym refusal-is ∙ e),
+          λ g. refusal-is ∙ refused-exactly (refusalRows bin cfg out) every-row r h .1 g,
+        );
+        accepted = (
+          λ e. accepted-exactly (refusalRows bin cfg out) every-row .0 (sym n ∙ e),
+          λ s. n ∙ accepted-exactly (refusalRows bin cfg out) every-row .1 s,
+        );
+        kept = λ h. kept-so (λ z. h (n ∙ z));
+      }
 
   module _ (accepts : builds bin cfg out ≡ true) where
-    silent : Silent (rowsOf bin cfg out)
-    silent = built-exactly .0 (eqb-true _ _ accepts)
+    silent : Silent (refusalRows bin cfg out)
+    unfolding refusalOf
+    silent = accepted-exactly (refusalRows bin cfg out) every-row .0 (eqb-true _ _ accepts)
 
-    read-silent : Silent (map readRow (rows cfg))
-    read-silent = go silent
-      where
-        go : Silent (rowsOf bin cfg out) → Silent (map readRow (rows cfg))
-        go (also e s) = silent-left (map readRow (rows cfg)) behind s
+    cfg-silent : Silent (refusalRows bin cfg out) → Silent (cfgRows cfg)
+    cfg-silent (also e s) = silent-left (cfgRows cfg) behind s
+
+    rules-silent : Silent (refusalRows bin cfg out) → Silent rules
+    rules-silent (also e s) =
+        ruled-back rules
+        (silent-left (map ruledRow rules) ((tooShort bin cfg out, refuse 29 0) ∷ []) (silent-right (cfgRows cfg) behind s))
 
     -- the CFG is read, and the rules find nothing in its lines
-    reads : Silent (map readRow (rows cfg)) → Silent (rows cfg)
-    reads (also a (also b (also c (also d (also e none))))) = also a (also b (also c (also d (also e none))))
-
-    pub cfg-read : readingOf cfg .number ≡ 0
-    cfg-read = FileLaws.accepted-exactly cfg .1 (reads read-silent)
+    pub cfg-read : readingOf cfg .refusal .number ≡ 0
+    cfg-read = exactly cfg .accepts .1 (cfg-silent silent)
 
     judged : judgeOf (binWords bin) (entriesOf cfg) ≡ passed
-    judged = accepted-exactly (binWords bin) (entriesOf cfg) .1 (go silent)
-      where
-        go : Silent (rowsOf bin cfg out) → Silent (ruleRows (binWords bin) (entriesOf cfg))
-        go (also e s) =
-            silent-left (ruleRows (binWords bin) (entriesOf cfg)) ((tooShort bin cfg out, (29, 0)) ∷ [])
-            (silent-right (map readRow (rows cfg)) behind s)
+    judged = Rules.accepted-exactly (binWords bin) (entriesOf cfg) .1 (rules-silent silent)
 
     pub lines-accepted : Accepted bin (entriesOf cfg)
     lines-accepted =

@@ -1,16 +1,18 @@
--- Laws of `Bench`.
+-- The bench cases, computed.
 use mathlib.Core.Path.{refl}
 use Rattle.sums.specs.Crc.{crcFrom, crcByte, crcBits, crcBit}
 use Rattle.switches.specs.Flips.{asks}
-use Rattle.grammar.specs.Grammar.{wordsSay, mappingLine, headingLine, romLine, pagedLine, romOf, pagedOf, _>>=_, dollar, page, hexFrom, same}
+use Rattle.text.specs.Lines.{linesOf}
+use Rattle.text.specs.Spelling.{same}
+use Rattle.grammar.specs.Grammar.{wordsSay, mappingLine, headingLine, romLine, pagedLine, _>>=_, dollar, oneDigit, hexFrom}
 use Rattle.grammar.specs.Words.{cut}
-use Rattle.cfg.specs.File.{linesOf, saysFrom, entriesFrom}
+use Rattle.cfg.specs.File.{saysFrom, entriesFrom}
 use Rattle.cfg.specs.Laws.Examples.{case8}
 use Rattle.plays.specs.Laws.Bench.{case-6, case-7}
 use Rattle.cases.specs.Bench.{Bench}
 
 pub bench : Bench
-unfolding crcFrom crcByte crcBits crcBit asks linesOf saysFrom entriesFrom wordsSay mappingLine headingLine romLine pagedLine romOf pagedOf _>>=_ dollar page hexFrom same cut
+unfolding crcFrom crcByte crcBits crcBit asks linesOf saysFrom entriesFrom wordsSay mappingLine headingLine romLine pagedLine _>>=_ dollar oneDigit hexFrom same cut
 bench =
     record {
       dowcrc-16 = refl;

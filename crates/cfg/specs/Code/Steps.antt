@@ -1,67 +1,79 @@
--- What the private functions of the file reader promise: where a line ends, and what the lines so far say.
-use Prim.Native.Nat.{ℕ, suc, _+_}
+-- What the private functions of the file reader promise: what the lines so far say, and what one line adds.
+use Prim.Native.Nat.{ℕ, _+_}
 use mathlib.Core.List.{List, [], _∷_}
 use mathlib.Core.Bool.{cond}
 use lib.Dec.{eqb, ltb}
-use lib.ListN.{drop, getD, length, set}
-use Rattle.basics.specs.Rows.{firstOf}
+use lib.ListN.{getD, length, set}
+use Rattle.basics.specs.declared.Refusal.{Refusal}
+use Rattle.basics.specs.Lists.{part}
+use Rattle.basics.specs.Rows.{Row}
+use Rattle.basics.specs.Refusals.{refuse, noRefusal, firstRefusal, passes}
 use Rattle.places.specs.Limits.{lineLimit}
-use Rattle.lines.specs.declared.Line.{Line}
+use Rattle.text.specs.Lines.{lineEnd}
+use Rattle.lines.specs.declared.Entry.{Entry}
 use Rattle.grammar.specs.declared.Section.{Section}
 use Rattle.grammar.specs.declared.Says.{Says}
 use Rattle.grammar.specs.declared.Says.the-variants.{Blank, Heading, Claims, Outside}
-use Rattle.grammar.specs.Words.{lf}
+use Rattle.grammar.specs.declared.Section.the-variants.{Nowhere}
+use Rattle.grammar.specs.Grammar.{lineSays}
 use Rattle.cfg.specs.declared.Scan.{Scan}
 use Rattle.cfg.specs.declared.Reading.{Reading}
-use Rattle.cfg.specs.File.{outsideFrom, entriesFrom, blankLine, shown, refusal}
+use Rattle.cfg.specs.File.{sectionAfter, outsideFrom, entriesFrom, blankLine, shown, refused}
 
--- the bytes before the first LF
-unfoldable pub lineLength : List ℕ → ℕ
-lineLength [] = 0
-lineLength (b ∷ s) = cond (eqb b lf) 0 (suc (lineLength s))
-
--- where the line that stands at a place ends
-abbrev pub lineEnd : List ℕ → ℕ → ℕ
-lineEnd s at = at + lineLength (drop at s)
+-- the section that lines end in, where the first stands in section s
+unfoldable pub sectionFrom : Section → List Says → Section
+sectionFrom s [] = s
+sectionFrom s (x ∷ xs) = sectionFrom (sectionAfter x s) xs
 
 -- what lines that say so leave behind them
-abbrev pub scanOf : Section → List Says → Scan
-scanOf s xs =
+abbrev pub scanOf : List Says → Scan
+scanOf xs =
     record {
-      section = s;
+      line = length xs;
+      section = sectionFrom Nowhere xs;
       outside = outsideFrom 1 xs;
       extra = getD (entriesFrom 1 xs) lineLimit blankLine .source;
       count = length (entriesFrom 1 xs);
       lines = shown (entriesFrom 1 xs);
     }
 
--- one line more
-abbrev pub inSection : Scan → Section → Scan
-inSection st s = record { section = s; outside = st .outside; extra = st .extra; count = st .count; lines = st .lines }
+-- one line more: it is counted, and noted by what it says
+abbrev pub onward : Scan → Scan
+onward st = record { line = st .line + 1; section = st .section; outside = st .outside; extra = st .extra; count = st .count; lines = st .lines }
 
-abbrev pub withEntry : Scan → Line → Scan
+abbrev pub inSection : Scan → Section → Scan
+inSection st s = record { line = st .line; section = s; outside = st .outside; extra = st .extra; count = st .count; lines = st .lines }
+
+abbrev pub withEntry : Scan → Entry → Scan
 withEntry st e =
     record {
+      line = st .line;
       section = st .section;
       outside = st .outside;
-      extra = cond (eqb (st .count) lineLimit) (e .source) (st .extra);
+      extra = cond (eqb (st .count) lineLimit) (st .line) (st .extra);
       count = st .count + 1;
-      lines = set (st .lines) (st .count) e;
+      lines = set (st .lines) (st .count) (record { source = st .line; entry = e });
     }
 
-abbrev pub withOutside : Scan → ℕ → Scan
-withOutside st n =
-    record { section = st .section; outside = cond (eqb (st .outside) 0) n (st .outside); extra = st .extra; count = st .count; lines = st .lines }
+abbrev pub withOutside : Scan → Scan
+withOutside st =
+    record { line = st .line; section = st .section; outside = cond (eqb (st .outside) 0) (st .line) (st .outside); extra = st .extra; count = st .count; lines = st .lines }
 
-abbrev pub noted : Scan → Says → ℕ → Scan
-noted st Blank n = st
-noted st (Heading s) n = inSection st s
-noted st (Claims e) n = withEntry st (record { source = n; entry = e })
-noted st Outside n = withOutside st n
+abbrev pub noted : Scan → Says → Scan
+noted st Blank = st
+noted st (Heading s) = inSection st s
+noted st (Claims e) = withEntry st e
+noted st Outside = withOutside st
+
+-- the line that stands at a place of a text
+abbrev pub notedLine : Scan → List ℕ → ℕ → Scan
+notedLine st s at = noted (onward st) (lineSays (st .section) (part s at (lineEnd s at)))
 
 -- refusals 23 and 24 of what all lines say
+abbrev pub scanRows : Scan → List (Row Refusal)
+scanRows st = (ltb 0 (st .outside), refuse 23 (st .outside)) ∷ (eqb (st .count) 0, refuse 24 0) ∷ (ltb lineLimit (st .count), refuse 24 (st .extra)) ∷ []
+
 abbrev pub judged : Scan → Reading
 judged st =
-    firstOf
-    ((ltb 0 (st .outside), refusal 23 (st .outside)) ∷ (eqb (st .count) 0, refusal 24 0) ∷ (ltb lineLimit (st .count), refusal 24 (st .extra)) ∷ [])
-    (record { number = 0; place = 0; count = st .count; lines = st .lines })
+    cond (passes (firstRefusal (scanRows st))) (record { refusal = noRefusal; count = st .count; lines = st .lines })
+    (refused (firstRefusal (scanRows st)))

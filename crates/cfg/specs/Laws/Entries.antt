@@ -12,6 +12,8 @@ use borrow.Author.Tests.{ltb-false, eqb-false}
 use Rattle.basics.specs.Laws.Tables.{getD-table, length-table}
 use Rattle.basics.specs.Rows.{Silent, also, none}
 use Rattle.places.specs.Limits.{cfgLimit, lineLimit}
+use Rattle.text.specs.Lines.{linesOf}
+use Rattle.text.specs.Laws.Lines.{lines-most}
 use Rattle.lines.specs.declared.Line.{Line}
 use Rattle.lines.specs.declared.Entry.{Entry}
 use Rattle.lines.specs.declared.Entry.the-variants.{Rom, Paged, Ram}
@@ -22,10 +24,9 @@ use Rattle.grammar.specs.declared.Says.the-variants.{Blank, Heading, Outside, C
 use Rattle.grammar.specs.declared.Section.the-variants.{Nowhere}
 use Rattle.grammar.specs.Grammar.{lineSays}
 use Rattle.grammar.specs.Laws.Grammar.{Fitting, claims-fit}
-use Rattle.grammar.specs.Words.{lf}
 use Rattle.cfg.specs.declared.Reading.{Reading}
-use Rattle.cfg.specs.File.{entriesFrom, saysFrom, sectionAfter, claimed, onFirst, linesOf, entriesOf, blankLine, shown, rows, accepted, readingOf}
-use Rattle.cfg.specs.Laws.File.{accepted-is, accepted-exactly}
+use Rattle.cfg.specs.File.{entriesFrom, saysFrom, sectionAfter, claimed, entriesOf, blankLine, shown, refusalRows, accepted, readingOf}
+use Rattle.cfg.specs.Laws.Refusals.{Exactly, exactly}
 
 -- the numbers of the lines rise from n on, and stay below m
 pub data Rising (m : ℕ) : ℕ → List Line → Type 0 where
@@ -60,20 +61,6 @@ fitting-says s (l ∷ ls) n = go (lineSays s l) refl (fitting-says (sectionAfter
     go (Heading t) e r = r
     go Outside e r = r
     go (Claims x) e r = cons (claims-fit s l x e) r
-
--- a text has no more lines than bytes
-lines-on : (b : ℕ) (ls : List (List ℕ)) → length (onFirst b ls) ≤ suc (length ls)
-lines-on b [] = omega arith
-lines-on b (l ∷ ls) = omega arith
-
-lines-most : (s : List ℕ) → length (linesOf s) ≤ length s
-unfolding linesOf
-lines-most [] = omega arith
-lines-most (b ∷ s) = go (eqb b lf) (lines-most s)
-  where
-    go : (t : Bool) → length (linesOf s) ≤ length s → length (cond t ([] ∷ linesOf s) (onFirst b (linesOf s))) ≤ suc (length s)
-    go true h = omega arith
-    go false h = omega (arith, lines-on b (linesOf s))
 
 pub entries-rise : (cfg : List ℕ) (m : ℕ) → length cfg < m → Rising m 1 (entriesOf cfg)
 entries-rise cfg m h = rising-says Nowhere (linesOf cfg) 1 m (omega (arith, lines-most cfg))
@@ -112,7 +99,7 @@ shown-take es h =
     ext-getD blankLine (take (length es) (shown es)) es cut
     (λ i l. getD-take (length es) (shown es) i blankLine (omega arith) ∙ shown-at es i (omega arith))
 
-silent-holds : (cfg : List ℕ) → Silent (rows cfg) → Holds cfg (accepted (entriesOf cfg))
+silent-holds : (cfg : List ℕ) → Silent (refusalRows cfg) → Holds cfg (accepted (entriesOf cfg))
 silent-holds cfg (also a (also b (also c (also d (also e none))))) =
     let short : length cfg ≤ cfgLimit = ltb-false cfgLimit (length cfg) a in
     let one : length (entriesOf cfg) ≡ 0 → ⊥ = eqb-false (length (entriesOf cfg)) 0 d in
@@ -129,5 +116,8 @@ silent-holds cfg (also a (also b (also c (also d (also e none))))) =
       rising = entries-rise cfg (cfgLimit + 1) (omega arith);
     }
 
-pub accepted-holds : (cfg : List ℕ) → readingOf cfg .number ≡ 0 → Holds cfg (readingOf cfg)
-accepted-holds cfg e = rw (accepted-is cfg e) (silent-holds cfg (accepted-exactly cfg .0 e))
+pub accepted-holds : (cfg : List ℕ) → readingOf cfg .refusal .number ≡ 0 → Holds cfg (readingOf cfg)
+accepted-holds cfg e =
+    let x : Exactly cfg (readingOf cfg) = exactly cfg in
+    let s : Silent (refusalRows cfg) = x .accepts .0 e in
+    rw (x .entries s) (silent-holds cfg s)

@@ -1,16 +1,20 @@
--- Laws of `Examples`.
+-- CFG files, and what reading each answers: one table under one statement. Bench case 8.
 use Prim.Native.String.{String}
-use Prim.Native.Nat.{ℕ, suc}
+use Prim.Native.Nat.{ℕ}
 use mathlib.Core.List.{List, _∷_, [], map}
 use mathlib.Core.Path.{_≡_, refl}
-use Rattle.places.specs.Limits.{lineLimit}
+use Rattle.basics.specs.Refusals.{refuse, noRefusal}
+use Rattle.text.specs.Bytes.{text, until}
+use Rattle.text.specs.Lines.{linesOf}
+use Rattle.text.specs.Spelling.{same}
+use Rattle.basics.specs.Counts.{count}
 use Rattle.lines.specs.declared.Entry.{Entry}
 use Rattle.lines.specs.declared.Line.{Line}
 use Rattle.lines.specs.declared.Width.the-variants.{Eight}
-use Rattle.grammar.specs.Grammar.{rom, paged, ram, wordsSay, mappingLine, memattrLine, headingLine, romLine, pagedLine, ramLine, romOf, pagedOf, ramOf, _>>=_, dollar, page, bits, hexFrom, same}
-use Rattle.grammar.specs.Words.{text, cut}
+use Rattle.grammar.specs.Grammar.{rom, paged, ram, hexFrom, dollar, oneDigit, bits, _>>=_, romLine, pagedLine, ramLine, mappingLine, memattrLine, headingLine, wordsSay}
+use Rattle.grammar.specs.Words.{cut}
 use Rattle.cfg.specs.declared.Reading.{Reading}
-use Rattle.cfg.specs.File.{accepted, refusal, readingOf, linesOf, foreignFrom, saysFrom, outsideFrom, entriesFrom}
+use Rattle.cfg.specs.File.{accepted, refused, readingOf, saysFrom, outsideFrom, entriesFrom}
 use Rattle.cfg.specs.Examples.{entries}
 
 -- a file, and what comes back
@@ -34,23 +38,24 @@ examples =
     ("[mapping]\r\n\r\n$0-$FF=$5000\r\n[memattr] ; RAM\n$8000-$80FF=RAM 8\n\n[mapping]\n$0-$FF=$6000"
     answers accepted (line 3 (rom 0 0xFF 0x5000) ∷ line 5 (ram 0x8000 0x80FF Eight) ∷ line 8 (rom 0 0xFF 0x6000) ∷ [])) ∷
     -- 22, also in a comment, also after a line outside the grammar
-    ("[mapping]\n$0-$FF=$5000 ; \u{7f}\n" answers refusal 22 2) ∷
-    ("[mapping]\r$0-$FF=$5000\n" answers refusal 22 1) ∷
-    ("[mapping]\n$0-$FF=$5000\r\r\n" answers refusal 22 2) ∷
-    ("[mapping]\n$0-$FF=$5000\r" answers refusal 22 2) ∷
-    ("[mopping]\n\n\0\n" answers refusal 22 3) ∷
+    ("[mapping]\n$0-$FF=$5000 ; \u{7f}\n" answers refused (refuse 22 2)) ∷
+    ("[mapping]\r$0-$FF=$5000\n" answers refused (refuse 22 1)) ∷
+    ("[mapping]\n$0-$FF=$5000\r\r\n" answers refused (refuse 22 2)) ∷
+    ("[mapping]\n$0-$FF=$5000\r" answers refused (refuse 22 2)) ∷
+    ("[mopping]\n\n\0\n" answers refused (refuse 22 3)) ∷
     -- 23
-    ("$0-$FF=$5000\n[mapping]\n" answers refusal 23 1) ∷
-    ("[mapping]\n\n$8000-$80FF=RAM 8\n$0" answers refusal 23 3) ∷
+    ("$0-$FF=$5000\n[mapping]\n" answers refused (refuse 23 1)) ∷
+    ("[mapping]\n\n$8000-$80FF=RAM 8\n$0" answers refused (refuse 23 3)) ∷
     -- 24
-    ("" answers refusal 24 0) ∷
-    ("[mapping]\n; nothing\n[memattr]\n" answers refusal 24 0) ∷
+    ("" answers refused (refuse 24 0)) ∷
+    ("[mapping]\n; nothing\n[memattr]\n" answers refused (refuse 24 0)) ∷
     []
 
 pub each-answers : map (λ (e : Example). readingOf (text (e .file))) examples ≡ map (λ (e : Example). e .answer) examples
-unfolding readingOf linesOf foreignFrom saysFrom outsideFrom entriesFrom wordsSay mappingLine memattrLine headingLine romLine pagedLine ramLine romOf pagedOf ramOf _>>=_ dollar page bits hexFrom same cut
+unfolding readingOf count until linesOf saysFrom outsideFrom entriesFrom wordsSay mappingLine memattrLine headingLine romLine pagedLine ramLine _>>=_ dollar oneDigit bits hexFrom same cut
 each-answers = refl
 
-pub case8 : (readingOf (entries lineLimit) .number ≡ 0) × (readingOf (entries lineLimit) .count ≡ lineLimit) × (readingOf (entries (suc lineLimit)) ≡ refusal 24 (suc (suc lineLimit)))
-unfolding readingOf linesOf foreignFrom saysFrom outsideFrom entriesFrom wordsSay mappingLine memattrLine headingLine romLine pagedLine ramLine romOf pagedOf ramOf _>>=_ dollar page bits hexFrom same cut
+-- 64 entries pass rule 24, and 65 do not: the line of the 65th is 66, behind that of the section's name
+pub case8 : (readingOf (entries 64) .refusal ≡ noRefusal) × (readingOf (entries 64) .count ≡ 64) × (readingOf (entries 65) ≡ refused (refuse 24 66))
+unfolding readingOf count until linesOf saysFrom outsideFrom entriesFrom wordsSay mappingLine memattrLine headingLine romLine pagedLine ramLine _>>=_ dollar oneDigit bits hexFrom same cut
 case8 = (refl, refl, refl)

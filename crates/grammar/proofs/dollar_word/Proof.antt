@@ -1,6 +1,6 @@
 -- `grammar::dollar_word` meets its contract: a law for each way out.
 use borrow.Author.Needs.{needs}
-use Rattle.grammar.proofs.Digits.{dollar-short, dollar-long, dollar-digits, dollar-other}
+use Rattle.grammar.proofs.Numbers.{dollar-short, dollar-long, dollar-digits, dollar-other}
 use Rattle.grammar.proofs.dollar_word.Statement.{statement}
 use Rattle.grammar.proofs.dollar_word.Tie as tie
 
@@ -17,4 +17,16 @@ returns-4 : tie.Need-returns-4
 returns-4 c = search dollar-other
 
 pub dollar-word-spec : {M : Type 1} → statement M
-dollar-word-spec = tie.close (tie.spec returns (λ c. search needs) returns-2 (λ c. search needs) (λ c κs. search needs) returns-3 returns-4)
+dollar-word-spec =
+    tie.close
+    (tie.spec
+    returns
+    (λ c. search needs)
+    returns-2
+    (λ c. search needs)
+    (λ c. search needs)
+    (λ c. search needs)
+    (λ c. search needs)
+    (λ c κs. search needs)
+    returns-3
+    returns-4)

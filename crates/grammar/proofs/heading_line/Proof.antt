@@ -1,7 +1,7 @@
 -- `grammar::heading_line` meets its contract: the code's tests are the definition's.
 use borrow.Author.Needs.{needs}
 use Rattle.grammar.specs.Grammar.{headingLine}
-use Rattle.grammar.proofs.Digits.{by-first, by-second, by-neither}
+use Rattle.grammar.proofs.Entries.{by-first, by-second, by-neither}
 use Rattle.grammar.proofs.heading_line.Statement.{statement}
 use Rattle.grammar.proofs.heading_line.Tie as tie
 

@@ -5,7 +5,7 @@ use Rattle.grammar.proofs.kind_of.Statement.{statement}
 use Rattle.grammar.proofs.kind_of.Tie as tie
 
 returns : tie.Need-returns
-returns c = ⊎-elim (λ e. rw e) (⊎-elim (λ e. rw e) (λ e. rw e)) (c .match .keys1)
+returns c = ⊎-elim (λ e. rw e) (λ e. rw e) (c .match .keys1)
 
 returns-2 : tie.Need-returns-2
 returns-2 c = ⊎-elim (λ e. rw e) (λ e. rw e) (c .match .keys2)
@@ -20,8 +20,7 @@ returns-4 c = let r = c .match .rest in
       ne-eqb _ _ (λ e. r .0 .1 (inl e)),
       ne-eqb _ _ (λ e. r .0 .1 (inr e)),
       ne-eqb _ _ (λ e. r .0 .0 .1 (inl e)),
-      ne-eqb _ _ (λ e. r .0 .0 .1 (inr (inl e))),
-      ne-eqb _ _ (λ e. r .0 .0 .1 (inr (inr e))),
+      ne-eqb _ _ (λ e. r .0 .0 .1 (inr e)),
     )
 
 pub kind-of-spec : {M : Type 1} → statement M

@@ -1,7 +1,8 @@
 -- `grammar::paged_of` meets its contract: each number that is taken apart decides a step of the definition.
 use borrow.Author.Needs.{needs}
-use Rattle.grammar.specs.Grammar.{pagedOf}
-use Rattle.grammar.proofs.Shapes.{bind-is, bind-not}
+use Rattle.grammar.specs.Code.Steps.{pagedOf}
+use Rattle.grammar.proofs.Numbers.{word-fits, byte-fits}
+use Rattle.grammar.proofs.Entries.{bind-is, bind-not}
 use Rattle.grammar.proofs.paged_of.Statement.{statement}
 use Rattle.grammar.proofs.paged_of.Tie as tie
 
@@ -22,16 +23,14 @@ unfolding pagedOf
 returns-4 c = search (bind-is, bind-not)
 
 cast-t11 : tie.Need-cast-t11
-unfolding pagedOf
-cast-t11 c = record { fits = c .before .before .before .before .before .before .before .before .before .before .before .before .pre .0 (c .before .before .before .before .c .given .0 .0) (c .before .before .before .before .c .given .1) }
+cast-t11 c = search (needs, word-fits)
 
 cast-t13 : tie.Need-cast-t13
-unfolding pagedOf
-cast-t13 c = record { fits = c .before .before .before .before .before .before .before .before .before .before .before .before .pre .1 (c .before .d .given .0 .0) (c .before .d .given .1) }
+cast-t13 c = search (needs, byte-fits)
 
 returns-5 : tie.Need-returns-5
 unfolding pagedOf
-returns-5 c = search (bind-is, bind-not)
+returns-5 c = search bind-is
 
 pub paged-of-spec : {M : Type 1} → statement M
 paged-of-spec =

@@ -1,7 +1,8 @@
 -- `grammar::ram_of` meets its contract: each number that is taken apart decides a step of the definition.
 use borrow.Author.Needs.{needs}
-use Rattle.grammar.specs.Grammar.{ramOf}
-use Rattle.grammar.proofs.Shapes.{bind-is, bind-not}
+use Rattle.grammar.specs.Code.Steps.{ramOf}
+use Rattle.grammar.proofs.Numbers.{word-fits}
+use Rattle.grammar.proofs.Entries.{bind-is, bind-not}
 use Rattle.grammar.proofs.ram_of.Statement.{statement}
 use Rattle.grammar.proofs.ram_of.Tie as tie
 
@@ -18,16 +19,14 @@ unfolding ramOf
 returns-3 c = search (bind-is, bind-not)
 
 cast-t7 : tie.Need-cast-t7
-unfolding ramOf
-cast-t7 c = record { fits = c .before .before .before .before .before .before .before .before .before .pre .0 (c .before .before .before .before .before .before .before .a .given .0 .0) (c .before .before .before .before .before .before .before .a .given .1) }
+cast-t7 c = search (needs, word-fits)
 
 cast-t9 : tie.Need-cast-t9
-unfolding ramOf
-cast-t9 c = record { fits = c .before .before .before .before .before .before .before .before .before .pre .1 (c .before .before .before .before .b .given .0 .0) (c .before .before .before .before .b .given .1) }
+cast-t9 c = search (needs, word-fits)
 
 returns-4 : tie.Need-returns-4
 unfolding ramOf
-returns-4 c = search (bind-is, bind-not, c .width-of .ensures)
+returns-4 c = search (bind-is, c .width-of .ensures)
 
 pub ram-of-spec : {M : Type 1} → statement M
 ram-of-spec =

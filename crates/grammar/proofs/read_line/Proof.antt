@@ -1,23 +1,23 @@
 -- `grammar::read_line` meets its contract: no word, one word, or an entry by its section.
 use borrow.Author.Needs.{needs}
-use Rattle.grammar.proofs.Shapes.{says-blank, says-heading, says-nowhere, says-mapping, says-memattr}
+use Rattle.grammar.proofs.Entries.{no-words, one-word, entry-nowhere, entry-mapping, entry-memattr}
 use Rattle.grammar.proofs.read_line.Statement.{statement}
 use Rattle.grammar.proofs.read_line.Tie as tie
 
 returns : tie.Need-returns
-returns c = search says-blank
+returns c = search no-words
 
 returns-2 : tie.Need-returns-2
-returns-2 c = search says-heading
+returns-2 c = search one-word
 
 returns-3 : tie.Need-returns-3
-returns-3 c = search says-nowhere
+returns-3 c = search entry-nowhere
 
 returns-4 : tie.Need-returns-4
-returns-4 c = search says-mapping
+returns-4 c = search entry-mapping
 
 returns-5 : tie.Need-returns-5
-returns-5 c = search says-memattr
+returns-5 c = search entry-memattr
 
 pub read-line-spec : {M : Type 1} → statement M
 read-line-spec =

@@ -1,17 +1,15 @@
 -- `grammar::rom_line` meets its contract: straight calls, so what each ensures is put in.
 use borrow.Author.Needs.{needs}
-use Rattle.grammar.specs.Grammar.{romLine}
 use Rattle.grammar.specs.Laws.Grammar.{after-fits}
+use Rattle.grammar.proofs.Entries.{rom-words}
 use Rattle.grammar.proofs.rom_line.Statement.{statement}
 use Rattle.grammar.proofs.rom_line.Tie as tie
 
 rom-of-requires : tie.Need-rom-of-requires
-unfolding romLine
-rom-of-requires c κs = search after-fits
+rom-of-requires c κs = search (after-fits)
 
 returns : tie.Need-returns
-unfolding romLine
-returns c = cc
+returns c = search rom-words
 
 pub rom-line-spec : {M : Type 1} → statement M
 rom-line-spec =

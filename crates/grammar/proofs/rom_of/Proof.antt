@@ -1,7 +1,8 @@
 -- `grammar::rom_of` meets its contract: each number that is taken apart decides a step of the definition.
 use borrow.Author.Needs.{needs}
-use Rattle.grammar.specs.Grammar.{romOf}
-use Rattle.grammar.proofs.Shapes.{bind-is, bind-not}
+use Rattle.grammar.specs.Code.Steps.{romOf}
+use Rattle.grammar.proofs.Numbers.{word-fits}
+use Rattle.grammar.proofs.Entries.{bind-is, bind-not}
 use Rattle.grammar.proofs.rom_of.Statement.{statement}
 use Rattle.grammar.proofs.rom_of.Tie as tie
 
@@ -18,12 +19,11 @@ unfolding romOf
 returns-3 c = search (bind-is, bind-not)
 
 cast-t9 : tie.Need-cast-t9
-unfolding romOf
-cast-t9 c = record { fits = c .before .before .before .before .before .before .before .before .before .pre (c .before .c .given .0 .0) (c .before .c .given .1) }
+cast-t9 c = search (needs, word-fits)
 
 returns-4 : tie.Need-returns-4
 unfolding romOf
-returns-4 c = search (bind-is, bind-not)
+returns-4 c = search bind-is
 
 pub rom-of-spec : {M : Type 1} → statement M
 rom-of-spec =

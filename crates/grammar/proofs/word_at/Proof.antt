@@ -3,13 +3,13 @@ use Prim.Native.Nat.{_≤_}
 use mathlib.Core.Path.{_≡_}
 use lib.ListN.{length, drop}
 use borrow.Author.Needs.{needs}
-use Rattle.grammar.specs.Code.Words.{wordAt}
-use Rattle.grammar.proofs.Cuts.{pass-word, found-word}
+use Rattle.grammar.specs.Words.{wordsOf, word}
+use Rattle.grammar.proofs.Words.{pass-word, found-word}
 use Rattle.grammar.proofs.word_at.Statement.{statement}
 use Rattle.grammar.proofs.word_at.Tie as tie
 
 abbrev Inv-loop : tie.InvT-loop
-Inv-loop line k at₀ left₀ at left = (at ≤ length line) × (wordAt line k ≡ wordAt (drop at line) left)
+Inv-loop line k at₀ left₀ at left = (at ≤ length line) × (word (wordsOf line) k ≡ word (wordsOf (drop at line)) left)
 
 abbrev μ-loop : tie.MeasureT-loop
 μ-loop line k at₀ left₀ at left = left

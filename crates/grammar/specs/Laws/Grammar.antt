@@ -9,17 +9,19 @@ use lib.Dec.{leb, lit≤, eqb, lit<}
 use lib.ListN.{length}
 use borrow.Author.Tests.{leb-true, eqb-false, eqb-true}
 use Rattle.basics.specs.Laws.Tests.{and-right, and-left}
+use Rattle.places.specs.Limits.{chapterPages}
+use Rattle.text.specs.Spelling.{is, digitOf}
 use Rattle.lines.specs.declared.Entry.{Entry}
 use Rattle.lines.specs.declared.Entry.the-variants.{Rom, Paged, Ram}
 use Rattle.grammar.specs.declared.Number.the-variants.{Not, Is}
 use Rattle.grammar.specs.declared.Number.{Number}
 use Rattle.grammar.specs.declared.Says.{Says}
-use Rattle.grammar.specs.declared.Says.the-variants.{Claims, Outside, Heading}
+use Rattle.grammar.specs.declared.Says.the-variants.{Blank, Heading, Claims, Outside}
 use Rattle.grammar.specs.declared.Section.{Section}
 use Rattle.grammar.specs.declared.Section.the-variants.{Nowhere, Mapping, Memattr}
-use Rattle.grammar.specs.Grammar.{digitOf, hexFrom, dollar, page, after, address, romOf, _>>=_, rom, pagedOf, paged, ramOf, ram, widthOf, mappingLine, romLine, pagedLine, offset, is, memattrLine, ramLine, bits, entryLine, headingLine, wordsSay, lineSays}
+use Rattle.grammar.specs.Grammar.{hexFrom, hexOf, dollar, offset, address, oneDigit, after, widthOf, rom, paged, ram, _>>=_, romLine, pagedLine, ramLine, mappingLine, memattrLine, headingLine, entryLine, wordsSay, lineSays}
 use Rattle.grammar.specs.Code.Steps.{Below}
-use Rattle.grammar.specs.Words.{wordsOf}
+use Rattle.grammar.specs.Words.{wordsOf, word}
 
 -- hex digits
 not-is : {A : Type 0} {n : ℕ} → Not ≡ Is n → A
@@ -56,7 +58,7 @@ unfolding dollar
 dollar-below most [] n e = not-is e
 dollar-below most (x ∷ w) n e = go (leb 1 (length w) && leb (length w) most && eqb x 36) refl e
   where
-    go : (t : Bool) → (leb 1 (length w) && leb (length w) most && eqb x 36) ≡ t → cond t (hexFrom 0 w) Not ≡ Is n → n < 16 ^ most
+    go : (t : Bool) → (leb 1 (length w) && leb (length w) most && eqb x 36) ≡ t → cond t (hexOf w) Not ≡ Is n → n < 16 ^ most
     go false q f = not-is f
     go true q f =
         let l : length w ≤ most =
@@ -64,11 +66,11 @@ dollar-below most (x ∷ w) n e = go (leb 1 (length w) && leb (length w) most &&
         let k : 16 ^ length w ≤ 16 ^ most = pow-le-pow-right (lit< tt) {i = length w} {j = most} l in
         omega (arith, hex-below w 0 n 1 (lit< tt) f)
 
-pub page-below : (w : List ℕ) → Below 16 (page w)
-unfolding page
-page-below w n e = go (eqb (length w) 1) refl e
+pub digit-below : (w : List ℕ) → Below chapterPages (oneDigit w)
+unfolding oneDigit
+digit-below w n e = go (eqb (length w) 1) refl e
   where
-    go : (t : Bool) → eqb (length w) 1 ≡ t → cond t (hexFrom 0 w) Not ≡ Is n → n < 16
+    go : (t : Bool) → eqb (length w) 1 ≡ t → cond t (hexOf w) Not ≡ Is n → n < 16
     go false q f = not-is f
     go true q f =
         let l : 16 ^ length w ≡ 16 = ap (λ (k : ℕ). 16 ^ k) (eqb-true (length w) 1 q) in
@@ -85,14 +87,14 @@ address-fits w x e n q = dollar-below 4 w n (sym e ∙ q)
 pub after-fits : (w : List ℕ) (t : Bool) (x y : Number) → y ≡ after t x → x ≡ address w → Below 65536 y
 after-fits w t x y f e n q = after-below 65536 t (address w) (dollar-below 4 w) n (ap (after t) (sym e) ∙ sym f ∙ q)
 
-pub page-fits : (w : List ℕ) (t : Bool) (x y : Number) → y ≡ after t x → x ≡ page w → Below 256 y
-page-fits w t x y f e n q = let l : n < 16 = after-below 16 t (page w) (page-below w) n (ap (after t) (sym e) ∙ sym f ∙ q) in omega arith
+pub digit-fits : (w : List ℕ) (t : Bool) (x y : Number) → y ≡ after t x → x ≡ oneDigit w → Below 256 y
+digit-fits w t x y f e n q = let l : n < 16 = after-below 16 t (oneDigit w) (digit-below w) n (ap (after t) (sym e) ∙ sym f ∙ q) in omega arith
 
 -- what an entry names: BIN offsets below 2^20, addresses below 2^16, a page below 16
 abbrev pub Fitting : Entry → Type 0
-Fitting (Rom lo hi at) = (lo .0 < 1048576) × (hi .0 < 1048576) × (at .0 < 65536)
-Fitting (Paged lo hi at y) = (lo .0 < 1048576) × (hi .0 < 1048576) × (at .0 < 65536) × (y .0 < 16)
-Fitting (Ram lo hi w) = (lo .0 < 65536) × (hi .0 < 65536)
+Fitting (Rom lo hi at) = (lo .0 < 0x100000) × (hi .0 < 0x100000) × (at .0 < 0x10000)
+Fitting (Paged lo hi at y) = (lo .0 < 0x100000) × (hi .0 < 0x100000) × (at .0 < 0x10000) × (y .0 < chapterPages)
+Fitting (Ram lo hi w) = (lo .0 < 0x10000) × (hi .0 < 0x10000)
 
 -- where a line claims an entry, the entry fits
 abbrev Sound : Says → Type 0
@@ -104,79 +106,79 @@ sound-outside e q = let z : _≡_ {A = ℕ} 0 1 = cc in absurd (omega arith)
 sound-of : (e : Entry) → Fitting e → Sound (Claims e)
 sound-of e h f q = let z : e ≡ f = cc in subst Fitting z h
 
-rom-sound : (a b c : Number) → Below 1048576 a → Below 1048576 b → Below 65536 c → Sound (romOf a b c)
-unfolding romOf _>>=_
-rom-sound Not b c p q r = sound-outside
-rom-sound (Is lo) Not c p q r = sound-outside
-rom-sound (Is lo) (Is hi) Not p q r = sound-outside
-rom-sound (Is lo) (Is hi) (Is at) p q r =
-    sound-of (rom lo hi at) (p lo refl, q hi refl, r at refl)
+-- a number that is there goes on, and must be below its bound there
+bind-sound : (m : ℕ) (x : Number) (k : ℕ → Says) → Below m x → ((n : ℕ) → n < m → Sound (k n)) → Sound (_>>=_ x k)
+unfolding _>>=_
+bind-sound m Not k h f = sound-outside
+bind-sound m (Is n) k h f = f n (h n refl)
 
-paged-sound : (a b c d : Number) → Below 1048576 a → Below 1048576 b → Below 65536 c → Below 16 d → Sound (pagedOf a b c d)
-unfolding pagedOf _>>=_
-paged-sound Not b c d p q r s = sound-outside
-paged-sound (Is lo) Not c d p q r s = sound-outside
-paged-sound (Is lo) (Is hi) Not d p q r s = sound-outside
-paged-sound (Is lo) (Is hi) (Is at) Not p q r s = sound-outside
-paged-sound (Is lo) (Is hi) (Is at) (Is y) p q r s =
-    sound-of (paged lo hi at y) (p lo refl, q hi refl, r at refl, s y refl)
+-- any number will do
+bind-any : (x : Number) (k : ℕ → Says) → ((n : ℕ) → Sound (k n)) → Sound (_>>=_ x k)
+unfolding _>>=_
+bind-any Not k f = sound-outside
+bind-any (Is n) k f = f n
 
-ram-sound : (a b c : Number) → Below 65536 a → Below 65536 b → Sound (ramOf a b c)
-unfolding ramOf _>>=_
-ram-sound Not b c p q = sound-outside
-ram-sound (Is lo) Not c p q = sound-outside
-ram-sound (Is lo) (Is hi) Not p q = sound-outside
-ram-sound (Is lo) (Is hi) (Is n) p q = sound-of (ram lo hi (widthOf n)) (p lo refl, q hi refl)
+module _ (ws : List (List ℕ)) where
+  offset-0 : Below 0x100000 (offset (word ws 0))
+  offset-0 = dollar-below 5 (word ws 0)
 
-mapping-sound : (ws : List (List ℕ)) → Sound (mappingLine ws)
-unfolding mappingLine romLine pagedLine
-mapping-sound [] = sound-outside
-mapping-sound (a ∷ []) = sound-outside
-mapping-sound (a ∷ b ∷ []) = sound-outside
-mapping-sound (a ∷ b ∷ c ∷ []) = sound-outside
-mapping-sound (a ∷ b ∷ c ∷ d ∷ []) = sound-outside
-mapping-sound (a ∷ b ∷ c ∷ d ∷ e ∷ []) =
-    rom-sound (offset a) (after (is "-" b) (offset c)) (after (is "=" d) (address e)) (dollar-below 5 a)
-    (after-below 1048576 (is "-" b) (offset c) (dollar-below 5 c)) (after-below 65536 (is "=" d) (address e) (dollar-below 4 e))
-mapping-sound (a ∷ b ∷ c ∷ d ∷ e ∷ f ∷ []) = sound-outside
-mapping-sound (a ∷ b ∷ c ∷ d ∷ e ∷ f ∷ g ∷ []) =
-    paged-sound (offset a) (after (is "-" b) (offset c)) (after (is "=" d) (address e)) (after (is "PAGE" f) (page g)) (dollar-below 5 a)
-    (after-below 1048576 (is "-" b) (offset c) (dollar-below 5 c)) (after-below 65536 (is "=" d) (address e) (dollar-below 4 e))
-    (after-below 16 (is "PAGE" f) (page g) (page-below g))
-mapping-sound (a ∷ b ∷ c ∷ d ∷ e ∷ f ∷ g ∷ h ∷ ws) = sound-outside
+  offset-2 : Below 0x100000 (after (is "-" (word ws 1)) (offset (word ws 2)))
+  offset-2 = after-below 0x100000 (is "-" (word ws 1)) (offset (word ws 2)) (dollar-below 5 (word ws 2))
 
-memattr-sound : (ws : List (List ℕ)) → Sound (memattrLine ws)
-unfolding memattrLine ramLine
-memattr-sound [] = sound-outside
-memattr-sound (a ∷ []) = sound-outside
-memattr-sound (a ∷ b ∷ []) = sound-outside
-memattr-sound (a ∷ b ∷ c ∷ []) = sound-outside
-memattr-sound (a ∷ b ∷ c ∷ d ∷ []) = sound-outside
-memattr-sound (a ∷ b ∷ c ∷ d ∷ e ∷ []) = sound-outside
-memattr-sound (a ∷ b ∷ c ∷ d ∷ e ∷ f ∷ []) =
-    ram-sound (address a) (after (is "-" b) (address c)) (after (is "=" d) (after (is "RAM" e) (bits f))) (dollar-below 4 a)
-    (after-below 65536 (is "-" b) (address c) (dollar-below 4 c))
-memattr-sound (a ∷ b ∷ c ∷ d ∷ e ∷ f ∷ g ∷ ws) = sound-outside
+  address-4 : Below 0x10000 (after (is "=" (word ws 3)) (address (word ws 4)))
+  address-4 = after-below 0x10000 (is "=" (word ws 3)) (address (word ws 4)) (dollar-below 4 (word ws 4))
+
+  rom-sound : Sound (romLine ws)
+  unfolding romLine
+  rom-sound =
+      bind-sound 0x100000 _ _ offset-0 (λ lo p.
+      bind-sound 0x100000 _ _ offset-2 (λ hi q.
+      bind-sound 0x10000 _ _ address-4 (λ at r. sound-of (rom lo hi at) (p, q, r))))
+
+  paged-sound : Sound (pagedLine ws)
+  unfolding pagedLine
+  paged-sound =
+      bind-sound 0x100000 _ _ offset-0 (λ lo p.
+      bind-sound 0x100000 _ _ offset-2 (λ hi q.
+      bind-sound 0x10000 _ _ address-4 (λ at r.
+      bind-sound chapterPages _ _ (after-below chapterPages (is "PAGE" (word ws 5)) (oneDigit (word ws 6)) (digit-below (word ws 6))) (λ y t. sound-of (paged lo hi at y) (p, q, r, t)))))
+
+  ram-sound : Sound (ramLine ws)
+  unfolding ramLine
+  ram-sound =
+      bind-sound 0x10000 _ _ (dollar-below 4 (word ws 0)) (λ lo p.
+      bind-sound 0x10000 _ _ (after-below 0x10000 (is "-" (word ws 1)) (address (word ws 2)) (dollar-below 4 (word ws 2))) (λ hi q.
+      bind-any _ _ (λ n. sound-of (ram lo hi (widthOf n)) (p, q))))
+
+-- a choice by tests
+sound-by : (t : Bool) (x y : Says) → Sound x → Sound y → Sound (cond t x y)
+sound-by true x y p q = p
+sound-by false x y p q = q
 
 entry-sound : (s : Section) (ws : List (List ℕ)) → Sound (entryLine s ws)
+unfolding mappingLine memattrLine
 entry-sound Nowhere ws = sound-outside
-entry-sound Mapping ws = mapping-sound ws
-entry-sound Memattr ws = memattr-sound ws
+entry-sound Mapping ws =
+    sound-by (eqb (length ws) 5) (romLine ws) _ (rom-sound ws) (sound-by (eqb (length ws) 7) (pagedLine ws) Outside (paged-sound ws) sound-outside)
+entry-sound Memattr ws = sound-by (eqb (length ws) 6) (ramLine ws) Outside (ram-sound ws) sound-outside
+
+sound-heading : (t : Section) → Sound (Heading t)
+sound-heading t e q = let z : _≡_ {A = ℕ} 0 1 = cc in absurd (omega arith)
+
+sound-blank : Sound Blank
+sound-blank e q = let z : _≡_ {A = ℕ} 0 1 = cc in absurd (omega arith)
 
 heading-sound : (w : List ℕ) → Sound (headingLine w)
 unfolding headingLine
-heading-sound w = go (is "[mapping]" w) (is "[memattr]" w)
-  where
-    go : (a b : Bool) → Sound (cond a (Heading Mapping) (cond b (Heading Memattr) Outside))
-    go true b e q = let z : _≡_ {A = ℕ} 0 1 = cc in absurd (omega arith)
-    go false true e q = let z : _≡_ {A = ℕ} 0 1 = cc in absurd (omega arith)
-    go false false e q = let z : _≡_ {A = ℕ} 0 1 = cc in absurd (omega arith)
+heading-sound w =
+    sound-by (is "[mapping]" w) (Heading Mapping) _ (sound-heading Mapping)
+    (sound-by (is "[memattr]" w) (Heading Memattr) Outside (sound-heading Memattr) sound-outside)
 
 words-sound : (s : Section) (ws : List (List ℕ)) → Sound (wordsSay s ws)
 unfolding wordsSay
-words-sound s [] e q = let z : _≡_ {A = ℕ} 0 1 = cc in absurd (omega arith)
-words-sound s (a ∷ []) e q = heading-sound a e q
-words-sound s (a ∷ b ∷ ws) e q = entry-sound s (a ∷ b ∷ ws) e q
+words-sound s ws =
+    sound-by (eqb (length ws) 0) Blank _ sound-blank
+    (sound-by (eqb (length ws) 1) (headingLine (word ws 0)) (entryLine s ws) (heading-sound (word ws 0)) (entry-sound s ws))
 
 pub claims-fit : (s : Section) (line : List ℕ) (e : Entry) → lineSays s line ≡ Claims e → Fitting e
 claims-fit s line = words-sound s (wordsOf line)

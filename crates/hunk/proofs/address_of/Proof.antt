@@ -1,6 +1,6 @@
 -- `hunk::address_of` meets its contract: three bytes, the lowest first.
 use borrow.Author.Needs.{needs}
-use Rattle.hunk.proofs.Laws.{address-bytes}
+use Rattle.hunk.proofs.Loops.{address-bytes}
 use Rattle.hunk.proofs.address_of.Statement.{statement}
 use Rattle.hunk.proofs.address_of.Tie as tie
 

@@ -1,6 +1,6 @@
 -- `hunk::block_at` meets its contract: one law for each return.
 use borrow.Author.Needs.{needs}
-use Rattle.hunk.proofs.Laws.{blocks}
+use Rattle.hunk.proofs.ByForm.{blocks, count-small}
 use Rattle.hunk.proofs.block_at.Statement.{statement}
 use Rattle.hunk.proofs.block_at.Tie as tie
 
@@ -10,17 +10,14 @@ returns c = search (needs, blocks)
 returns-2 : tie.Need-returns-2
 returns-2 c = search (needs, blocks)
 
+size-of-requires : tie.Need-size-of-requires
+size-of-requires c κs = search (needs, count-small)
+
 returns-3 : tie.Need-returns-3
 returns-3 c = search (needs, blocks)
 
 returns-4 : tie.Need-returns-4
 returns-4 c = search (needs, blocks)
-
-returns-5 : tie.Need-returns-5
-returns-5 c = search (needs, blocks)
-
-returns-6 : tie.Need-returns-6
-returns-6 c = search (needs, blocks)
 
 pub block-at-spec : {M : Type 1} → statement M
 block-at-spec =
@@ -30,11 +27,11 @@ block-at-spec =
     (λ c. search needs)
     (λ c κs. search needs)
     (λ c κs. search needs)
+    (λ c κs. search needs)
     returns-2
     (λ c κs. search needs)
+    size-of-requires
     (λ c. search needs)
     returns-3
-    returns-4
-    returns-5
     (λ c. search needs)
-    returns-6)
+    returns-4)

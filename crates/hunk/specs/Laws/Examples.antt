@@ -1,12 +1,17 @@
--- 001's Encoded Example, all 62 bytes, as a hunk at word 2. (The dump prints "336" for one decle: bytes and listing say 366.)
+-- 001's Encoded Example, all 62 bytes, as a hunk at word 2 (the dump prints "336" for one decle: bytes and listing say 366); and a hunk
+-- that is written.
 use Prim.Native.Nat.{ℕ}
 use mathlib.Core.List.{List, _∷_, [], _++_}
 use mathlib.Core.Path.{_≡_, refl}
 use lib.ListN.{length, take, replicate}
+use Rattle.basics.specs.Bytes.{bytes16}
 use Rattle.basics.specs.Tables.{made}
-use Rattle.basics.specs.Lists.{laid}
+use Rattle.basics.specs.Lists.{laid, joined}
+use Rattle.places.specs.Places.{locutus}
 use Rattle.hunk.specs.declared.Checked.the-variants.{Whole, Broken}
-use Rattle.hunk.specs.Hunk.{wordsIn, wordsFrom, blockAt, breaks, countOf, sizeOf, word, decle, checkHunk, checkFrom, storeHunk}
+use Rattle.hunk.specs.Forms.{formOf, countOf, sizeOf, word, packed, decle, dataOf}
+use Rattle.hunk.specs.Cuts.{cutsOf, pieces}
+use Rattle.hunk.specs.Hunk.{hunk, wholeAt, dataStartsFrom, dataStarts, endOf, wordsOf, checkBlocks, checkHunk, storeHunk, hunkPayload}
 
 -- the 62 bytes, a data block to a line
 abbrev pub encoded : List ℕ
@@ -34,22 +39,22 @@ listing =
 pub bytes : length encoded ≡ 62
 bytes = refl
 
-pub decodes : wordsIn payload 41 ≡ listing
-unfolding wordsIn wordsFrom blockAt breaks countOf sizeOf word decle made
+pub decodes : wordsOf payload ≡ listing
+unfolding wordsOf dataStarts dataStartsFrom wholeAt formOf countOf sizeOf word packed decle made joined
 decodes = refl
 
 -- it needs 41 words of RAM; in 40 the last data block, at byte 55, holds the first word outside
 pub passes : checkHunk payload 41 ≡ Whole 39
-unfolding checkHunk checkFrom blockAt breaks countOf sizeOf
+unfolding checkHunk checkBlocks endOf dataStarts dataStartsFrom wholeAt formOf countOf sizeOf
 passes = refl
 
 pub one-past : checkHunk payload 40 ≡ Broken 55
-unfolding checkHunk checkFrom blockAt breaks countOf sizeOf
+unfolding checkHunk checkBlocks endOf dataStarts dataStartsFrom wholeAt formOf countOf sizeOf
 one-past = refl
 
 -- cut by its last byte; cut before any data block; a reserved start byte behind it
 pub cut : checkHunk (take 64 payload) 41 ≡ Broken 55
-unfolding checkHunk checkFrom blockAt breaks countOf sizeOf
+unfolding checkHunk checkBlocks endOf dataStarts dataStartsFrom wholeAt formOf countOf sizeOf
 cut = refl
 
 pub no-address : checkHunk (2 ∷ 0 ∷ []) 41 ≡ Broken 0
@@ -57,9 +62,19 @@ unfolding checkHunk
 no-address = refl
 
 pub reserved : checkHunk (payload ++ (0xFE ∷ [])) 41 ≡ Broken 65
-unfolding checkHunk checkFrom blockAt breaks countOf sizeOf
+unfolding checkHunk checkBlocks endOf dataStarts dataStartsFrom wholeAt formOf countOf sizeOf
 reserved = refl
 
+-- in 44 words it is stored, in 40 nothing is
 pub stores : storeHunk payload (replicate 44 0) ≡ 0 ∷ 0 ∷ (listing ++ (0 ∷ 0 ∷ 0 ∷ []))
-unfolding laid wordsIn wordsFrom blockAt breaks countOf sizeOf word decle made
+unfolding storeHunk laid wordsOf checkHunk checkBlocks endOf dataStarts dataStartsFrom wholeAt formOf countOf sizeOf word packed decle made joined
 stores = refl
+
+pub stores-nothing : storeHunk payload (replicate 40 0) ≡ replicate 40 0
+unfolding storeHunk checkHunk checkBlocks endOf dataStarts dataStartsFrom wholeAt formOf countOf sizeOf
+stores-nothing = refl
+
+-- written in the 16-bit form
+pub writes : hunkPayload (hunk (locutus 0x12345) (0x0240 ∷ 0x7FFF ∷ [])) ≡ 0x45 ∷ 0x23 ∷ 0x01 ∷ 0xC1 ∷ 0x40 ∷ 0x02 ∷ 0xFF ∷ 0x7F ∷ []
+unfolding hunkPayload cutsOf pieces dataOf bytes16 joined
+writes = refl

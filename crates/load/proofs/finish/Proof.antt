@@ -1,14 +1,15 @@
 -- `load::finish` meets its contract: refused by 10, or stored and answered.
+use Rattle.load.proofs.Laws.{refused-answer, refused-ram, loaded-answer, loaded-ram}
 use borrow.Author.Needs.{needs}
-use Rattle.load.proofs.Laws.{finish-refused, finish-done}
 use Rattle.load.proofs.finish.Statement.{statement}
 use Rattle.load.proofs.finish.Tie as tie
+use Rattle.load.proofs.refuse.Reads as refuse-reads′
 
 returns : tie.Need-returns
-returns c = finish-refused _ _ _ _ (c .before .before .before .before .before .before .before .before .before .before .before .pre .2) _ (c .before .before .before .before .before .before .before .cartridge-of .ensures) _ (c .before .before .refused .ensures) (c .before .if1 .taken) _ _ (c .refusal .ensures)
+returns c = (search (needs, refused-answer), search (needs, refused-ram))
 
 returns-2 : tie.Need-returns-2
-returns-2 c = finish-done _ _ _ _ (c .before .before .before .before .before .before .before .before .before .before .before .before .before .before .before .before .pre .2) _ (c .before .before .before .before .before .before .before .before .before .before .before .before .cartridge-of .ensures) _ (c .before .before .before .before .before .before .before .refused .ensures) (c .before .before .before .before .before .before .if1 .left) _ _ _ (c .compat-of .ensures) (c .before .before .before .before .store-blocks .ensures)
+returns-2 c = (search (needs, loaded-answer), search (needs, loaded-ram))
 
 pub finish-spec : {M : Type 1} → statement M
 finish-spec =
@@ -25,7 +26,9 @@ finish-spec =
     (λ c. search needs)
     (λ c κs. search needs)
     (λ c κs. search needs)
+    (λ c κs. search needs)
     returns
+    (λ c κs. search needs)
     (λ c κs. search needs)
     (λ c. search needs)
     (λ c. search needs)

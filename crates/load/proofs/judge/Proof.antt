@@ -1,35 +1,11 @@
--- `load::judge` meets its contract: one law for each row, in the order of the rows.
+-- `load::judge` meets its contract: the judgement by the payload's own checksum.
 use borrow.Author.Needs.{needs}
-use Rattle.load.proofs.Laws.{judges}
+use Rattle.load.proofs.Laws.{judge-own}
 use Rattle.load.proofs.judge.Statement.{statement}
 use Rattle.load.proofs.judge.Tie as tie
 
 returns : tie.Need-returns
-returns c = search (needs, judges)
-
-returns-2 : tie.Need-returns-2
-returns-2 c = search (needs, judges)
-
-returns-3 : tie.Need-returns-3
-returns-3 c = search (needs, judges)
-
-returns-4 : tie.Need-returns-4
-returns-4 c = search (needs, judges)
-
-returns-5 : tie.Need-returns-5
-returns-5 c = search (needs, judges)
+returns c = search (needs, judge-own)
 
 pub judge-spec : {M : Type 1} → statement M
-judge-spec =
-    tie.close
-    (tie.spec
-    returns
-    (λ c κs. search needs)
-    returns-2
-    (λ c. search needs)
-    (λ c. search needs)
-    (λ c κs. search needs)
-    returns-3
-    returns-4
-    (λ c κs. search needs)
-    returns-5)
+judge-spec = tie.close (tie.spec (λ c κs. search needs) (λ c κs. search needs) returns)

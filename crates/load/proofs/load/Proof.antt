@@ -1,17 +1,26 @@
--- `load::load` meets its contract: a load into the words that count, with the others behind them.
+-- `load::load` meets its contract: one law for the answer and one for the RAM, for each way out.
+use Rattle.load.specs.Laws.Passes.{head-answers, head-keeps, header-enough, walk-answers, walk-keeps, loads-tabled, done-so}
 use borrow.Author.Needs.{needs}
-use Rattle.load.specs.Laws.Load.{lent-count, lent-most, lent-load}
 use Rattle.load.proofs.load.Statement.{statement}
 use Rattle.load.proofs.load.Tie as tie
 
-slice-aggregate-load-lent : tie.Need-slice-aggregate-load-lent
-slice-aggregate-load-lent c = lent-count _ _ (c .before .before .before .before .before .least .ensures)
-
-load-lent-requires : tie.Need-load-lent-requires
-load-lent-requires c κs = search (needs, lent-most)
-
 returns : tie.Need-returns
-returns c = lent-load _ _ (c .before .before .before .before .before .before .before .before .least .ensures) _ _ _ (c .before .before .load-lent .ensures .0) (c .before .before .load-lent .ensures .1)
+returns c = (search (needs, head-answers), search (needs, head-keeps))
+
+finish-requires : tie.Need-finish-requires
+finish-requires c κs = (search (needs, header-enough), search (needs, loads-tabled))
+
+returns-2 : tie.Need-returns-2
+returns-2 c = (search (needs, walk-answers), search (needs, walk-keeps))
+
+returns-3 : tie.Need-returns-3
+returns-3 c =
+    let h = c .before .before .before .before .before .before .before .before .before .before .before .before .before .before .check .ensures in
+    let z = c .before .before .before .before .before .before .before .before .before .before .before .before .if1 .left in
+    let m = c .before .before .before .before .before .before .before .before .lent-words .ensures .0 in
+    let v = c .before .before .before .before .before .before .before .check-blocks .ensures in
+    let f = c .before .before .finish .ensures in
+    done-so _ _ _ h z _ m _ v _ _ _ (search needs) _ _ (f .0) (f .1)
 
 pub load-spec : {M : Type 1} → statement M
 load-spec =
@@ -19,9 +28,15 @@ load-spec =
     (tie.spec
     (λ c κs. search needs)
     (λ c κs. search needs)
+    returns
+    (λ c κs. search needs)
+    (λ c κs. search needs)
     (λ c κs. search needs)
     (λ c. search needs)
-    slice-aggregate-load-lent
-    load-lent-requires
+    (λ c κs. search needs)
     (λ c. search needs)
-    returns)
+    finish-requires
+    (λ c. search needs)
+    returns-2
+    (λ c. search needs)
+    returns-3)

@@ -1,11 +1,17 @@
 -- `load::step_at` meets its contract: one law for each way out.
+use Rattle.load.proofs.Laws.{steps, frame-later, frame-inside}
 use borrow.Author.Needs.{needs}
-use Rattle.load.proofs.Laws.{step-frame, steps}
 use Rattle.load.proofs.step_at.Statement.{statement}
 use Rattle.load.proofs.step_at.Tie as tie
 
-judge-requires : tie.Need-judge-requires
-judge-requires c κs = search (needs, step-frame)
+sub-judge : tie.Need-sub-judge
+sub-judge c = search (needs, frame-later)
+
+part-judge-start : tie.Need-part-judge-start
+part-judge-start c = search (needs, frame-later)
+
+part-judge-end : tie.Need-part-judge-end
+part-judge-end c = search (needs, frame-inside)
 
 returns : tie.Need-returns
 returns c = search (needs, steps)
@@ -26,12 +32,14 @@ step-at-spec =
     (λ c κs. search needs)
     (λ c. search needs)
     (λ c. search needs)
-    (λ c. search needs)
-    judge-requires
-    (λ c. search needs)
     (λ c κs. search needs)
     (λ c. search needs)
+    sub-judge
+    part-judge-start
+    part-judge-end
+    (λ c κs. search needs)
     returns
+    (λ c κs. search needs)
     returns-2
     returns-3
     returns-4)

@@ -1,16 +1,17 @@
--- `load::store_blocks` meets its contract. The loop's invariant: the hunks that are left, over what the RAM holds now, give what all hunks give.
+-- `load::store_blocks` meets its contract. The invariant: the hunks of the blocks before p are stored.
 use Prim.Native.Nat.{_-_}
 use lib.ListN.{length}
+use Rattle.load.proofs.Laws.{frame-later, frame-inside}
+use Rattle.load.proofs.Loops.{Storing, store-start, stored-over, stored-cut, stored-less, stored-more}
 use borrow.Author.Needs.{needs}
-use Rattle.load.proofs.Loops.{Storing, store-start, stored-over, stored-cut, store-starts, store-ends, stored-less, stored-more}
 use Rattle.load.proofs.store_blocks.Statement.{statement}
 use Rattle.load.proofs.store_blocks.Tie as tie
 
 abbrev Inv-loop : tie.InvT-loop
-Inv-loop s dow ram₀ p₀ ram p = Storing s p ram₀ ram
+Inv-loop s ram₀ p₀ ram p = Storing s p ram₀ ram
 
 abbrev μ-loop : tie.MeasureT-loop
-μ-loop s dow ram₀ p₀ ram p = length s - p
+μ-loop s ram₀ p₀ ram p = length s - p
 
 loop-holds : tie.Need-loop-holds Inv-loop μ-loop
 loop-holds c = search (needs, store-start)
@@ -21,8 +22,14 @@ returns c = search (needs, stored-over)
 returns-2 : tie.Need-returns-2 Inv-loop μ-loop
 returns-2 c = search (needs, stored-cut)
 
-store-block-requires : tie.Need-store-block-requires Inv-loop μ-loop
-store-block-requires c κs = search (needs, store-starts, store-ends)
+sub-store-block : tie.Need-sub-store-block Inv-loop μ-loop
+sub-store-block c = search (needs, frame-later)
+
+part-store-block-start : tie.Need-part-store-block-start Inv-loop μ-loop
+part-store-block-start c = search (needs, frame-later)
+
+part-store-block-end : tie.Need-part-store-block-end Inv-loop μ-loop
+part-store-block-end c = search (needs, frame-inside)
 
 loop-less : tie.Need-loop-less Inv-loop μ-loop
 loop-less c = search (needs, stored-less)
@@ -45,6 +52,9 @@ store-blocks-spec =
     (λ c. search needs)
     returns-2
     (λ c. search needs)
-    store-block-requires
+    sub-store-block
+    part-store-block-start
+    part-store-block-end
+    (λ c κs. search needs)
     loop-less
     loop-again)

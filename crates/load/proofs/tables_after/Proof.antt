@@ -1,20 +1,14 @@
--- `load::tables_after` meets its contract: each return has decided the test of `tablesAfter`.
-use Rattle.basics.specs.Laws.Tests.{tests}
-use Rattle.load.specs.Code.Steps.{tablesAfter}
+-- `load::tables_after` meets its contract: one law for each return.
+use Rattle.load.proofs.Laws.{tables-here, tables-stay}
+use borrow.Author.Needs.{needs}
 use Rattle.load.proofs.tables_after.Statement.{statement}
 use Rattle.load.proofs.tables_after.Tie as tie
 
 returns : tie.Need-returns
-unfolding tablesAfter
-returns c = search tests
+returns c = search (needs, tables-here)
 
 returns-2 : tie.Need-returns-2
-unfolding tablesAfter
-returns-2 c = search tests
+returns-2 c = search (needs, tables-stay)
 
 pub tables-after-spec : {M : Type 1} → statement M
-tables-after-spec =
-    tie.close
-    (tie.spec
-    returns
-    returns-2)
+tables-after-spec = tie.close (tie.spec returns returns-2)

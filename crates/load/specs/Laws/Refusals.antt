@@ -1,126 +1,106 @@
--- When a load is refused: with n at p exactly when row n holds at p and no row before it in 01's order does.
-use Prim.Native.Nat.{ℕ}
-use mathlib.Core.List.{List, _++_, _∷_, []}
-use mathlib.Core.Path.{_≡_, refl, ap, _∙_, sym}
-use mathlib.Core.Logic.{_↔_, _⊎_, inl, inr}
-use mathlib.Core.Bool.{Bool, _||_, false}
+-- When a load is refused: with this number and place exactly when that row holds and none before it in 01's order does; it loads exactly
+-- when no row holds; and a refused load changes no word.
+use Prim.Native.Nat.{ℕ, _≤_}
+use mathlib.Core.Path.{_≡_, refl, sym, ap, _∙_}
+use mathlib.Core.List.{List, [], _∷_, _++_}
+use mathlib.Core.Bool.{Bool, true, false, not, _||_}
+use mathlib.Core.Logic.{_↔_}
 use native.Mathlib.Omega.{arith}
-use borrow.Author.Tests.{eqb-false}
-use Rattle.basics.specs.Rows.{Gives, Silent, none}
-use Rattle.basics.specs.Laws.Numbered.{refused-exactly as exactly-refused, accepted-exactly as exactly-accepted}
-use Rattle.basics.specs.Laws.Rows.{silent-first, gives-first, gives-cases, silent-append, gives-append, silent-gives, silent-left, silent-right}
-use Rattle.basics.specs.Laws.Tests.{or-none, or-assoc, cases}
-use Rattle.load.specs.declared.Loading.{Loading}
-use Rattle.load.specs.Load.{refusalOf, rowsOf, noneRows, walkRows, tenRows, loadingOf, loads, loaded, refused}
-use Rattle.load.specs.Header.{refuse, passes, Refusal, headerRows}
-use Rattle.load.specs.Laws.Header.{numberOf}
-use Rattle.load.specs.Laws.Load.{rows-named, loads-silent, loaded-answer, refused-answer}
-use Rattle.load.specs.Blocks.{blocksRows, blockRows, anyTables, isTables, blocksOf}
+use borrow.Author.Tests.{eq-eqb, ne-eqb, eqb-true, eqb-false}
+use lib.ListN.{length}
+use lib.Dec.{eqb}
+use Rattle.basics.specs.declared.Refusal.{Refusal}
+use Rattle.basics.specs.Rows.{Gives, Silent, none, also}
+use Rattle.basics.specs.Refusals.{refuse, noRefusal}
+use Rattle.basics.specs.Laws.Tests.{cases, not-false}
+use Rattle.basics.specs.Laws.Rows.{silent-first, silent-append, silent-left, silent-right}
+use Rattle.basics.specs.Laws.Refusals.{Refusing, refusing-append, refused-exactly as exactly-refused, accepted-exactly as exactly-accepted}
+use Rattle.places.specs.Limits.{lent}
+use Rattle.header.specs.Header.{headerRows, flagsOf}
+use Rattle.header.specs.Laws.Refusals.{header-refusing}
+use Rattle.tables.specs.Tables.{tablesIn, tablesRows}
+use Rattle.tables.specs.Laws.Refusals.{tables-refusing}
+use Rattle.blocks.specs.Blocks.{payloadIn, isTables}
+use Rattle.blocks.specs.Judged.{judgeRows}
+use Rattle.blocks.specs.Images.{firstBlock, blocksIn, stopOf, isCut, judgeAll, anyTables, payloadOfTables}
+use Rattle.blocks.specs.Laws.Judged.{judge-refusing}
+use Rattle.load.specs.Load.{walkRows, refusalRows, refusalOf, loads, loadingOf, loadRamOf}
 
--- by the table of all rows
-pub refused-exactly : (s : List ℕ) (m n p : ℕ) → (n ≡ 0 → ⊥) → (refusalOf s m ≡ refuse n p) ↔ Gives (rowsOf s m) (refuse n p)
-unfolding refusalOf
-refused-exactly s m n p z = exactly-refused numberOf (rowsOf s m) (rows-named s m) passes refl (refuse n p) z
+-- each row refuses
+judge-all-refusing : (m : ℕ) (e : Bool) (p : ℕ) (xs : List (List ℕ)) → Refusing (judgeAll m e p xs)
+unfolding judgeAll
+judge-all-refusing m e p [] = tt
+judge-all-refusing m e p (x ∷ xs) = refusing-append (judgeRows m e p _ x) _ (judge-refusing m e p _ x) (judge-all-refusing m (e || isTables x) _ xs)
 
--- and it loads exactly when no row holds
-pub loads-exactly : (s : List ℕ) (m : ℕ) → (refusalOf s m ≡ passes) ↔ Silent (rowsOf s m)
-unfolding refusalOf
-loads-exactly s m =
-    ((λ e. exactly-accepted numberOf (rowsOf s m) (rows-named s m) passes refl .0 (ap numberOf e)), (λ q. silent-first passes q))
+pub walk-refusing : (s : List ℕ) (m : ℕ) → Refusing (walkRows s m)
+unfolding walkRows
+walk-refusing s m =
+    refusing-append (judgeAll m false firstBlock (blocksIn s)) _ (judge-all-refusing m false firstBlock (blocksIn s)) ((λ z. omega arith), ((λ z. omega arith), tt))
 
--- ---- the same, block by block
+rows-refusing : (s : List ℕ) (m : ℕ) → Refusing (refusalRows s m)
+rows-refusing s m =
+    refusing-append (headerRows s) _ (header-refusing s)
+    (refusing-append (walkRows s m) _ (walk-refusing s m) (tables-refusing (flagsOf s) (tablesIn (payloadOfTables (blocksIn s)))))
 
--- a block that is refused, with none of those before it that is: `before` has the blocks before it
-pub record At (s : List ℕ) (m : ℕ) (earlier : Bool) (ps : List ℕ) (r : Refusal) : Type 0 where
-  pub before : List ℕ
-  pub start : ℕ
-  pub after : List ℕ
-  pub split : ps ≡ before ++ (start ∷ after)
-  pub silent : Silent (blocksRows s m earlier before)
-  pub gives : Gives (blockRows s m (earlier || anyTables s before) start) r
+-- the answer's refusal
+module _ (s : List ℕ) (m : ℕ) where
+  quiet : refusalOf s m .number ≡ 0 → Silent (refusalRows s m)
+  unfolding refusalOf
+  quiet e = exactly-accepted (refusalRows s m) (rows-refusing s m) .0 e
 
-block-at : (s : List ℕ) (m : ℕ) (e : Bool) (ps : List ℕ) (r : Refusal) → Gives (blocksRows s m e ps) r → At s m e ps r
-unfolding blocksRows
-block-at s m e [] r g =
-    let z : _≡_ {A = ℕ} 0 1 = ap (λ (x : Refusal). x .number) (gives-first (refuse 0 0) g ∙ sym (gives-first (refuse 1 0) g)) in
-    absurd (omega arith)
-block-at s m e (p ∷ ps) r g = go (gives-cases (blockRows s m e p) (blocksRows s m (e || isTables s p) ps) g) (λ h. block-at s m (e || isTables s p) ps r h)
+  passed-none : refusalOf s m .number ≡ 0 → refusalOf s m ≡ noRefusal
+  unfolding refusalOf
+  passed-none e = silent-first noRefusal (quiet e)
+
+  pub answer-refusal : loadingOf s m .refusal ≡ refusalOf s m
+  unfolding loadingOf
+  answer-refusal = cases (loads s m) (λ e. rw e (sym (passed-none (eqb-true _ _ e)))) (λ e. rw e)
+
+  pub refused-exactly : (r : Refusal) → (r .number ≡ 0 → ⊥) → (loadingOf s m .refusal ≡ r) ↔ Gives (refusalRows s m) r
+  unfolding refusalOf
+  refused-exactly r n = rw answer-refusal (exactly-refused (refusalRows s m) (rows-refusing s m) r n)
+
+  pub loads-exactly : (loadingOf s m .refusal .number ≡ 0) ↔ Silent (refusalRows s m)
+  unfolding refusalOf
+  loads-exactly = rw answer-refusal (exactly-accepted (refusalRows s m) (rows-refusing s m))
+
+-- a refused load changes no word
+pub refused-keeps : (s ram : List ℕ) → (loadingOf s (lent ram) .refusal .number ≡ 0 → ⊥) → loadRamOf s ram ≡ ram
+unfolding loadRamOf
+refused-keeps s ram n =
+    let e : loads s (lent ram) ≡ false = ne-eqb _ _ (rw answer-refusal at n) in
+    rw e
+
+-- what nothing refused says of an image
+pub record Accepted (s : List ℕ) (m : ℕ) : Type 0 where
+  pub header : Silent (headerRows s)
+  pub blocks : Silent (judgeAll m false firstBlock (blocksIn s))
+  pub ended : isCut s ≡ false
+  pub tables : anyTables (blocksIn s) ≡ true
+  pub supported : Silent (tablesRows (flagsOf s) (tablesIn (payloadOfTables (blocksIn s))))
+
+-- by the three tables
+pub walk-silent : (s : List ℕ) (m : ℕ) → Silent (walkRows s m) → (Silent (judgeAll m false firstBlock (blocksIn s))) × ((isCut s ≡ false) × (anyTables (blocksIn s) ≡ true))
+unfolding walkRows
+walk-silent s m q = go (silent-right (judgeAll m false firstBlock (blocksIn s)) _ q)
   where
-    go : (Gives (blockRows s m e p) r) ⊎ ((Silent (blockRows s m e p)) × (Gives (blocksRows s m (e || isTables s p) ps) r))
-        → (Gives (blocksRows s m (e || isTables s p) ps) r → At s m (e || isTables s p) ps r) → At s m e (p ∷ ps) r
-    go (inl h) k = record { before = []; start = p; after = ps; split = refl; silent = none; gives = rw or-none h }
-    go (inr h) k =
-        let a : At s m (e || isTables s p) ps r = k (h .1) in
-        record {
-          before = p ∷ a .before;
-          start = a .start;
-          after = a .after;
-          split = ap (_∷_ p) (a .split);
-          silent = silent-append (h .0) (a .silent);
-          gives = rw or-assoc (a .gives);
-        }
+    go : Silent ((isCut s, refuse 5 (stopOf s)) ∷ (not (anyTables (blocksIn s)), refuse 8 (length s)) ∷ []) → (Silent (judgeAll m false firstBlock (blocksIn s))) × ((isCut s ≡ false) × (anyTables (blocksIn s) ≡ true))
+    go (also a (also b none)) = (silent-left (judgeAll m false firstBlock (blocksIn s)) _ q, (a, not-false (anyTables (blocksIn s)) b))
 
-at-block : (s : List ℕ) (m : ℕ) (e : Bool) (before : List ℕ) (p : ℕ) (after : List ℕ) (r : Refusal) → Silent (blocksRows s m e before)
-    → Gives (blockRows s m (e || anyTables s before) p) r → Gives (blocksRows s m e (before ++ (p ∷ after))) r
-unfolding blocksRows
-at-block s m e [] p after r q g = gives-append _ (rw or-none at g)
-at-block s m e (b ∷ before) p after r q g =
-    silent-gives (silent-left (blockRows s m e b) (blocksRows s m (e || isTables s b) before) q)
-    (at-block s m (e || isTables s b) before p after r (silent-right (blockRows s m e b) (blocksRows s m (e || isTables s b) before) q) (rw or-assoc at g))
-
--- why an image is refused: by its header; by a block, the header and the blocks before it being good; by having no tables block; by 10
-pub data Because (s : List ℕ) (m : ℕ) (r : Refusal) : Type 0 where
-  header : Gives (headerRows s) r → Because s m r
-  block : Silent (headerRows s) → At s m false (blocksOf s) r → Because s m r
-  no-tables : Silent (headerRows s) → Silent (blocksRows s m false (blocksOf s)) → Gives (noneRows s) r → Because s m r
-  ten : Silent (headerRows s) → Silent (walkRows s m) → Gives (tenRows s) r → Because s m r
-
-pub because : (s : List ℕ) (m : ℕ) (r : Refusal) → Gives (rowsOf s m) r → Because s m r
-because s m r g = one (gives-cases (headerRows s) (walkRows s m ++ tenRows s) g)
-  where
-    three : Silent (headerRows s) → (Gives (blocksRows s m false (blocksOf s)) r) ⊎ ((Silent (blocksRows s m false (blocksOf s))) × (Gives (noneRows s) r)) → Because s m r
-    three h (inl b) = block h (block-at s m false (blocksOf s) r b)
-    three h (inr n) = no-tables h (n .0) (n .1)
-
-    two : Silent (headerRows s) → (Gives (walkRows s m) r) ⊎ ((Silent (walkRows s m)) × (Gives (tenRows s) r)) → Because s m r
-    two h (inl w) = three h (gives-cases (blocksRows s m false (blocksOf s)) (noneRows s) w)
-    two h (inr t) = ten h (t .0) (t .1)
-
-    one : (Gives (headerRows s) r) ⊎ ((Silent (headerRows s)) × (Gives (walkRows s m ++ tenRows s) r)) → Because s m r
-    one (inl h) = header h
-    one (inr x) = two (x .0) (gives-cases (walkRows s m) (tenRows s) (x .1))
-
-pub because-gives : (s : List ℕ) (m : ℕ) (r : Refusal) → Because s m r → Gives (rowsOf s m) r
-because-gives s m r (header h) = gives-append _ h
-because-gives s m r (block h a) =
-    let b : Gives (blocksRows s m false (blocksOf s)) r =
-    rw (a .split) (at-block s m false (a .before) (a .start) (a .after) r (a .silent) (a .gives)) in
-    silent-gives h (gives-append _ (gives-append _ b))
-because-gives s m r (no-tables h q g) = silent-gives h (gives-append _ (silent-gives q g))
-because-gives s m r (ten h q g) = silent-gives h (silent-gives q g)
-
--- refused with n at p exactly because of this
-pub refused-because : (s : List ℕ) (m n p : ℕ) → (n ≡ 0 → ⊥) → (refusalOf s m ≡ refuse n p) ↔ Because s m (refuse n p)
-refused-because s m n p z = (
-  (λ e. because s m (refuse n p) (refused-exactly s m n p z .0 e)),
-  (λ b. refused-exactly s m n p z .1 (because-gives s m (refuse n p) b)),
-)
-
--- what a load answers is this number and this place
-pub record Answers (s : List ℕ) (m : ℕ) : Type 0 where
-  pub number : loadingOf s m .number ≡ refusalOf s m .number
-  pub place : loadingOf s m .place ≡ refusalOf s m .place
-
-pub answers : (s : List ℕ) (m : ℕ) → Answers s m
-answers s m =
-    cases (loads s m)
-    (λ e.
-    let q : refusalOf s m ≡ passes = loads-exactly s m .1 (loads-silent s m e) in
-    let x : loadingOf s m ≡ loaded s = sym (loaded-answer s m q) in
+pub accepted : (s : List ℕ) (m : ℕ) → refusalOf s m .number ≡ 0 → Accepted s m
+accepted s m e =
+    let q : Silent (refusalRows s m) = quiet s m e in
+    let w = walk-silent s m (silent-left (walkRows s m) _ (silent-right (headerRows s) _ q)) in
     record {
-      number = ap (λ (r : Loading). r .number) x ∙ sym (ap (λ (r : Refusal). r .number) q);
-      place = ap (λ (r : Loading). r .place) x ∙ sym (ap (λ (r : Refusal). r .place) q);
-    })
-    (λ e.
-    let x : loadingOf s m ≡ refused (refusalOf s m) = sym (refused-answer s m (refusalOf s m) refl (eqb-false _ _ e)) in
-    record { number = ap (λ (r : Loading). r .number) x; place = ap (λ (r : Loading). r .place) x })
+      header = silent-left (headerRows s) _ q;
+      blocks = w .0;
+      ended = w .1 .0;
+      tables = w .1 .1;
+      supported = silent-right (walkRows s m) _ (silent-right (headerRows s) _ q);
+    }
+
+pub accepts : (s : List ℕ) (m : ℕ) → Accepted s m → refusalOf s m ≡ noRefusal
+unfolding refusalOf walkRows
+accepts s m a =
+    let t : not (anyTables (blocksIn s)) ≡ false = rw (a .tables) in
+    silent-first noRefusal (silent-append (a .header) (silent-append (silent-append (a .blocks) (also (a .ended) (also t none))) (a .supported)))

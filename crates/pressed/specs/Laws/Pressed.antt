@@ -1,4 +1,4 @@
--- Laws of `Pressed`.
+-- Demand 3, proved.
 use Prim.Native.Nat.{ℕ, _≤_, _*_, _+_, _/_, _%_, _<_}
 use mathlib.Core.List.{List, _++_}
 use mathlib.Core.Path.{_≡_, ap, _∙_, sym}
@@ -12,8 +12,7 @@ use Rattle.places.specs.Limits.{lent, locutusParagraphs}
 use Rattle.cart.specs.Run.{Access, answers}
 use Rattle.load.specs.declared.Loading.{Loading}
 use Rattle.load.specs.Load.{loadRamOf, loadingOf}
-use Rattle.trip.specs.Trip.{LoadsChosen}
-use Rattle.trip.specs.Laws.RoundTrip.{load-chosen}
+use Rattle.trip.specs.Laws.RoundTrip.{LoadsChosen, load-chosen}
 use Rattle.lines.specs.declared.Line.{Line}
 use Rattle.cfg.specs.File.{entriesOf}
 use Rattle.rules.specs.Accepted.{Accepted}
@@ -22,9 +21,9 @@ use Rattle.layout.specs.Layout.{needed, covered, paragraphWords}
 use Rattle.layout.specs.Laws.Few.{needed-small}
 use Rattle.layout.specs.Laws.Uses.{covered-inside}
 use Rattle.build.specs.declared.Building.{Building}
-use Rattle.build.specs.Building.{builds, flagBytes, tablesFor, imageFor, uidOf, buildingOf, refused, verdictOf, built, builtOf}
+use Rattle.build.specs.Building.{builds, flagBytes, tablesFor, pressedImage, uidOf, buildingOf, refused, refusalOf, built, builtOf}
 use Rattle.build.specs.Laws.Refusals.{lines-accepted}
-use Rattle.build.specs.Laws.Image.{sized, short, supported, lie}
+use Rattle.build.specs.Laws.Image.{sized, within-limit, supported, lie}
 use Rattle.plays.specs.Loaded.{Loaded}
 use Rattle.plays.specs.Plain.{plainAnswers, fresh}
 use Rattle.plays.specs.Laws.Plays.{plays}
@@ -41,13 +40,13 @@ module _ (bin cfg out : List ℕ) (accepts : builds bin cfg out ≡ true) (ram :
   inside = omega (arith, room, needed-small (good accepted))
 
   -- the image loads: the layout's tables, and the covered paragraphs laid over the RAM
-  loads-as : LoadsChosen flagBytes (tablesFor lines) (covered lines) (paragraphWords bin lines) (imageFor bin cfg) ram
-  unfolding imageFor
+  loads-as : LoadsChosen flagBytes (tablesFor lines) (covered lines) (paragraphWords bin lines) (pressedImage bin cfg) ram
+  unfolding pressedImage
   loads-as =
       load-chosen flagBytes (uidOf bin cfg) (tablesFor lines) (covered lines) (paragraphWords bin lines) ram (sized bin cfg lines)
-      (short bin cfg lines accepted) (supported bin cfg lines accepted) (lie bin cfg lines (lent ram) inside)
+      (within-limit bin cfg lines accepted) (supported bin cfg lines accepted) (lie bin cfg lines (lent ram) inside)
 
-  words-there : Loaded bin lines (loadRamOf (imageFor bin cfg) ram)
+  words-there : Loaded bin lines (loadRamOf (pressedImage bin cfg) ram)
   words-there =
       record {
         room = rw (loads-as .back .same) room;
@@ -59,14 +58,14 @@ module _ (bin cfg out : List ℕ) (accepts : builds bin cfg out ≡ true) (ram :
             rw (q, r) at (loads-as .back .given (256 * p + i) (rw q b) (rw q c));
       }
 
-  pub load-accepts : loadingOf (imageFor bin cfg) (lent ram) .number ≡ 0
-  load-accepts = ap (λ (l : Loading). l .number) (loads-as .answer)
+  pub load-accepts : loadingOf (pressedImage bin cfg) (lent ram) .refusal .number ≡ 0
+  load-accepts = ap (λ (l : Loading). l .refusal .number) (loads-as .answer)
 
   pub plays-as-it-reads : (xs : List Access) →
-      answers (worldOf (loadingOf (imageFor bin cfg) (lent ram)) (loadRamOf (imageFor bin cfg) ram)) xs ≡ plainAnswers bin lines fresh xs
+      answers (worldOf (loadingOf (pressedImage bin cfg) (lent ram)) (loadRamOf (pressedImage bin cfg) ram)) xs ≡ plainAnswers bin lines fresh xs
   plays-as-it-reads xs =
-      ap (λ (l : Loading). answers (worldOf l (loadRamOf (imageFor bin cfg) ram)) xs) (loads-as .answer)
-      ∙ plays accepted (loadRamOf (imageFor bin cfg) ram) words-there xs
+      ap (λ (l : Loading). answers (worldOf l (loadRamOf (pressedImage bin cfg) ram)) xs) (loads-as .answer)
+      ∙ plays accepted (loadRamOf (pressedImage bin cfg) ram) words-there xs
 
 module _ (bin cfg out left ram stored : List ℕ) (b : Building) (l : Loading) (p : Pressing bin cfg out left ram stored b l) where
   it-builds : builds bin cfg out ≡ true
@@ -74,34 +73,34 @@ module _ (bin cfg out left ram stored : List ℕ) (b : Building) (l : Loading) (
   it-builds =
       cases (builds bin cfg out) (λ e. e)
       (λ e.
-      let r : b ≡ refused bin cfg (verdictOf bin cfg out) = p .building ∙ rw e in
-      let n : verdictOf bin cfg out .0 ≡ 0 = sym (ap (λ (x : Building). x .number) r) ∙ p .accepts in
-      true-is-not-false (eq-eqb (verdictOf bin cfg out .0) 0 n) e)
+      let r : b ≡ refused bin cfg (refusalOf bin cfg out) = p .building ∙ rw e in
+      let n : refusalOf bin cfg out .number ≡ 0 = sym (ap (λ (x : Building). x .refusal .number) r) ∙ p .accepts in
+      true-is-not-false (eq-eqb (refusalOf bin cfg out .number) 0 n) e)
 
   is-built : b ≡ built bin cfg
   unfolding buildingOf
   is-built = p .building ∙ rw it-builds
 
-  image-there : left ≡ imageFor bin cfg ++ drop (length (imageFor bin cfg)) out
+  image-there : left ≡ pressedImage bin cfg ++ drop (length (pressedImage bin cfg)) out
   unfolding builtOf
   image-there = p .leaving ∙ rw it-builds
 
-  image-front : take (b .length) left ≡ imageFor bin cfg
+  image-front : take (b .length) left ≡ pressedImage bin cfg
   image-front =
-      ap (λ (x : Building). take (x .length) left) is-built ∙ ap (take (length (imageFor bin cfg))) image-there
-      ∙ take-append-seam (imageFor bin cfg) (drop (length (imageFor bin cfg)) out)
+      ap (λ (x : Building). take (x .length) left) is-built ∙ ap (take (length (pressedImage bin cfg))) image-there
+      ∙ take-append-seam (pressedImage bin cfg) (drop (length (pressedImage bin cfg)) out)
 
   enough-room : needed (entriesOf cfg) ≤ length ram
   enough-room = rw (ap (λ (x : Building). x .needed) is-built) at (p .enough)
 
-  l-is : l ≡ loadingOf (imageFor bin cfg) (lent ram)
+  l-is : l ≡ loadingOf (pressedImage bin cfg) (lent ram)
   l-is = p .loading ∙ ap (λ (s : List ℕ). loadingOf s (lent ram)) image-front
 
-  stored-is : stored ≡ loadRamOf (imageFor bin cfg) ram
+  stored-is : stored ≡ loadRamOf (pressedImage bin cfg) ram
   stored-is = p .storing ∙ ap (λ (s : List ℕ). loadRamOf s ram) image-front
 
-  pub pressed-loads : l .number ≡ 0
-  pressed-loads = ap (λ (x : Loading). x .number) l-is ∙ load-accepts bin cfg out it-builds ram enough-room
+  pub pressed-loads : l .refusal .number ≡ 0
+  pressed-loads = ap (λ (x : Loading). x .refusal .number) l-is ∙ load-accepts bin cfg out it-builds ram enough-room
 
   pub pressed-plays : (xs : List Access) → answers (worldOf l stored) xs ≡ plainAnswers bin (entriesOf cfg) fresh xs
   pressed-plays xs = rw (l-is, stored-is) (plays-as-it-reads bin cfg out it-builds ram enough-room xs)

@@ -5,15 +5,16 @@ use Rattle.report.proofs.answer.Statement.{statement}
 use Rattle.report.proofs.answer.Tie as tie
 
 returns : tie.Need-returns
-returns c = (too-long _ _ (c .if1 .taken), too-long-ram _ _ (c .if1 .taken))
+returns c = rw (c .refuse .ensures) (too-long _ _ (c .before .if1 .taken), too-long-ram _ _ (c .before .if1 .taken))
 
 returns-2 : tie.Need-returns-2
-returns-2 c = (loaded _ _ (c .before .before .before .before .if1 .left) _ (c .before .before .load .ensures .0), loaded-ram _ _ (c .before .before .before .before .if1 .left) _ (c .before .before .load .ensures .1))
+returns-2 c = (loaded _ _ (c .before .before .before .before .before .if1 .left) _ (c .before .before .before .load .ensures .0), loaded-ram _ _ (c .before .before .before .before .before .if1 .left) _ (c .before .before .before .load .ensures .1))
 
 pub answer-spec : {M : Type 1} → statement M
 answer-spec =
     tie.close
     (tie.spec
+    (λ c κs. search needs)
     returns
     (λ c κs. search needs)
     (λ c. search needs)

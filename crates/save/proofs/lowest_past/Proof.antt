@@ -5,7 +5,7 @@ use borrow.Author.Needs.{needs}
 use Rattle.basics.specs.Laws.Lowest.{Seeking, seek-none, seek-hit, seek-more, seek-end}
 use Rattle.places.specs.Limits.{locutusParagraphs}
 use Rattle.save.specs.Writing.{past}
-use Rattle.save.proofs.Marks.{past-hit, past-fits, past-not}
+use Rattle.save.proofs.Laws.{past-hit, past-fits, past-not}
 use Rattle.save.proofs.lowest_past.Statement.{statement}
 use Rattle.save.proofs.lowest_past.Tie as tie
 
@@ -13,7 +13,7 @@ abbrev Inv-loop : tie.InvT-loop
 Inv-loop marks n p₀ p = Seeking locutusParagraphs (past marks n) p
 
 abbrev μ-loop : tie.MeasureT-loop
-μ-loop marks n p₀ p = 2048 - p
+μ-loop marks n p₀ p = locutusParagraphs - p
 
 loop-holds : tie.Need-loop-holds Inv-loop μ-loop
 loop-holds c = seek-none _ _

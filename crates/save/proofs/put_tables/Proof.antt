@@ -1,11 +1,11 @@
--- `save::put_tables` meets its contract: three parts, one after the other.
+-- `save::put_tables` meets its contract: the payload in its part, then the frame.
 use borrow.Author.Needs.{needs}
-use Rattle.save.proofs.Blocks.{tables-written}
+use Rattle.save.proofs.Laws.{block-placed}
 use Rattle.save.proofs.put_tables.Statement.{statement}
 use Rattle.save.proofs.put_tables.Tie as tie
 
 returns : tie.Need-returns
-returns c = search (needs, tables-written)
+returns c = search (needs, block-placed)
 
 pub put-tables-spec : {M : Type 1} → statement M
 put-tables-spec =
@@ -15,13 +15,6 @@ put-tables-spec =
     (λ c. search needs)
     (λ c. search needs)
     (λ c κs. search needs)
-    (λ c. search needs)
-    (λ c. search needs)
-    (λ c. search needs)
-    (λ c κs. search needs)
-    (λ c. search needs)
-    (λ c. search needs)
-    (λ c. search needs)
     (λ c κs. search needs)
     (λ c. search needs)
     returns)

@@ -1,19 +1,17 @@
--- `save::write` meets its contract: refusal 10, or what the writer of sized parts answers.
-use mathlib.Core.Path.{sym, _∙_}
+-- `save::write` meets its contract: the answer of the refusal, and the image in the buffer where there is none.
 use borrow.Author.Needs.{needs}
-use Rattle.save.specs.Laws.Writing.{answers-10}
+use Rattle.save.proofs.Laws.{write-answer, write-kept, write-room, write-put}
 use Rattle.save.proofs.write.Statement.{statement}
 use Rattle.save.proofs.write.Tie as tie
 
 returns : tie.Need-returns
-returns c =
-    answers-10 _ _ _ _ _ _ _ (c .before .before .refused .ensures) (c .before .if1 .taken) _ (c .answer .ensures)
+returns c = search (needs, write-answer, write-kept)
 
-write-parts-requires : tie.Need-write-parts-requires
-write-parts-requires c κs = (
-  record { flags-16 = search needs; uid-8 = search needs; mapping-256 = search needs; permissions-256 = search needs; flips-256 = search needs },
-  sym (c .before .before .before .before .before .before .before .refused .ensures) ∙ c .before .before .before .before .before .before .if1 .left,
-)
+put-image-requires : tie.Need-put-image-requires
+put-image-requires c κs = search (needs, write-room)
+
+returns-2 : tie.Need-returns-2
+returns-2 c = search (needs, write-answer, write-put)
 
 pub write-spec : {M : Type 1} → statement M
 write-spec =
@@ -21,7 +19,10 @@ write-spec =
     (tie.spec
     (λ c κs. search needs)
     (λ c κs. search needs)
+    (λ c κs. search needs)
+    (λ c κs. search needs)
     returns
-    write-parts-requires
+    put-image-requires
+    (λ c κs. search needs)
     (λ c. search needs)
-    (λ c. search needs))
+    returns-2)

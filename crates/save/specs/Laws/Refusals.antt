@@ -1,77 +1,107 @@
--- The writer's refusals: exactly when, and in their order; which paragraph 9 names; and what a writing without refusal says.
-use Prim.Native.Nat.{ℕ, _≤_}
+-- The writer's answer: refused exactly when a row holds, in their order; a refusal leaves the buffer, and 9 names the lowest marked
+-- paragraph that does not lie in the words lent; and what a writing without refusal says.
+use Prim.Native.Nat.{ℕ, _+_, _*_, _≤_, _<_}
 use mathlib.Core.List.{List, _++_}
+use mathlib.Core.Path.{_≡_, refl, ap, _∙_, sym}
 use mathlib.Core.Bool.{Bool, true, false}
-use mathlib.Core.Path.{_≡_, refl, _∙_, ap}
 use mathlib.Core.Logic.{_↔_}
 use native.Mathlib.Omega.{arith}
 use lib.ListN.{length, drop}
-use borrow.Author.Tests.{ltb-true, ltb-false}
-use Rattle.basics.specs.Laws.Numbered.{Refusing, refused-exactly as exactly-refused, accepted-exactly as exactly-accepted}
-use Rattle.basics.specs.Rows.{Gives, Silent, also, none}
-use Rattle.basics.specs.Laws.Rows.{silent-first}
+use lib.Dec.{ltb}
+use borrow.Author.Tests.{ltb-true, ltb-false, ne-eqb}
+use Rattle.basics.specs.declared.Refusal.{Refusal}
+use Rattle.basics.specs.Lists.{Each}
+use Rattle.basics.specs.Rows.{Gives, here, later, Silent, also, none}
 use Rattle.basics.specs.Counts.{any, lowest}
+use Rattle.basics.specs.Refusals.{noRefusal}
+use Rattle.basics.specs.Laws.Tests.{cases, true-is-not-false, and-true}
+use Rattle.basics.specs.Laws.Counts.{any-of}
+use Rattle.basics.specs.Laws.Tables.{length-table}
+use Rattle.basics.specs.Laws.Rows.{silent-first}
+use Rattle.basics.specs.Laws.Refusals.{Refusing, refused-exactly, accepted-exactly}
 use Rattle.basics.specs.Laws.Lowest.{First, lowest-first, lowest-any}
-use Rattle.places.specs.Limits.{locutusParagraphs, lent, imageLimit}
+use Rattle.basics.specs.Laws.Puts.{put-room}
+use Rattle.places.specs.Limits.{imageLimit, lent, locutusParagraphs, paragraphSize}
 use Rattle.tables.specs.Tables.{unsupported}
-use Rattle.image.specs.Form.{Tables}
-use Rattle.image.specs.Chosen.{Chosen}
 use Rattle.save.specs.declared.Writing.{Writing}
-use Rattle.save.specs.Writing.{refusals, writingOf, done, imageBy, past, isMarked, paragraphOf, writtenOf}
-use Rattle.save.specs.Laws.Writing.{marked-lie}
+use Rattle.save.specs.Writing.{Content, isMarked, paragraphOf, marked, imageBy, pastLent, refusalRows, refusalOf, answerFor, writingOf, writtenOf}
+use Rattle.save.specs.Laws.Chosen.{Lies, chosen-each}
 
-abbrev pub numberOf : Writing → ℕ
-numberOf w = w .number
+-- what the writer answers and leaves, for every buffer and content
+pub record Answers (out : List ℕ) (c : Content) : Type 0 where
+  -- refused so exactly when the row of this refusal holds and none before it does; accepted exactly when none holds
+  pub refused : (r : Refusal) → (r .number ≡ 0 → ⊥) → (writingOf out c .refusal ≡ r) ↔ Gives (refusalRows out c) r
+  pub accepted : (writingOf out c .refusal .number ≡ 0) ↔ Silent (refusalRows out c)
+  -- a refusal leaves the buffer, and answers no length but at 29
+  pub kept : (writingOf out c .refusal .number ≡ 0 → ⊥) → writtenOf out c ≡ out
+  pub zero : (writingOf out c .refusal .number ≡ 0 → ⊥) → (writingOf out c .refusal .number ≡ 29 → ⊥) → writingOf out c .length ≡ 0
+  pub needed : writingOf out c .refusal .number ≡ 29 → writingOf out c .length ≡ length (imageBy c)
+  -- 9 names the lowest marked paragraph that does not lie in the words lent
+  pub lowest-named : writingOf out c .refusal .number ≡ 9 → First (pastLent c) 0 (writingOf out c .refusal .place)
 
-module _ (out flags uid : List ℕ) (t : Tables) (ram : List ℕ) (marks : List Bool) where
-  every-row : Refusing numberOf (refusals out flags uid t ram marks)
+-- what a writing without refusal says
+pub record Accepted (out : List ℕ) (c : Content) : Type 0 where
+  pub supported : unsupported (c .flags) (c .tables .permissions) (c .tables .flips) ≡ false
+  pub inside : (p : ℕ) → p < locutusParagraphs → isMarked (c .marks) p ≡ true → paragraphSize * p + paragraphSize ≤ lent (c .ram)
+  pub short : length (imageBy c) ≤ imageLimit
+  pub room : length (imageBy c) ≤ length out
+  pub answer : writingOf out c ≡ answerFor noRefusal (length (imageBy c))
+  pub leaves : writtenOf out c ≡ imageBy c ++ drop (length (imageBy c)) out
+
+module _ (out : List ℕ) (c : Content) where
+  every-row : Refusing (refusalRows out c)
   every-row = ((λ z. omega arith), ((λ z. omega arith), ((λ z. omega arith), ((λ z. omega arith), tt))))
 
-  -- refused so exactly when the row of this answer holds, and no row before it does
-  pub refused-exactly : (w : Writing) → (w .number ≡ 0 → ⊥) → (writingOf out flags uid t ram marks ≡ w) ↔ Gives (refusals out flags uid t ram marks) w
+  same-refusal : writingOf out c .refusal ≡ refusalOf out c
   unfolding writingOf
-  refused-exactly w h =
-      exactly-refused numberOf (refusals out flags uid t ram marks) every-row (done (length (imageBy flags uid t ram marks))) refl w h
+  same-refusal = refl
 
-  -- written exactly when no row holds
-  pub writes-exactly : (writingOf out flags uid t ram marks .number ≡ 0) ↔ Silent (refusals out flags uid t ram marks)
-  unfolding writingOf
-  writes-exactly = exactly-accepted numberOf (refusals out flags uid t ram marks) every-row (done (length (imageBy flags uid t ram marks))) refl
+  -- the place of the row of 9
+  nine : (r : Refusal) → r .number ≡ 9 → Gives (refusalRows out c) r → First (pastLent c) 0 (r .place)
+  nine r e (here h) = absurd (omega arith)
+  nine r e (later h (here k)) = lowest-first locutusParagraphs (pastLent c) (ltb-true _ _ (lowest-any locutusParagraphs (pastLent c) ∙ k))
+  nine r e (later h (later k (here i))) = absurd (omega arith)
+  nine r e (later h (later k (later i (here j)))) = absurd (omega arith)
 
-  none-answers : Silent (refusals out flags uid t ram marks) → writingOf out flags uid t ram marks ≡ done (length (imageBy flags uid t ram marks))
-  unfolding writingOf
-  none-answers s = silent-first (done (length (imageBy flags uid t ram marks))) s
-
-  -- 9 names the lowest marked paragraph that does not lie in the words lent
-  pub names-lowest : any locutusParagraphs (past marks (lent ram)) ≡ true → First (past marks (lent ram)) 0 (lowest locutusParagraphs (past marks (lent ram)))
-  names-lowest e =
-      lowest-first locutusParagraphs (past marks (lent ram)) (ltb-true _ _ (lowest-any locutusParagraphs (past marks (lent ram)) ∙ e))
-
-  -- what a writing without refusal says
-  pub record Accepted : Type 0 where
-    pub supported : unsupported flags (t .permissions) (t .flips) ≡ false
-    pub lie : Chosen (lent ram) locutusParagraphs (isMarked marks) (paragraphOf ram)
-    pub short : length (imageBy flags uid t ram marks) ≤ imageLimit
-    pub room : length (imageBy flags uid t ram marks) ≤ length out
-    pub answer : writingOf out flags uid t ram marks ≡ done (length (imageBy flags uid t ram marks))
-    pub leaves : writtenOf out flags uid t ram marks ≡ imageBy flags uid t ram marks ++ drop (length (imageBy flags uid t ram marks)) out
-
-  left-so : writingOf out flags uid t ram marks .number ≡ 0 → writtenOf out flags uid t ram marks ≡ imageBy flags uid t ram marks ++ drop
-      (length (imageBy flags uid t ram marks)) out
-  unfolding writtenOf
-  left-so e = rw e
-
-  silent-so : Silent (refusals out flags uid t ram marks) → Accepted
-  silent-so (also a (also b (also c (also d none)))) =
-      let w = none-answers (also a (also b (also c (also d none)))) in
+  pub answers : Answers out c
+  unfolding writingOf writtenOf refusalOf
+  answers =
       record {
-        supported = a;
-        lie = marked-lie marks ram b;
-        short = ltb-false _ _ c;
-        room = ltb-false _ _ d;
-        answer = w;
-        leaves = left-so (ap (λ (x : Writing). x .number) w);
+        refused = λ r h. refused-exactly (refusalRows out c) every-row r h;
+        accepted = accepted-exactly (refusalRows out c) every-row;
+        kept = λ n. rw (ne-eqb _ _ n);
+        zero = λ n m. rw (ne-eqb _ _ n, ne-eqb _ _ m);
+        needed = λ e. rw e;
+        lowest-named = λ e.
+            nine (refusalOf out c) e
+            (refused-exactly (refusalRows out c) every-row (refusalOf out c) (λ z. omega arith) .0 refl);
       }
 
-  pub accepted : writingOf out flags uid t ram marks .number ≡ 0 → Accepted
-  accepted e = silent-so (writes-exactly .0 e)
+  -- a paragraph that is not past the words lent lies in them
+  lies-inside : any locutusParagraphs (pastLent c) ≡ false → (p : ℕ) → p < locutusParagraphs → isMarked (c .marks) p ≡ true → paragraphSize * p + paragraphSize ≤ lent (c .ram)
+  lies-inside e p l m =
+      cases (ltb (lent (c .ram)) (paragraphSize * p + paragraphSize))
+      (λ d. true-is-not-false (any-of locutusParagraphs (pastLent c) p l (and-true (isMarked (c .marks) p) _ m d)) e)
+      (λ d. ltb-false _ _ d)
+
+  pub silent-accepted : Silent (refusalRows out c) → Accepted out c
+  unfolding writingOf writtenOf refusalOf
+  silent-accepted (also a (also b (also d (also e none)))) =
+      let r : refusalOf out c ≡ noRefusal = silent-first noRefusal (also a (also b (also d (also e none)))) in
+      record {
+        supported = a;
+        inside = lies-inside b;
+        short = ltb-false _ _ d;
+        room = ltb-false _ _ e;
+        answer = rw r;
+        leaves = rw r (put-room (imageBy c) out (ltb-false _ _ e));
+      }
+
+  pub accepted-so : (writingOf out c .refusal .number ≡ 0) ↔ Accepted out c
+  accepted-so = ((λ e. silent-accepted (answers .accepted .0 e)), (λ a. ap (λ (w : Writing). w .refusal .number) (a .answer)))
+
+  -- then each hunk of the image lies in the words lent
+  pub accepted-lie : Accepted out c → Each (Lies (lent (c .ram))) (marked (c .ram) (c .marks))
+  accepted-lie a =
+      chosen-each (isMarked (c .marks)) (paragraphOf (c .ram)) locutusParagraphs
+      (λ p l m. record { whole = length-table paragraphSize _; within = a .inside p l m })

@@ -3,17 +3,18 @@ use Prim.Native.Nat.{_≤_, _+_, _-_}
 use lib.ListN.{getD}
 use borrow.Author.Needs.{needs}
 use Rattle.basics.specs.Laws.Tables.{Filled, filled-none, filled-more, filled-all}
+use Rattle.places.specs.Limits.{paragraphs}
 use Rattle.tables.proofs.bytes_at.Statement.{statement}
 use Rattle.tables.proofs.bytes_at.Tie as tie
 
 abbrev Inv-loop : tie.InvT-loop
-Inv-loop t at w₀ i₀ w i = (i ≤ 256) × Filled 0 256 (λ j. getD t (at + j) 0) i w
+Inv-loop t at w₀ i₀ w i = (i ≤ paragraphs) × Filled 0 paragraphs (λ j. getD t (at + j) 0) i w
 
 abbrev μ-loop : tie.MeasureT-loop
-μ-loop t at w₀ i₀ w i = 256 - i
+μ-loop t at w₀ i₀ w i = paragraphs - i
 
 loop-holds : tie.Need-loop-holds Inv-loop μ-loop
-loop-holds c = (search needs, filled-none 0 256 _ _ (search needs))
+loop-holds c = (search needs, filled-none 0 paragraphs _ _ (search needs))
 
 loop-again : tie.Need-loop-again Inv-loop μ-loop
 loop-again c = search (needs, filled-more)

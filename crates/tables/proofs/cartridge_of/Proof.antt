@@ -1,11 +1,11 @@
--- `tables::cartridge_of` meets its contract: the three tables, each twice where it is initial and active.
+-- `tables::cartridge_of` meets its contract: the three tables, and the cartridge that is loaded with them.
 use borrow.Author.Needs.{needs}
-use Rattle.tables.specs.Tables.{cartridgeOf}
+use Rattle.tables.specs.Tables.{cartridgeOf, tablesIn}
 use Rattle.tables.proofs.cartridge_of.Statement.{statement}
 use Rattle.tables.proofs.cartridge_of.Tie as tie
 
 returns : tie.Need-returns
-unfolding cartridgeOf
+unfolding cartridgeOf tablesIn
 returns c = cc
 
 pub cartridge-of-spec : {M : Type 1} → statement M

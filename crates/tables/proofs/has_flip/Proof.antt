@@ -3,27 +3,26 @@ use Prim.Native.Nat.{_≤_, _+_, _-_}
 use mathlib.Core.Path.{_≡_, sym}
 use mathlib.Core.Bool.{false}
 use native.Mathlib.Omega.{arith}
-use lib.ListN.{getD}
 use borrow.Author.Tests.{eq-eqb, ne-eqb}
 use borrow.Author.Needs.{needs}
 use Rattle.basics.specs.Counts.{any}
-use Rattle.basics.specs.Laws.Counts.{any-of, any-miss, any-missed}
-use Rattle.switches.specs.Flips.{PFE}
-use Rattle.tables.specs.Laws.Laws.{some-none}
+use Rattle.basics.specs.Laws.Counts.{any-none, any-of, any-miss, any-missed}
+use Rattle.places.specs.Limits.{chapterPages}
+use Rattle.tables.specs.Tables.{hasPFE}
 use Rattle.tables.proofs.has_flip.Statement.{statement}
 use Rattle.tables.proofs.has_flip.Tie as tie
 
 abbrev Inv-loop : tie.InvT-loop
-Inv-loop flips y₀ y = (y ≤ 16) × (any y (λ i. PFE (getD flips (16 + i) 0)) ≡ false)
+Inv-loop flips y₀ y = (y ≤ chapterPages) × (any y (λ i. hasPFE flips (chapterPages + i)) ≡ false)
 
 abbrev μ-loop : tie.MeasureT-loop
-μ-loop flips y₀ y = 16 - y
+μ-loop flips y₀ y = chapterPages - y
 
 loop-holds : tie.Need-loop-holds Inv-loop μ-loop
-loop-holds c = (omega arith, some-none _)
+loop-holds c = (omega arith, sym (any-none _))
 
 returns : tie.Need-returns Inv-loop μ-loop
-returns c = sym (any-of 16 _ (c .before .before .before .loop .y) (omega arith) (eq-eqb _ _ (c .if1 .taken)))
+returns c = sym (any-of chapterPages _ (c .before .before .before .loop .y) (omega arith) (eq-eqb _ _ (c .if1 .taken)))
 
 loop-again : tie.Need-loop-again Inv-loop μ-loop
 loop-again c = (omega arith, any-miss _ _ (c .before .before .before .loop .inv .1) (ne-eqb _ _ (c .if1 .left)))

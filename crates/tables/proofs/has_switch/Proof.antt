@@ -3,27 +3,25 @@ use Prim.Native.Nat.{_≤_, _*_, _-_}
 use mathlib.Core.Path.{_≡_, sym}
 use mathlib.Core.Bool.{false}
 use native.Mathlib.Omega.{arith}
-use lib.ListN.{getD}
 use borrow.Author.Tests.{eq-eqb, ne-eqb}
 use borrow.Author.Needs.{needs}
 use Rattle.basics.specs.Counts.{any}
-use Rattle.basics.specs.Laws.Counts.{any-of, any-miss, any-missed}
-use Rattle.tables.specs.Tables.{BANKSW}
-use Rattle.tables.specs.Laws.Laws.{some-none}
+use Rattle.basics.specs.Laws.Counts.{any-none, any-of, any-miss, any-missed}
+use Rattle.tables.specs.Tables.{halfPageParagraphs, halfPages, hasBANKSW}
 use Rattle.tables.proofs.has_switch.Statement.{statement}
 use Rattle.tables.proofs.has_switch.Tie as tie
 
 abbrev Inv-loop : tie.InvT-loop
-Inv-loop permissions h₀ h = (h ≤ 32) × (any h (λ i. BANKSW (getD permissions (8 * i) 0)) ≡ false)
+Inv-loop permissions h₀ h = (h ≤ halfPages) × (any h (λ i. hasBANKSW permissions (halfPageParagraphs * i)) ≡ false)
 
 abbrev μ-loop : tie.MeasureT-loop
-μ-loop permissions h₀ h = 32 - h
+μ-loop permissions h₀ h = halfPages - h
 
 loop-holds : tie.Need-loop-holds Inv-loop μ-loop
-loop-holds c = (omega arith, some-none _)
+loop-holds c = (omega arith, sym (any-none _))
 
 returns : tie.Need-returns Inv-loop μ-loop
-returns c = sym (any-of 32 _ (c .before .before .before .loop .h) (omega arith) (eq-eqb _ _ (c .if1 .taken)))
+returns c = sym (any-of halfPages _ (c .before .before .before .loop .h) (omega arith) (eq-eqb _ _ (c .if1 .taken)))
 
 loop-again : tie.Need-loop-again Inv-loop μ-loop
 loop-again c = (omega arith, any-miss _ _ (c .before .before .before .loop .inv .1) (ne-eqb _ _ (c .if1 .left)))

@@ -1,6 +1,6 @@
 -- `tables::refused` meets its contract: one law for each return.
 use borrow.Author.Needs.{needs}
-use Rattle.tables.specs.Laws.Laws.{tens}
+use Rattle.tables.proofs.Laws.{tens}
 use Rattle.tables.proofs.refused.Statement.{statement}
 use Rattle.tables.proofs.refused.Tie as tie
 

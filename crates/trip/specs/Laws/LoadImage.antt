@@ -1,120 +1,234 @@
--- Loading an image of the form gives its tables and its counts, and lays its hunks over the RAM.
-use Prim.Native.Nat.{ℕ, _≤_, _*_}
-use mathlib.Core.List.{List, [], _∷_, map}
-use mathlib.Core.Path.{_≡_, refl, ap, _∙_}
-use mathlib.Core.Bool.{false, true, not, _||_}
+-- Loading an image of a header, tables and blocks that refuse nothing gives its tables and counts and lays its hunks over the RAM: for any
+-- such blocks, a block of a type that is not looked into among them; and for the blocks of hunks.
+use Prim.Native.Nat.{ℕ, suc, _+_, _*_, _≤_, _<_, _^_}
+use mathlib.Core.Path.{_≡_, refl, sym, ap, _∙_}
+use mathlib.Core.List.{List, [], _∷_, _++_, map}
+use mathlib.Core.Bool.{Bool, true, false, not, _||_}
+use mathlib.Core.Logic.{inr}
 use native.Mathlib.Omega.{arith}
-use lib.ListN.{length}
-use Rattle.basics.specs.Lists.{Each, none as no-hunks, also as and-hunk}
-use Rattle.basics.specs.Rows.{Silent, also, none}
+use borrow.Author.Tests.{eq-eqb, ne-eqb}
+use lib.ListN.{length, length-map}
+use lib.Dec.{eqb}
+use Rattle.basics.specs.Lists.{flat, Each, none as no-blocks, also as and-block}
+use Rattle.basics.specs.Rows.{Silent, none, also}
+use Rattle.basics.specs.Refusals.{noRefusal}
 use Rattle.basics.specs.Laws.Rows.{silent-append}
-use Rattle.basics.specs.Laws.Tests.{cond-true}
-use Rattle.places.specs.Limits.{imageLimit, lentLimit, lent}
+use Rattle.basics.specs.Laws.Tests.{and-false}
+use Rattle.places.specs.Limits.{imageLimit, lent, lentLimit, paragraphSize}
+use Rattle.sums.specs.Crc.{crc324Of}
+use Rattle.header.specs.Header.{headerOf, flagsOf, headerRows}
+use Rattle.header.specs.Flags.{compatOf}
+use Rattle.header.specs.Laws.Header.{length-header, flags-back, header-silent}
 use Rattle.cart.specs.declared.Cartridge.{Cartridge}
-use Rattle.tables.specs.declared.Compat.{Compat}
-use Rattle.tables.specs.Tables.{unsupported, cartridgeOf}
-use Rattle.tables.specs.Flags.{compatOf}
+use Rattle.tables.specs.Tables.{Tables, tablesIn, tablesPayload, cartridgeOf, cartridgeWith, tablesRows, unsupported}
+use Rattle.tables.specs.Laws.Tables.{length-tables, payload-back, cartridge-permissions, cartridge-flips}
+use Rattle.hunk.specs.declared.Checked.the-variants.{Whole}
+use Rattle.hunk.specs.Hunk.{Hunk, hunkOf, hunkPayload, checkHunk}
+use Rattle.hunk.specs.Laws.ReadBack.{payload-hunk, payload-checks}
+use Rattle.blocks.specs.Blocks.{typeOf, payloadIn, sizeSaid, sumSaid, blockOf, tablesType, hunkType, endMark, isTables, isHunk, Block}
+use Rattle.blocks.specs.Judged.{wrongSum, wrongTables, wrongHunk, judgeRows}
+use Rattle.blocks.specs.Images.{firstBlock, imageOf, blocksIn, judgeAll, anyTables, payloadOfTables, hunksIn, overlay, wordCount}
+use Rattle.blocks.specs.Laws.ReadBack as Made
+use Rattle.blocks.specs.Laws.Images.{blocks-back, image-ends, length-image}
 use Rattle.load.specs.declared.Loading.{Loading}
-use Rattle.load.specs.Blocks.{wordCount, firstTables, blocksOf, anyTables, payloadOf, blocksRows, isTables, hunksOf, hunksIn, overlay, Hunk as Loaded}
-use Rattle.load.specs.Load.{cartridgeIn, noneRows, tenRows, rowsOf, loads, loaded, loadingOf, refused, refusalOf, loadRamOf}
-use Rattle.load.specs.Header.{flagsOf}
-use Rattle.load.specs.Laws.Refusals.{loads-exactly}
-use Rattle.image.specs.Form.{Hunk, Tables, imageOf}
-use Rattle.image.specs.Chosen.{Lies, Sized}
-use Rattle.trip.specs.Trip.{placed, cartridgeBy, answerOf, LoadsAs}
-use Rattle.trip.specs.Laws.Image.{blocks-back, is-tables, payload-back, tables-back, flags-back, tables-silent, at-hunks, header-silent, tables-no-hunk}
-use Rattle.trip.specs.Laws.Blocks.{silent-hunks, startsAt, hunks-back, length-starts}
+use Rattle.load.specs.Load.{refusalOf, loads, loadedOf, loadingOf, loadRamOf}
+use Rattle.load.specs.Laws.Refusals.{Accepted, accepts}
+use Rattle.save.specs.Chosen.{tablesBlock, hunkBlock, imageFor, Sized}
+use Rattle.save.specs.Laws.Chosen.{Lies}
+use Rattle.trip.specs.Trip.{answerOf}
 
--- hunks that lie in some words lie in more
-lie-more : (m n : ℕ) → m ≤ n → (hs : List Hunk) → Each (Lies m) hs → Each (Lies n) hs
-lie-more m n h [] no-hunks = no-hunks
-lie-more m n h (k ∷ hs) (and-hunk l w) =
-    let g : Lies n k = record { whole = l .whole; within = omega (arith, l .within) } in
-    and-hunk g (lie-more m n h hs w)
+-- ---- blocks that refuse nothing wherever they stand
 
--- 256 words a hunk
-count-words : (m : ℕ) (hs : List Hunk) → Each (Lies m) hs → wordCount (map placed hs) ≡ 256 * length hs
-unfolding wordCount
-count-words m [] no-hunks = refl
-count-words m (h ∷ hs) (and-hunk l w) = omega (arith, l .whole, count-words m hs w)
+pub record Fine (m : ℕ) (x : List ℕ) : Type 0 where
+  pub block : Block x
+  pub plain : isTables x ≡ false
+  pub silent : (e : Bool) (p : ℕ) → Silent (judgeRows m e p (crc324Of (payloadIn x)) x)
 
-same-loading : {c d : Cartridge} {f g : Compat} {k l m n : ℕ} → c ≡ d → f ≡ g → k ≡ l → m ≡ n
-    → _≡_ {A = Loading} (record { number = 0; place = 0; cartridge = c; compat = f; blocks = k; words = m })
-    (record { number = 0; place = 0; cartridge = d; compat = g; blocks = l; words = n })
-same-loading ec ef ek em = rw (ec, ef, ek, em)
+fine-blocks : {m : ℕ} {xs : List (List ℕ)} → Each (Fine m) xs → Each Block xs
+fine-blocks no-blocks = no-blocks
+fine-blocks (and-block f fs) = and-block (f .block) (fine-blocks fs)
 
-module _ (flags uid : List ℕ) (t : Tables) (hs : List Hunk) (z : Sized flags uid t)
-    (short : length (imageOf flags uid t hs) ≤ imageLimit) (supported : unsupported flags (t .permissions) (t .flips) ≡ false) where
-  s : List ℕ
-  s = imageOf flags uid t hs
+fine-silent : (m : ℕ) (e : Bool) (p : ℕ) (xs : List (List ℕ)) → Each (Fine m) xs → Silent (judgeAll m e p xs)
+unfolding judgeAll
+fine-silent m e p [] no-blocks = none
+fine-silent m e p (x ∷ xs) (and-block f fs) = silent-append (f .silent e p) (fine-silent m (e || isTables x) (p + length x) xs fs)
 
-  first-is : firstTables s (blocksOf s) ≡ 32
-  unfolding s
-  first-is = rw (blocks-back flags uid t hs z, is-tables flags uid t hs z)
+-- a made block has the checksum of its payload
+sum-right : (t : ℕ) (x : List ℕ) → wrongSum (crc324Of (payloadIn (blockOf t x))) (blockOf t x) ≡ false
+sum-right t x =
+    let e : crc324Of (payloadIn (blockOf t x)) ≡ sumSaid (blockOf t x) = ap crc324Of (Made.payload-back t (crc324Of x) x) ∙ sym (Made.sum-back t (crc324Of x) x) in
+    and-false (isTables (blockOf t x) || isHunk (blockOf t x)) _ (rw (eq-eqb _ _ e))
 
-  some-tables : anyTables s (blocksOf s) ≡ true
-  unfolding s
-  some-tables = rw (blocks-back flags uid t hs z, is-tables flags uid t hs z)
+-- a type that a load does not look into
+pub record Unread (t : ℕ) : Type 0 where
+  pub not-0 : t ≡ 0x00 → ⊥
+  pub not-1 : t ≡ 0x01 → ⊥
+  pub not-2 : t ≡ 0x02 → ⊥
+  pub not-end : t ≡ 0xFF → ⊥
 
-  cartridge-back : cartridgeIn s ≡ cartridgeBy t
-  unfolding s
+pub fine-unread : (m t : ℕ) (payload : List ℕ) → Unread t → Fine m (blockOf t payload)
+unfolding judgeRows
+fine-unread m t payload u =
+    let x : List ℕ = blockOf t payload in
+    let k : typeOf x ≡ t = Made.type-back t (crc324Of payload) payload in
+    let e₀ : eqb (typeOf x) 0x00 ≡ false = rw k (ne-eqb _ _ (u .not-0)) in
+    let e₁ : eqb (typeOf x) 0x01 ≡ false = rw k (ne-eqb _ _ (u .not-1)) in
+    let e₂ : eqb (typeOf x) 0x02 ≡ false = rw k (ne-eqb _ _ (u .not-2)) in
+    record {
+      block = Made.block-back t (crc324Of payload) payload (u .not-end);
+      plain = e₁;
+      silent =
+          λ e p.
+          let e₈ : wrongTables e x ≡ false = rw e₁ in
+          let e₉ : wrongHunk m x ≡ false = rw e₂ in
+          also e₀ (also (sum-right t payload) (also e₈ (also e₉ none)));
+    }
+
+pub unread-none : (t : ℕ) (payload : List ℕ) (xs : List (List ℕ)) → Unread t → hunksIn (blockOf t payload ∷ xs) ≡ hunksIn xs
+unfolding hunksIn
+unread-none t payload xs u =
+    let e : isHunk (blockOf t payload) ≡ false = rw (Made.type-back t (crc324Of payload) payload) (ne-eqb _ _ (u .not-2)) in
+    rw e
+
+-- ---- the tables, then such blocks
+
+module _ (flags uid : List ℕ) (t : Tables) (xs : List (List ℕ)) (z : Sized flags uid t) where
+  abbrev image : List ℕ
+  image = imageOf (headerOf flags uid) (tablesBlock t ∷ xs) (endMark ∷ [])
+
+  head-long : length (headerOf flags uid) ≡ 32
+  head-long = length-header flags uid (z .flags-long) (z .uid-long)
+
+  tables-type : typeOf (tablesBlock t) ≡ 0x01
+  tables-type = Made.type-back tablesType (crc324Of (tablesPayload t)) (tablesPayload t)
+
+  tables-payload : payloadIn (tablesBlock t) ≡ tablesPayload t
+  tables-payload = Made.payload-back tablesType (crc324Of (tablesPayload t)) (tablesPayload t)
+
+  tables-quiet : (m p : ℕ) → Silent (judgeRows m false p (crc324Of (payloadIn (tablesBlock t))) (tablesBlock t))
+  unfolding judgeRows
+  tables-quiet m p =
+      let l : sizeSaid (tablesBlock t) ≡ 1280 =
+      Made.size-back tablesType (crc324Of (tablesPayload t)) (tablesPayload t) ∙ length-tables t (z .mapping-long) (z .permissions-long) (z .flips-long) in
+      let e₀ : eqb (typeOf (tablesBlock t)) 0x00 ≡ false = rw tables-type in
+      let e₈ : wrongTables false (tablesBlock t) ≡ false = rw (tables-type, l) in
+      let e₉ : wrongHunk m (tablesBlock t) ≡ false = rw tables-type in
+      also e₀ (also (sum-right tablesType (tablesPayload t)) (also e₈ (also e₉ none)))
+
+  any-back : anyTables (tablesBlock t ∷ xs) ≡ true
+  unfolding anyTables
+  any-back = rw tables-type
+
+  cartridge-back : cartridgeOf (payloadOfTables (tablesBlock t ∷ xs)) ≡ cartridgeWith t
+  unfolding payloadOfTables
   cartridge-back =
-      ap (λ (p : ℕ). cartridgeOf (payloadOf (imageOf flags uid t hs) p)) first-is ∙ ap cartridgeOf (payload-back flags uid t hs z)
-      ∙ tables-back t (z .mapping-256) (z .permissions-256) (z .flips-256)
+      rw tables-type (ap cartridgeOf tables-payload ∙ payload-back t (z .mapping-long) (z .permissions-long) (z .flips-long))
 
-  none-silent : Silent (noneRows s)
-  unfolding noneRows
-  none-silent = let e : not (anyTables s (blocksOf s)) ≡ false = rw some-tables in also e none
+  hunks-all : hunksIn (tablesBlock t ∷ xs) ≡ hunksIn xs
+  unfolding hunksIn
+  hunks-all = rw tables-type
 
-  ten-silent : Silent (tenRows s)
-  unfolding tenRows s
-  ten-silent =
-      let e : unsupported (flagsOf s) (cartridgeIn s .permissions) (cartridgeIn s .flips) ≡ false =
-      ap (λ (c : Cartridge). unsupported (flagsOf s) (c .permissions) (c .flips)) cartridge-back
-      ∙ ap (λ (f : List ℕ). unsupported f (t .permissions) (t .flips)) (flags-back flags uid t hs z) ∙ supported in
-      also e none
+  module _ (short : length image ≤ imageLimit) (supported : unsupported flags (t .permissions) (t .flips) ≡ false) (m : ℕ) (fine : Each (Fine m) xs) where
+    each-block : Each Block (tablesBlock t ∷ xs)
+    each-block = and-block (Made.block-back tablesType (crc324Of (tablesPayload t)) (tablesPayload t) (λ e. omega arith)) (fine-blocks fine)
 
-  module _ (m : ℕ) (w : Each (Lies m) hs) where
-    blocks-silent : Silent (blocksRows s m false (blocksOf s))
-    unfolding s blocksRows
-    blocks-silent =
-        rw (blocks-back flags uid t hs z)
-        (silent-append (tables-silent flags uid t hs z m)
-        (silent-hunks hs (imageOf flags uid t hs) 1320 m (false || isTables (imageOf flags uid t hs) 32) (0xFF ∷ []) (at-hunks flags uid t hs z) w))
+    read-back : blocksIn image ≡ tablesBlock t ∷ xs
+    read-back = blocks-back (headerOf flags uid) (tablesBlock t ∷ xs) (endMark ∷ []) head-long each-block refl
 
-    pub nothing-refused : Silent (rowsOf (imageOf flags uid t hs) m)
-    unfolding s
-    nothing-refused = silent-append (header-silent flags uid t hs z short) (silent-append (silent-append blocks-silent none-silent) ten-silent)
+    flags-are : flagsOf image ≡ flags
+    unfolding imageOf
+    flags-are = flags-back flags uid (z .flags-long) (z .uid-long) image _ refl
 
-    it-loads : loads s m ≡ true
-    unfolding s
-    it-loads = rw (loads-exactly (imageOf flags uid t hs) m .1 nothing-refused)
+    ten-quiet : Silent (tablesRows (flagsOf image) (tablesIn (payloadOfTables (blocksIn image))))
+    unfolding tablesRows cartridgeOf
+    ten-quiet =
+        let e : unsupported (flagsOf image) (tablesIn (payloadOfTables (blocksIn image)) .permissions) (tablesIn (payloadOfTables (blocksIn image)) .flips) ≡ false =
+        rw (flags-are, read-back) (ap (λ (c : Cartridge). unsupported flags (c .permissions) (c .flips)) cartridge-back ∙ supported) in
+        also e none
 
-    module _ (few : m ≤ lentLimit) where
-      hunks-are : hunksOf s ≡ map placed hs
-      unfolding s
-      hunks-are =
-          ap (hunksIn (imageOf flags uid t hs) lentLimit) (blocks-back flags uid t hs z) ∙ tables-no-hunk flags uid t hs z lentLimit (startsAt 1320 hs)
-          ∙ hunks-back hs (imageOf flags uid t hs) 1320 lentLimit (0xFF ∷ []) (at-hunks flags uid t hs z) (lie-more m lentLimit few hs w)
+    nothing : Accepted image m
+    unfolding judgeAll imageOf
+    nothing =
+        record {
+          header = header-silent flags uid (z .flags-long) (z .uid-long) image _ refl short;
+          blocks =
+              rw read-back
+              (silent-append (tables-quiet m firstBlock) (fine-silent m (false || isTables (tablesBlock t)) (firstBlock + length (tablesBlock t)) xs fine));
+          ended = image-ends (headerOf flags uid) (tablesBlock t ∷ xs) (endMark ∷ []) head-long each-block refl;
+          tables = rw read-back any-back;
+          supported = ten-quiet;
+        }
 
-      loaded-is : loaded s ≡ answerOf flags t (length hs)
-      unfolding s
-      loaded-is =
-          same-loading cartridge-back (ap compatOf (flags-back flags uid t hs z))
-          (ap length (blocks-back flags uid t hs z) ∙ omega (arith, length-starts 1320 hs))
-          (ap wordCount hunks-are ∙ count-words m hs w)
+    pub load-answers : loadingOf image m ≡ answerOf flags t (1 + length xs) (wordCount (hunksIn xs))
+    unfolding loadingOf
+    load-answers = rw (accepts image m nothing, flags-are, read-back, cartridge-back, hunks-all) (ap (λ (n : ℕ). answerOf flags t n (wordCount (hunksIn xs))) (omega arith))
 
-      pub load-answers : loadingOf (imageOf flags uid t hs) m ≡ answerOf flags t (length hs)
-      unfolding loadingOf s
-      load-answers = cond-true (loads s m) (loaded s) (refused (refusalOf s m)) it-loads ∙ loaded-is
+  pub load-lays : length image ≤ imageLimit → unsupported flags (t .permissions) (t .flips) ≡ false → (ram : List ℕ) → Each (Fine (lent ram)) xs → loadRamOf image ram ≡ overlay (hunksIn xs) ram
+  unfolding loadRamOf
+  load-lays short supported ram fine =
+      rw (accepts image (lent ram) (nothing short supported (lent ram) fine), read-back short supported (lent ram) fine, hunks-all)
 
-  pub load-image : (ram : List ℕ) → Each (Lies (lent ram)) hs → LoadsAs (imageOf flags uid t hs) ram flags t hs
-  unfolding loadRamOf s
-  load-image ram w =
-      let few : lent ram ≤ lentLimit = omega arith in
+-- ---- the blocks of hunks
+
+module _ (m : ℕ) (few : m ≤ lentLimit) (h : Hunk) (w : Lies m h) where
+  low : h .address .0 < 2 ^ 24
+  low = omega (arith, w .within)
+
+  hunk-type : typeOf (hunkBlock h) ≡ 0x02
+  hunk-type = Made.type-back hunkType (crc324Of (hunkPayload h)) (hunkPayload h)
+
+  hunk-payload : payloadIn (hunkBlock h) ≡ hunkPayload h
+  hunk-payload = Made.payload-back hunkType (crc324Of (hunkPayload h)) (hunkPayload h)
+
+  fine-hunk : Fine m (hunkBlock h)
+  unfolding judgeRows
+  fine-hunk =
+      let c : checkHunk (payloadIn (hunkBlock h)) m ≡ Whole (length (h .words)) =
+      ap (λ (y : List ℕ). checkHunk y m) hunk-payload ∙ payload-checks h low m .1 (inr (omega (arith, w .whole, w .within))) in
+      let e₀ : eqb (typeOf (hunkBlock h)) 0x00 ≡ false = rw hunk-type in
+      let e₁ : eqb (typeOf (hunkBlock h)) 0x01 ≡ false = rw hunk-type in
       record {
-        answer = load-answers (lent ram) w few;
-        laid =
-            cond-true (loads s (lent ram)) (overlay (hunksOf s) ram) ram (it-loads (lent ram) w)
-            ∙ ap (λ (l : List Loaded). overlay l ram) (hunks-are (lent ram) w few);
+        block = Made.block-back hunkType (crc324Of (hunkPayload h)) (hunkPayload h) (λ z. omega arith);
+        plain = e₁;
+        silent =
+            λ e p.
+            let e₈ : wrongTables e (hunkBlock h) ≡ false = rw e₁ in
+            let e₉ : wrongHunk m (hunkBlock h) ≡ false = rw (hunk-type, c) in
+            also e₀ (also (sum-right hunkType (hunkPayload h)) (also e₈ (also e₉ none)));
       }
+
+  hunk-one : (xs : List (List ℕ)) → hunksIn (hunkBlock h ∷ xs) ≡ h ∷ hunksIn xs
+  unfolding hunksIn
+  hunk-one xs = rw hunk-type (ap (λ (k : Hunk). k ∷ hunksIn xs) (ap hunkOf hunk-payload ∙ payload-hunk h low))
+
+pub fine-hunks : (m : ℕ) → m ≤ lentLimit → (hs : List Hunk) → Each (Lies m) hs → Each (Fine m) (map hunkBlock hs)
+fine-hunks m few [] no-blocks = no-blocks
+fine-hunks m few (h ∷ hs) (and-block w ws) = and-block (fine-hunk m few h w) (fine-hunks m few hs ws)
+
+pub hunks-back : (m : ℕ) → m ≤ lentLimit → (hs : List Hunk) → Each (Lies m) hs → hunksIn (map hunkBlock hs) ≡ hs
+unfolding hunksIn
+hunks-back m few [] no-blocks = refl
+hunks-back m few (h ∷ hs) (and-block w ws) = hunk-one m few h w (map hunkBlock hs) ∙ ap (λ (l : List Hunk). h ∷ l) (hunks-back m few hs ws)
+
+pub count-words : {m : ℕ} (hs : List Hunk) → Each (Lies m) hs → wordCount hs ≡ paragraphSize * length hs
+unfolding wordCount
+count-words [] no-blocks = refl
+count-words (h ∷ hs) (and-block w ws) = omega (arith, w .whole, count-words hs ws)
+
+-- the image of hunks that lie in the words lent
+module _ (flags uid : List ℕ) (t : Tables) (hs : List Hunk) (z : Sized flags uid t) (short : length (imageFor flags uid t hs) ≤ imageLimit)
+    (supported : unsupported flags (t .permissions) (t .flips) ≡ false) (ram : List ℕ) (w : Each (Lies (lent ram)) hs) where
+  few : lent ram ≤ lentLimit
+  few = omega arith
+
+  pub image-answers : loadingOf (imageFor flags uid t hs) (lent ram) ≡ answerOf flags t (1 + length hs) (paragraphSize * length hs)
+  unfolding imageFor
+  image-answers =
+      load-answers flags uid t (map hunkBlock hs) z short supported (lent ram) (fine-hunks (lent ram) few hs w)
+      ∙ rw (hunks-back (lent ram) few hs w, length-map hs hunkBlock, count-words hs w)
+
+  pub image-lays : loadRamOf (imageFor flags uid t hs) ram ≡ overlay hs ram
+  unfolding imageFor
+  image-lays =
+      load-lays flags uid t (map hunkBlock hs) z short supported ram (fine-hunks (lent ram) few hs w)
+      ∙ ap (λ (l : List Hunk). overlay l ram) (hunks-back (lent ram) few hs w)

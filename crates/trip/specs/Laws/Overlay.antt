@@ -1,6 +1,6 @@
 -- Chosen paragraphs laid over a RAM: each of their words is as given, and every other word is kept.
 use Prim.Native.Nat.{ℕ, _*_, _+_, _/_, _≤_, zero, suc, _<_, _%_}
-use mathlib.Core.List.{List, map, _++_, [], _∷_}
+use mathlib.Core.List.{List, [], _∷_}
 use mathlib.Core.Path.{_≡_, refl, ap, _∙_, sym}
 use mathlib.Core.Bool.{Bool, false, true}
 use mathlib.Core.Logic.{inl, inr, _⊎_}
@@ -13,36 +13,34 @@ use Rattle.basics.specs.Lists.{lay}
 use Rattle.basics.specs.Laws.Lay.{lay-out, lay-in}
 use Rattle.basics.specs.Laws.Tests.{cases, true-is-not-false}
 use Rattle.places.specs.Limits.{locutusParagraphs}
-use Rattle.load.specs.Blocks.{overlay}
-use Rattle.load.specs.Laws.Load.{length-overlay}
-use Rattle.image.specs.Form.{Hunk, hunk}
-use Rattle.image.specs.Chosen.{chosen, Chosen}
-use Rattle.image.specs.Laws.Chosen.{chosen-off, chosen-on, chosen-below}
-use Rattle.trip.specs.Trip.{placed, Overlaid}
+use Rattle.hunk.specs.Hunk.{Hunk}
+use Rattle.blocks.specs.Images.{overlay}
+use Rattle.blocks.specs.Laws.Images.{overlay-more}
+use Rattle.load.specs.Laws.Ram.{length-overlay}
+use Rattle.save.specs.Chosen.{paragraphHunk, chosen}
+use Rattle.save.specs.Laws.Chosen.{chosen-off, chosen-on, Lies}
+use Rattle.trip.specs.Trip.{Overlaid}
 
--- hunks in two goes
-overlay-append : (xs ys : List Hunk) (ram : List ℕ) → overlay (map placed (xs ++ ys)) ram ≡ overlay (map placed ys) (overlay (map placed xs) ram)
-unfolding overlay
-overlay-append [] ys ram = refl
-overlay-append (x ∷ xs) ys ram = overlay-append xs ys (lay (256 * x .paragraph) (x .words) ram)
+-- each chosen paragraph below p has its words, and they lie in n words
+abbrev pub EachLies : ℕ → ℕ → (ℕ → Bool) → (ℕ → List ℕ) → Type 0
+EachLies n p on words = (q : ℕ) → q < p → on q ≡ true → Lies n (paragraphHunk q (words q))
 
 module _ (on : ℕ → Bool) (words : ℕ → List ℕ) (ram : List ℕ) where
   -- the chosen paragraphs below p, laid
   over : ℕ → List ℕ
-  over p = overlay (map placed (chosen p on words)) ram
+  over p = overlay (chosen p on words) ram
 
   over-long : (p : ℕ) → length (over p) ≡ length ram
   unfolding over
-  over-long p = length-overlay (map placed (chosen p on words)) ram
+  over-long p = length-overlay (chosen p on words) ram
 
   over-off : (p : ℕ) → on p ≡ false → over (p + 1) ≡ over p
   unfolding over
-  over-off p e = ap (λ (hs : List Hunk). overlay (map placed hs) ram) (chosen-off on words p e)
+  over-off p e = ap (λ (hs : List Hunk). overlay hs ram) (chosen-off on words p e)
 
   over-on : (p : ℕ) → on p ≡ true → over (p + 1) ≡ lay (256 * p) (words p) (over p)
   unfolding over overlay
-  over-on p e =
-      ap (λ (hs : List Hunk). overlay (map placed hs) ram) (chosen-on on words p e) ∙ overlay-append (chosen p on words) (hunk p (words p) ∷ []) ram
+  over-on p e = ap (λ (hs : List Hunk). overlay hs ram) (chosen-on on words p e) ∙ overlay-more (chosen p on words) (paragraphHunk p (words p) ∷ []) ram
 
   -- word k lies in another paragraph than p
   past : (p k : ℕ) → length (words p) ≡ 256 → (k / 256 ≡ p → ⊥) → getD (lay (256 * p) (words p) (over p)) k 0 ≡ getD (over p) k 0
@@ -54,15 +52,15 @@ module _ (on : ℕ → Bool) (words : ℕ → List ℕ) (ram : List ℕ) where
   at e k = ap (λ (l : List ℕ). getD l k 0) e
 
   module _ (n : ℕ) where
-    over-out : (p k : ℕ) → Chosen n p on words → (on (k / 256) ≡ false) ⊎ (p ≤ k / 256) → getD (over p) k 0 ≡ getD ram k 0
+    over-out : (p k : ℕ) → EachLies n p on words → (on (k / 256) ≡ false) ⊎ (p ≤ k / 256) → getD (over p) k 0 ≡ getD ram k 0
     unfolding over chosen overlay
     over-out zero k c h = refl
     over-out (suc p) k c h =
         let one : suc p ≡ p + 1 = sym (add-one p) in
         at (ap over one) k
         ∙ cases (on p)
-        (λ e. at (over-on p e) k ∙ past p k (c .each p (omega arith) e .whole) (λ q. other h e q) ∙ over-out p k (chosen-below p (omega arith) c) (lower h))
-        (λ e. at (over-off p e) k ∙ over-out p k (chosen-below p (omega arith) c) (lower h))
+        (λ e. at (over-on p e) k ∙ past p k (c p (omega arith) e .whole) (λ q. other h e q) ∙ over-out p k (λ q l m. c q (omega arith) m) (lower h))
+        (λ e. at (over-off p e) k ∙ over-out p k (λ q l m. c q (omega arith) m) (lower h))
       where
         lower : (on (k / 256) ≡ false) ⊎ (suc p ≤ k / 256) → (on (k / 256) ≡ false) ⊎ (p ≤ k / 256)
         lower (inl a) = inl a
@@ -73,7 +71,7 @@ module _ (on : ℕ → Bool) (words : ℕ → List ℕ) (ram : List ℕ) where
         other (inr a) e q = omega arith
 
     over-in :
-        (p k : ℕ) → n ≤ length ram → Chosen n p on words → k / 256 < p → on (k / 256) ≡ true → getD (over p) k 0 ≡ getD (words (k / 256)) (k % 256) 0
+        (p k : ℕ) → n ≤ length ram → EachLies n p on words → k / 256 < p → on (k / 256) ≡ true → getD (over p) k 0 ≡ getD (words (k / 256)) (k % 256) 0
     over-in zero k s c h m = absurd (omega arith)
     over-in (suc p) k s c h m =
         let one : suc p ≡ p + 1 = sym (add-one p) in
@@ -82,8 +80,8 @@ module _ (on : ℕ → Bool) (words : ℕ → List ℕ) (ram : List ℕ) where
         (λ d.
         let q : k / 256 ≡ p = eqb-true _ _ d in
         let e : on p ≡ true = ap on (sym q) ∙ m in
-        let l : length (words p) ≡ 256 = c .each p (omega arith) e .whole in
-        let b : 256 * p + 256 ≤ n = c .each p (omega arith) e .within in
+        let l : length (words p) ≡ 256 = c p (omega arith) e .whole in
+        let b : 256 * p + 256 ≤ n = c p (omega arith) e .within in
         let o : length (over p) ≡ length ram = over-long p in
         let i : k ≡ 256 * p + k % 256 = omega arith in
         at (over-on p e) k ∙ ap (λ (j : ℕ). getD (lay (256 * p) (words p) (over p)) j 0) i
@@ -92,10 +90,10 @@ module _ (on : ℕ → Bool) (words : ℕ → List ℕ) (ram : List ℕ) where
         let q : k / 256 ≡ p → ⊥ = eqb-false _ _ d in
         let j : k / 256 < p = omega (arith, q) in
         cases (on p)
-        (λ e. at (over-on p e) k ∙ past p k (c .each p (omega arith) e .whole) q ∙ over-in p k s (chosen-below p (omega arith) c) j m)
-        (λ e. at (over-off p e) k ∙ over-in p k s (chosen-below p (omega arith) c) j m))
+        (λ e. at (over-on p e) k ∙ past p k (c p (omega arith) e .whole) q ∙ over-in p k s (λ i l o. c i (omega arith) o) j m)
+        (λ e. at (over-off p e) k ∙ over-in p k s (λ i l o. c i (omega arith) o) j m))
 
-    pub laid-back : n ≤ length ram → Chosen n locutusParagraphs on words → Overlaid on words ram (overlay (map placed (chosen locutusParagraphs on words)) ram)
+    pub laid-back : n ≤ length ram → EachLies n locutusParagraphs on words → Overlaid on words ram (overlay (chosen locutusParagraphs on words) ram)
     unfolding over
     laid-back s c =
         record {

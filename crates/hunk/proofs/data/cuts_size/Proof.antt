@@ -1,0 +1,51 @@
+-- `hunk::data::cuts_size` meets its contract. The loop's invariant: the bytes of the data blocks of the words before i are counted.
+use Prim.Native.Nat.{_-_}
+use lib.ListN.{length}
+use borrow.Author.Needs.{needs}
+use Rattle.hunk.proofs.Written.{Sizing, sizing-none, sizing-fits, sizing-more, sizing-all, cut-most, cut-in}
+use Rattle.hunk.proofs.data.cuts_size.Statement.{statement}
+use Rattle.hunk.proofs.data.cuts_size.Tie as tie
+
+abbrev Inv-loop : tie.InvT-loop
+Inv-loop words long₀ i₀ long i = Sizing words long i
+
+abbrev μ-loop : tie.MeasureT-loop
+μ-loop words long₀ i₀ long i = length words - i
+
+loop-holds : tie.Need-loop-holds Inv-loop μ-loop
+loop-holds c = search (needs, sizing-none)
+
+part-data-size-end : tie.Need-part-data-size-end Inv-loop μ-loop
+part-data-size-end c = search (needs, cut-in)
+
+data-size-requires : tie.Need-data-size-requires Inv-loop μ-loop
+data-size-requires c κs = search (needs, cut-most)
+
+add-long : tie.Need-add-long Inv-loop μ-loop
+add-long c = search (needs, sizing-fits)
+
+loop-again : tie.Need-loop-again Inv-loop μ-loop
+loop-again c = search (needs, sizing-more)
+
+returns : tie.Need-returns Inv-loop μ-loop
+returns c = search (needs, sizing-all)
+
+pub cuts-size-spec : {M : Type 1} → statement M
+cuts-size-spec =
+    tie.close
+    (tie.spec
+    Inv-loop
+    μ-loop
+    loop-holds
+    (λ c. search needs)
+    (λ c κs. search needs)
+    (λ c. search needs)
+    (λ c. search needs)
+    (λ c. search needs)
+    (λ c. search needs)
+    part-data-size-end
+    data-size-requires
+    add-long
+    (λ c. search needs)
+    loop-again
+    returns)

@@ -1,0 +1,72 @@
+-- `hunk::data::write_cuts` meets its contract. The loop's invariant: the data blocks of the words before i are written.
+use Prim.Native.Nat.{_-_}
+use lib.ListN.{length}
+use borrow.Author.Needs.{needs}
+use Rattle.hunk.proofs.Written.{Writing, writing-none, writing-room, writing-fits, writing-part, writing-more, writing-long, writing-all, cut-most, cut-in}
+use Rattle.hunk.proofs.data.write_cuts.Statement.{statement}
+use Rattle.hunk.proofs.data.write_cuts.Tie as tie
+
+abbrev Inv-loop : tie.InvT-loop
+Inv-loop out₀ words p₀ i₀ out p i = Writing words out₀ out p i
+
+abbrev μ-loop : tie.MeasureT-loop
+μ-loop out₀ words p₀ i₀ out p i = length words - i
+
+loop-holds : tie.Need-loop-holds Inv-loop μ-loop
+loop-holds c = search (needs, writing-none)
+
+part-data-size-end : tie.Need-part-data-size-end Inv-loop μ-loop
+part-data-size-end c = search (needs, cut-in)
+
+data-size-requires : tie.Need-data-size-requires Inv-loop μ-loop
+data-size-requires c κs = search (needs, cut-most)
+
+add-e : tie.Need-add-e Inv-loop μ-loop
+add-e c = search (needs, writing-fits)
+
+part-write-data-end : tie.Need-part-write-data-end Inv-loop μ-loop
+part-write-data-end c = search (needs, writing-room)
+
+part-write-data-end-2 : tie.Need-part-write-data-end-2 Inv-loop μ-loop
+part-write-data-end-2 c = search (needs, cut-in)
+
+write-data-requires : tie.Need-write-data-requires Inv-loop μ-loop
+write-data-requires c κs = search (needs, cut-most, writing-part)
+
+loop-again : tie.Need-loop-again Inv-loop μ-loop
+loop-again c = search (needs, writing-more)
+
+same-length : tie.Need-same-length Inv-loop μ-loop
+same-length c = search (needs, writing-long)
+
+returns : tie.Need-returns Inv-loop μ-loop
+returns c = search (needs, writing-all)
+
+pub write-cuts-spec : {M : Type 1} → statement M
+write-cuts-spec =
+    tie.close
+    (tie.spec
+    Inv-loop
+    μ-loop
+    loop-holds
+    (λ c. search needs)
+    (λ c κs. search needs)
+    (λ c. search needs)
+    (λ c. search needs)
+    (λ c. search needs)
+    (λ c. search needs)
+    part-data-size-end
+    data-size-requires
+    add-e
+    (λ c. search needs)
+    (λ c. search needs)
+    part-write-data-end
+    (λ c. search needs)
+    (λ c. search needs)
+    (λ c. search needs)
+    part-write-data-end-2
+    write-data-requires
+    (λ c. search needs)
+    loop-again
+    same-length
+    returns)

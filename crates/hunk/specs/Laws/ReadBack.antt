@@ -1,0 +1,130 @@
+-- A hunk that was written is read back: its address, its words, and a check that passes exactly when they lie in the RAM.
+use Prim.Native.Nat.{ℕ, _+_, _-_, _*_, _%_, _^_, _≤_, _<_}
+use mathlib.Core.Path.{_≡_, refl, sym, ap, ap₂, _∙_}
+use mathlib.Core.List.{List, [], _∷_, _++_}
+use mathlib.Core.Bool.{true, false}
+use mathlib.Core.Logic.{_↔_}
+use native.Mathlib.Omega.{arith}
+use lib.ListN.{length, drop, getD, length-drop}
+use borrow.Author.Tests.{le-leb}
+use Rattle.basics.specs.Bytes.{at24, bytes16, le24}
+use Rattle.basics.specs.Lists.{joined, Each, none, also}
+use Rattle.basics.specs.Tables.{table}
+use Rattle.basics.specs.Laws.Tables.{table-of}
+use Rattle.basics.specs.Laws.Stands.{stands-at, stands-after, stands-length, stands-word}
+use Rattle.basics.specs.Laws.Lay.{Inside}
+use Rattle.places.specs.declared.Locutus.{Locutus}
+use Rattle.places.specs.Places.{locutus}
+use Rattle.hunk.specs.declared.Form.the-variants.{Words}
+use Rattle.hunk.specs.declared.Checked.the-variants.{Whole}
+use Rattle.hunk.specs.Forms.{formOf, startFor, sizeFor, countOf, sizeOf, word, dataOf}
+use Rattle.hunk.specs.Cuts.{cutsOf}
+use Rattle.hunk.specs.Hunk.{Hunk, hunk, address, formAt, countAt, sizeAt, wordsAt, wholeAt, endOf, wordsOf, hunkOf, checkHunk, hunkPayload, payloadSize}
+use Rattle.hunk.specs.Laws.Forms.{form-start, count-start, length-data}
+use Rattle.hunk.specs.Laws.Sizes.{length-payload}
+use Rattle.hunk.specs.Laws.Cuts.{Piece, cuts-each, cuts-all}
+use Rattle.hunk.specs.Laws.Walk.{Run, none as no-block, also as one-block, wordsIn, past-end, data-all, data-end}
+use Rattle.hunk.specs.Laws.Refusals.{whole-words, words-whole}
+
+-- a data block that stands at p
+module _ (s : List ℕ) (p : ℕ) (ws r : List ℕ) (st : drop p s ≡ dataOf ws ++ r) (c : Piece ws) where
+  start-back : getD s p 0 ≡ startFor Words (length ws)
+  unfolding dataOf
+  start-back = stands-at s p (dataOf ws) r st 0 p (omega arith)
+
+  form-back : formAt s p ≡ Words
+  form-back = ap formOf start-back ∙ form-start Words (length ws) (c .some) (c .most)
+
+  count-back : countAt s p ≡ length ws
+  count-back = ap countOf start-back ∙ count-start Words (length ws) (c .some) (c .most)
+
+  size-back : sizeAt s p ≡ length (dataOf ws)
+  unfolding sizeOf
+  size-back = ap₂ sizeFor form-back count-back ∙ sym (length-data ws)
+
+  whole-back : wholeAt s p ≡ true
+  unfolding wholeAt
+  whole-back =
+      let l : length s - p ≡ length (dataOf ws) + length r = stands-length s p (dataOf ws) r st in
+      let h : p + sizeAt s p ≤ length s = omega (arith, size-back, length-data ws) in
+      rw (form-back, le-leb _ _ h)
+
+  words-behind : drop (p + 1) s ≡ bytes16 ws ++ r
+  unfolding dataOf
+  words-behind = stands-after s p (startFor Words (length ws) ∷ []) (bytes16 ws ++ r) st (p + 1) (omega arith)
+
+  words-back : wordsAt s p ≡ ws
+  unfolding word
+  words-back =
+      ap (λ (n : ℕ). table n (word s p)) count-back
+      ∙ sym (table-of 0 (length ws) (word s p) ws refl (λ i h. sym (rw form-back (stands-word s (p + 1) ws r words-behind i (p + 1 + 2 * i) refl h))))
+
+-- data blocks that stand one after the other from p on to the payload's end
+record Blocks (s : List ℕ) (p : ℕ) (words : List ℕ) : Type 0 where
+  pub starts : List ℕ
+  pub run : Run s p starts (length s)
+  pub holds : wordsIn s starts ≡ words
+
+blocks-back : (s : List ℕ) (p : ℕ) (cs : List (List ℕ)) → Each Piece cs → p ≤ length s → drop p s ≡ joined dataOf cs → Blocks s p (joined (λ (c : List ℕ). c) cs)
+unfolding joined
+blocks-back s p [] none h st =
+    let e : p ≡ length s = omega (arith, length-drop p s, ap length st) in
+    record { starts = []; run = rw (← e) no-block; holds = refl }
+blocks-back s p (c ∷ cs) (also d ds) h st =
+    let r : List ℕ = joined dataOf cs in
+    let l : length s - p ≡ length (dataOf c) + length r = stands-length s p (dataOf c) r st in
+    let e : sizeAt s p ≡ length (dataOf c) = size-back s p c r st d in
+    let b : Blocks s (p + sizeAt s p) (joined (λ (c : List ℕ). c) cs) =
+    blocks-back s (p + sizeAt s p) cs ds (omega (arith, length-data c)) (stands-after s p (dataOf c) r st (p + sizeAt s p) (ap (_+_ p) e)) in
+    record { starts = p ∷ b .starts; run = one-block (whole-back s p c r st d) (b .run); holds = ap₂ _++_ (words-back s p c r st d) (b .holds) }
+
+-- three bytes
+three : (x : ℕ) → at24 (le24 x) 0 ≡ x
+three x = omega arith
+
+-- a payload
+module _ (h : Hunk) where
+  long : 3 ≤ length (hunkPayload h)
+  unfolding payloadSize
+  long = omega (arith, length-payload h)
+
+  blocks : Blocks (hunkPayload h) 3 (h .words)
+  unfolding hunkPayload
+  blocks =
+      rw (cuts-all (h .words)) at
+      (blocks-back (hunkPayload h) 3 (cutsOf (h .words)) (cuts-each (h .words)) long refl)
+
+  stops : wholeAt (hunkPayload h) (length (hunkPayload h)) ≡ false
+  stops = past-end (hunkPayload h) (length (hunkPayload h)) (omega arith)
+
+  -- its words, and that nothing stands behind them
+  pub payload-words : wordsOf (hunkPayload h) ≡ h .words
+  unfolding wordsOf
+  payload-words = ap (wordsIn (hunkPayload h)) (data-all (hunkPayload h) (blocks .starts) (length (hunkPayload h)) (blocks .run) stops) ∙ blocks .holds
+
+  pub payload-end : endOf (hunkPayload h) ≡ length (hunkPayload h)
+  payload-end = data-end (hunkPayload h) (blocks .starts) (length (hunkPayload h)) (blocks .run) stops
+
+  -- its address, where it has 24 bits
+  module _ (low : h .address .0 < 2 ^ 24) where
+    pub payload-address : address (hunkPayload h) ≡ h .address
+    unfolding hunkPayload
+    payload-address =
+        let a : ℕ = h .address .0 in
+        let e : a % 2 ^ 24 ≡ a = omega arith in
+        ap locutus (ap (λ (x : ℕ). at24 (le24 x) 0) e ∙ three a)
+
+    address-back : address (hunkPayload h) .0 ≡ h .address .0
+    address-back = ap (λ (l : Locutus). l .0) payload-address
+
+    -- the check passes exactly when the words lie in the RAM
+    pub payload-checks : (m : ℕ) → (checkHunk (hunkPayload h) m ≡ Whole (length (h .words))) ↔ Inside (h .address .0) (h .words) m
+    payload-checks m = (
+      (λ e. rw (address-back, payload-words) at (whole-words (hunkPayload h) m (length (h .words)) e .inside)),
+      (λ i.
+          words-whole (hunkPayload h) m (length (h .words))
+          (record { long = long; all = payload-end; count = ap length (sym payload-words); inside = rw (address-back, payload-words) i })),
+    )
+
+    pub payload-hunk : hunkOf (hunkPayload h) ≡ h
+    payload-hunk = ap₂ hunk payload-address payload-words

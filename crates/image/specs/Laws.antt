@@ -1,3 +1,0 @@
--- Theorems over the definitions.
-pub mod Form
-pub mod Chosen

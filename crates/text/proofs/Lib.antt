@@ -1,0 +1,4 @@
+pub mod Tests
+pub mod Spelling
+pub mod Readers
+pub mod Same

@@ -1,0 +1,123 @@
+// Texts: the bytes that may stand in one, its lines, its spelling, and hex digits. A CFG is one (01, "What a CFG may say").
+ghost use Prim.Native.Nat.{_≤_};
+ghost use mathlib.Core.Path.{_≡_};
+ghost use Rattle.text.specs.Bytes.{crLf, allowed, firstForeign};
+ghost use Rattle.text.specs.Lines.{lineOf, ends, lineEnd, nextLine};
+ghost use Rattle.text.specs.Spelling.{same, digitOf};
+
+// A reader: a text, and the place in it where the next line starts. A loop that reads line by line holds one, tests it and
+// moves it on to `next_line`.
+pub struct Reader<'a> {
+    pub text: &'a [u8],
+    pub at: usize,
+}
+
+// Whether a byte and the next are CR LF; `next` is 0 where the text ends.
+pub fn is_cr_lf(b: u8, next: u8) -> bool
+    ensures { λ r. ⌜ r ≡ crLf b next ⌝ }
+{
+    basics::both(b == b'\r', next == b'\n')
+}
+
+// Whether a byte may stand in a text, with `next` behind it.
+pub fn is_allowed(b: u8, next: u8) -> bool
+    ensures { λ r. ⌜ r ≡ allowed b next ⌝ }
+{
+    let printed = basics::both(0x20 <= b, b <= 0x7E);
+    let blank = basics::either(printed, b == b'\t');
+    let end = basics::either(blank, b == b'\n');
+    basics::either(end, is_cr_lf(b, next))
+}
+
+// The place of the first byte that may not stand where it does, or the text's length.
+pub fn first_foreign(text: &[u8]) -> usize
+    ensures { λ r. ⌜ r ≡ firstForeign (now (text .entry)) ⌝ }
+{
+    let mut i = 0;
+    while i < text.len() {
+        if !is_allowed(text[i], basics::byte_at(text, i + 1)) {
+            return i;
+        }
+        i += 1;
+    }
+    i
+}
+
+// The number of the line that a byte stands on, from 1.
+pub fn line_of(text: &[u8], at: usize) -> usize
+    ensures { λ r. ⌜ r ≡ lineOf (now (text .entry)) at ⌝ }
+{
+    let mut n = 1;
+    let mut i = 0;
+    while i < at {
+        if basics::byte_at(text, i) == b'\n' {
+            n += 1;
+        }
+        i += 1;
+    }
+    n
+}
+
+// Whether a line ends at a byte, with `next` behind it.
+pub fn is_end(b: u8, next: u8) -> bool
+    ensures { λ r. ⌜ r ≡ ends b next ⌝ }
+{
+    basics::either(b == b'\n', is_cr_lf(b, next))
+}
+
+// The line cutter: where the line that stands at `at` ends.
+pub fn line_end(text: &[u8], at: usize) -> usize
+    ensures { λ r. ⌜ r ≡ lineEnd (now (text .entry)) at ⌝ }
+{
+    let mut i = at;
+    while i < text.len() {
+        if is_end(text[i], basics::byte_at(text, i + 1)) {
+            return i;
+        }
+        i += 1;
+    }
+    i
+}
+
+// Where the line after it starts.
+pub fn next_line(text: &[u8], at: usize) -> usize
+    ensures { λ r. ⌜ r ≡ nextLine (now (text .entry)) at ⌝ }
+{
+    let end = line_end(text, at);
+    if text.len() <= end {
+        return end;
+    }
+    if text[end] == b'\n' {
+        return end + 1;
+    }
+    end + 2
+}
+
+// Whether two texts are the same.
+pub fn same_text(s: &[u8], t: &[u8]) -> bool
+    ensures { λ r. ⌜ r ≡ same (now (s .entry)) (now (t .entry)) ⌝ }
+{
+    let mut i = 0;
+    while i < s.len() {
+        if t.len() <= i {
+            return false;
+        }
+        if s[i] != t[i] {
+            return false;
+        }
+        i += 1;
+    }
+    i == t.len()
+}
+
+// A hex digit's value, in either case; 16 for any other byte.
+pub fn digit_of(b: u8) -> u32
+    ensures { λ r. ⌜ (r ≡ digitOf b) × (r ≤ 16) ⌝ }
+{
+    match b {
+        b'0'..=b'9' => (b - b'0') as u32,
+        b'A'..=b'F' => (b - b'A') as u32 + 10,
+        b'a'..=b'f' => (b - b'a') as u32 + 10,
+        _ => 16,
+    }
+}
