@@ -23,7 +23,7 @@ Loaded *luigi_load(Loaded *answer, const uint8_t *image, size_t n, uint16_t *ram
 
 typedef struct {
     uint32_t number, needed;
-    size_t length;
+    size_t place, length;
 } Built;
 
 Built *luigi_build(Built *answer, const uint8_t *bin, size_t nbin, const uint8_t *cfg, size_t ncfg, uint8_t *out, size_t room);
