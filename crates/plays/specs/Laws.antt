@@ -5,4 +5,3 @@ pub mod Tabled
 pub mod Steps
 pub mod Plays
 pub mod Corollaries
-pub mod Bench

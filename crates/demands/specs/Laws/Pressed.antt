@@ -1,4 +1,4 @@
--- Demand 3, proved.
+-- A title that the builder accepts: its image loads as it was laid out, and plays as its lines read.
 use Prim.Native.Nat.{ℕ, _≤_, _*_, _+_, _/_, _%_, _<_}
 use mathlib.Core.List.{List, _++_}
 use mathlib.Core.Path.{_≡_, ap, _∙_, sym}
@@ -7,9 +7,12 @@ use native.Mathlib.Omega.{arith}
 use lib.ListN.{length, drop, take}
 use lib.Seq.{take-append-seam}
 use borrow.Author.Tests.{eq-eqb}
+use Rattle.basics.specs.Refusals.{noRefusal}
 use Rattle.basics.specs.Laws.Tests.{cases, true-is-not-false}
 use Rattle.places.specs.Limits.{lent, locutusParagraphs}
+use Rattle.cart.specs.declared.Cartridge.{Cartridge}
 use Rattle.cart.specs.Run.{Access, answers}
+use Rattle.tables.specs.Tables.{cartridgeWith}
 use Rattle.load.specs.declared.Loading.{Loading}
 use Rattle.load.specs.Load.{loadRamOf, loadingOf}
 use Rattle.trip.specs.Laws.RoundTrip.{LoadsChosen, load-chosen}
@@ -27,8 +30,9 @@ use Rattle.build.specs.Laws.Image.{sized, within-limit, supported, lie}
 use Rattle.plays.specs.Loaded.{Loaded}
 use Rattle.plays.specs.Plain.{plainAnswers, fresh}
 use Rattle.plays.specs.Laws.Plays.{plays}
-use Rattle.pressed.specs.Pressed.{worldOf, Pressing}
+use Rattle.demands.specs.Pressing.{Pressing, Pressed, worldOf}
 
+-- the image of a BIN and a CFG that are accepted, over a RAM of the words needed
 module _ (bin cfg out : List ℕ) (accepts : builds bin cfg out ≡ true) (ram : List ℕ) (room : needed (entriesOf cfg) ≤ length ram) where
   abbrev lines : List Line
   lines = entriesOf cfg
@@ -40,7 +44,7 @@ module _ (bin cfg out : List ℕ) (accepts : builds bin cfg out ≡ true) (ram :
   inside = omega (arith, room, needed-small (good accepted))
 
   -- the image loads: the layout's tables, and the covered paragraphs laid over the RAM
-  loads-as : LoadsChosen flagBytes (tablesFor lines) (covered lines) (paragraphWords bin lines) (pressedImage bin cfg) ram
+  pub loads-as : LoadsChosen flagBytes (tablesFor lines) (covered lines) (paragraphWords bin lines) (pressedImage bin cfg) ram
   unfolding pressedImage
   loads-as =
       load-chosen flagBytes (uidOf bin cfg) (tablesFor lines) (covered lines) (paragraphWords bin lines) ram (sized bin cfg lines)
@@ -58,49 +62,56 @@ module _ (bin cfg out : List ℕ) (accepts : builds bin cfg out ≡ true) (ram :
             rw (q, r) at (loads-as .back .given (256 * p + i) (rw q b) (rw q c));
       }
 
-  pub load-accepts : loadingOf (pressedImage bin cfg) (lent ram) .refusal .number ≡ 0
-  load-accepts = ap (λ (l : Loading). l .refusal .number) (loads-as .answer)
-
   pub plays-as-it-reads : (xs : List Access) →
       answers (worldOf (loadingOf (pressedImage bin cfg) (lent ram)) (loadRamOf (pressedImage bin cfg) ram)) xs ≡ plainAnswers bin lines fresh xs
   plays-as-it-reads xs =
       ap (λ (l : Loading). answers (worldOf l (loadRamOf (pressedImage bin cfg) ram)) xs) (loads-as .answer)
       ∙ plays accepted (loadRamOf (pressedImage bin cfg) ram) words-there xs
 
-module _ (bin cfg out left ram stored : List ℕ) (b : Building) (l : Loading) (p : Pressing bin cfg out left ram stored b l) where
-  it-builds : builds bin cfg out ≡ true
+-- the same of what the functions answered and left
+module _ (p : Pressing) (q : Pressed p) (accepts : p .building .refusal .number ≡ 0) where
+  abbrev image : List ℕ
+  image = pressedImage (p .bin) (p .cfg)
+
+  it-builds : builds (p .bin) (p .cfg) (p .out) ≡ true
   unfolding buildingOf
   it-builds =
-      cases (builds bin cfg out) (λ e. e)
+      cases (builds (p .bin) (p .cfg) (p .out)) (λ e. e)
       (λ e.
-      let r : b ≡ refused bin cfg (refusalOf bin cfg out) = p .building ∙ rw e in
-      let n : refusalOf bin cfg out .number ≡ 0 = sym (ap (λ (x : Building). x .refusal .number) r) ∙ p .accepts in
-      true-is-not-false (eq-eqb (refusalOf bin cfg out .number) 0 n) e)
+      let r : p .building ≡ refused (p .bin) (p .cfg) (refusalOf (p .bin) (p .cfg) (p .out)) = q .answer ∙ rw e in
+      let n : refusalOf (p .bin) (p .cfg) (p .out) .number ≡ 0 = sym (ap (λ (x : Building). x .refusal .number) r) ∙ accepts in
+      true-is-not-false (eq-eqb (refusalOf (p .bin) (p .cfg) (p .out) .number) 0 n) e)
 
-  is-built : b ≡ built bin cfg
+  pub is-built : p .building ≡ built (p .bin) (p .cfg)
   unfolding buildingOf
-  is-built = p .building ∙ rw it-builds
+  is-built = q .answer ∙ rw it-builds
 
-  image-there : left ≡ pressedImage bin cfg ++ drop (length (pressedImage bin cfg)) out
+  image-there : p .left ≡ image ++ drop (length image) (p .out)
   unfolding builtOf
-  image-there = p .leaving ∙ rw it-builds
+  image-there = q .leaves ∙ rw it-builds
 
-  image-front : take (b .length) left ≡ pressedImage bin cfg
+  image-front : take (p .building .length) (p .left) ≡ image
   image-front =
-      ap (λ (x : Building). take (x .length) left) is-built ∙ ap (take (length (pressedImage bin cfg))) image-there
-      ∙ take-append-seam (pressedImage bin cfg) (drop (length (pressedImage bin cfg)) out)
+      ap (λ (x : Building). take (x .length) (p .left)) is-built ∙ ap (take (length image)) image-there
+      ∙ take-append-seam image (drop (length image) (p .out))
 
-  enough-room : needed (entriesOf cfg) ≤ length ram
-  enough-room = rw (ap (λ (x : Building). x .needed) is-built) at (p .enough)
+  loading-is : p .loading ≡ loadingOf image (lent (p .ram))
+  loading-is = q .loads .answer ∙ ap (λ (s : List ℕ). loadingOf s (lent (p .ram))) image-front
 
-  l-is : l ≡ loadingOf (pressedImage bin cfg) (lent ram)
-  l-is = p .loading ∙ ap (λ (s : List ℕ). loadingOf s (lent ram)) image-front
+  stored-is : p .stored ≡ loadRamOf image (p .ram)
+  stored-is = q .loads .leaves ∙ ap (λ (s : List ℕ). loadRamOf s (p .ram)) image-front
 
-  stored-is : stored ≡ loadRamOf (pressedImage bin cfg) ram
-  stored-is = p .storing ∙ ap (λ (s : List ℕ). loadRamOf s ram) image-front
+  module _ (enough : p .building .needed ≤ length (p .ram)) where
+    room-there : needed (entriesOf (p .cfg)) ≤ length (p .ram)
+    room-there = rw (ap (λ (x : Building). x .needed) is-built) at enough
 
-  pub pressed-loads : l .refusal .number ≡ 0
-  pressed-loads = ap (λ (x : Loading). x .refusal .number) l-is ∙ load-accepts bin cfg out it-builds ram enough-room
+    pub pressed-loads : p .loading .refusal ≡ noRefusal
+    pressed-loads =
+        ap (λ (x : Loading). x .refusal) (loading-is ∙ loads-as (p .bin) (p .cfg) (p .out) it-builds (p .ram) room-there .answer)
 
-  pub pressed-plays : (xs : List Access) → answers (worldOf l stored) xs ≡ plainAnswers bin (entriesOf cfg) fresh xs
-  pressed-plays xs = rw (l-is, stored-is) (plays-as-it-reads bin cfg out it-builds ram enough-room xs)
+    pub pressed-tables : p .loading .cartridge ≡ cartridgeWith (tablesFor (entriesOf (p .cfg)))
+    pressed-tables =
+        ap (λ (x : Loading). x .cartridge) (loading-is ∙ loads-as (p .bin) (p .cfg) (p .out) it-builds (p .ram) room-there .answer)
+
+    pub pressed-plays : (xs : List Access) → answers (worldOf (p .loading) (p .stored)) xs ≡ plainAnswers (p .bin) (entriesOf (p .cfg)) fresh xs
+    pressed-plays xs = rw (loading-is, stored-is) (plays-as-it-reads (p .bin) (p .cfg) (p .out) it-builds (p .ram) room-there xs)

@@ -1,0 +1,8 @@
+-- The demands' values.
+pub mod Demand1
+pub mod Demand2
+pub mod Tied
+pub mod Pressed
+pub mod Demand3
+pub mod Files
+pub mod Bench

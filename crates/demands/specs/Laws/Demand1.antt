@@ -1,0 +1,53 @@
+-- Demand 1, proved: each crate's "exactly when", of what its public function answers.
+use Prim.Native.Nat.{ℕ}
+use mathlib.Core.List.{List}
+use mathlib.Core.Path.{_≡_, sym, _∙_}
+use mathlib.Core.Logic.{_↔_}
+use Rattle.basics.specs.declared.Refusal.{Refusal}
+use Rattle.basics.specs.Rows.{Gives}
+use Rattle.basics.specs.Refusals.{passes}
+use Rattle.basics.specs.Laws.Refusals.{refused-exactly}
+use Rattle.basics.specs.Laws.Tests.{cases}
+use Rattle.places.specs.Limits.{lent}
+use Rattle.load.specs.Load.{loads, loadingOf, refused as loadRefused}
+use Rattle.load.specs.Laws.Refusals as Load
+use Rattle.cfg.specs.File.{readingOf, refusalOf, refusalRows as cfgRows, refused as cfgRefused}
+use Rattle.cfg.specs.Laws.Refusals as Cfg
+use Rattle.save.specs.Laws.Refusals as Save
+use Rattle.build.specs.Building.{builds, buildingOf, refused as buildRefused}
+use Rattle.build.specs.Laws.Refusals as Build
+use Rattle.demands.specs.Demand1.{Refused, Demand1}
+
+-- all else is zero
+load-zero : (image ram : List ℕ) → Refused (loadingOf image (lent ram) .refusal) → loadingOf image (lent ram) ≡ loadRefused (loadingOf image (lent ram) .refusal)
+unfolding loadingOf
+load-zero image ram n = cases (loads image (lent ram)) (λ e. absurd (n (rw e))) (λ e. rw e)
+
+cfg-zero : (cfg : List ℕ) → Refused (readingOf cfg .refusal) → readingOf cfg ≡ cfgRefused (readingOf cfg .refusal)
+unfolding readingOf
+cfg-zero cfg n = cases (passes (refusalOf cfg)) (λ e. absurd (n (rw e))) (λ e. rw e)
+
+cfg-refused : (cfg : List ℕ) (r : Refusal) → Refused r → (readingOf cfg .refusal ≡ r) ↔ Gives (cfgRows cfg) r
+cfg-refused cfg r h =
+    let x = refused-exactly (cfgRows cfg) (Cfg.each-refuses cfg) r h in
+    ((λ e. x .0 (sym (Cfg.refusal-is cfg) ∙ e)), (λ g. Cfg.refusal-is cfg ∙ x .1 g))
+
+build-zero : (bin cfg out : List ℕ) → Refused (buildingOf bin cfg out .refusal) → buildingOf bin cfg out ≡ buildRefused bin cfg (buildingOf bin cfg out .refusal)
+unfolding buildingOf
+build-zero bin cfg out n = cases (builds bin cfg out) (λ e. absurd (n (rw e))) (λ e. rw e)
+
+pub demand-1 : Demand1
+demand-1 =
+    record {
+      load = λ image ram. record { refused = Load.refused-exactly image (lent ram); accepted = Load.loads-exactly image (lent ram) };
+      load-zero = load-zero;
+      load-keeps = Load.refused-keeps;
+      cfg = λ cfg. record { refused = cfg-refused cfg; accepted = Cfg.exactly cfg .accepts };
+      cfg-zero = cfg-zero;
+      write = λ out c. record { refused = Save.answers out c .refused; accepted = Save.answers out c .accepted };
+      write-zero = λ out c. Save.answers out c .zero;
+      write-keeps = λ out c. Save.answers out c .kept;
+      build = λ bin cfg out. record { refused = Build.answers bin cfg out .refused; accepted = Build.answers bin cfg out .accepted };
+      build-zero = build-zero;
+      build-keeps = λ bin cfg out. Build.answers bin cfg out .kept;
+    }

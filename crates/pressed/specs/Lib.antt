@@ -1,2 +1,0 @@
-pub mod Pressed
-pub mod Laws
