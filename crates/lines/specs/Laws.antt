@@ -1,2 +1,3 @@
 -- Theorems over the definitions.
 pub mod Lines
+pub mod Kinds

@@ -1,4 +1,5 @@
 pub mod Lines
 pub mod Bin
+pub mod Kinds
 pub mod Typed
 pub mod Laws

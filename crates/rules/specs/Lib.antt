@@ -1,5 +1,6 @@
 -- The rules' definitions, then their laws.
 pub mod Rules
+pub mod Chapters
 pub mod Accepted
 pub mod Survey
 pub mod Judged

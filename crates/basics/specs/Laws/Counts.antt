@@ -2,12 +2,12 @@
 use Prim.Native.Nat.{ℕ, _<_, zero, suc, _≤_, _+_}
 use mathlib.Core.Bool.{Bool, true, _||_, cond, false, _&&_}
 use mathlib.Core.Path.{_≡_, refl, sym, ap, _∙_}
-use mathlib.Core.Logic.{_⊎_, inl, inr}
+use mathlib.Core.Logic.{_⊎_, inl, inr, ⊎-elim}
 use native.Mathlib.Omega.{arith}
 use native.Mathlib.Nat.{eq-or-lt-of-le}
 use native.Mathlib.Numerals.{add-one}
 use lib.Dec.{eqb}
-use borrow.Author.Tests.{ne-eqb, eqb-true}
+use borrow.Author.Tests.{ne-eqb, eqb-true, eqb-false}
 use Rattle.basics.specs.Counts.{all, any, count}
 use Rattle.basics.specs.Laws.Tests.{and-right, and-left, and-true, or-right, true-is-not-false, or-cases, compare, cases}
 
@@ -128,10 +128,61 @@ count-imp-by true false m n f h = true-is-not-false (f refl) refl
 count-imp-by false true m n f h = omega arith
 count-imp-by false false m n f h = h
 
-pub count-imp : (f g : ℕ → Bool) (n : ℕ) → ((s : ℕ) → f s ≡ true → g s ≡ true) → count f n ≤ count g n
+pub count-imp : (f g : ℕ → Bool) (n : ℕ) → ((i : ℕ) → i < n → f i ≡ true → g i ≡ true) → count f n ≤ count g n
 unfolding count
 count-imp f g zero h = omega arith
-count-imp f g (suc n) h = count-imp-by (f n) (g n) (count f n) (count g n) (h n) (count-imp f g n h)
+count-imp f g (suc n) h = count-imp-by (f n) (g n) (count f n) (count g n) (h n (omega arith)) (count-imp f g n (λ i l. h i (omega arith)))
+
+-- at most one place more passes, a
+but-last : (c d : Bool) (m n : ℕ) → m ≤ n → cond c (suc m) m ≤ cond d (suc n) n + 1
+but-last true true m n h = omega arith
+but-last true false m n h = omega arith
+but-last false true m n h = omega arith
+but-last false false m n h = omega arith
+
+but-still : (c d : Bool) (m n : ℕ) → (c ≡ true → d ≡ true) → m ≤ n + 1 → cond c (suc m) m ≤ cond d (suc n) n + 1
+but-still true true m n f h = omega arith
+but-still true false m n f h = true-is-not-false (f refl) refl
+but-still false true m n f h = omega arith
+but-still false false m n f h = h
+
+pub count-but : (f g : ℕ → Bool) (a n : ℕ) → ((i : ℕ) → i < n → f i ≡ true → (g i ≡ true) ⊎ (i ≡ a)) → count f n ≤ count g n + 1
+unfolding count
+count-but f g a zero h = omega arith
+count-but f g a (suc n) h =
+    cases (eqb n a)
+    (λ e.
+    but-last (f n) (g n) (count f n) (count g n)
+    (count-imp f g n (λ i l t. ⊎-elim (λ q. q) (λ q. absurd (omega (arith, eqb-true n a e))) (h i (omega arith) t))))
+    (λ e.
+    but-still (f n) (g n) (count f n) (count g n) (λ t. ⊎-elim (λ q. q) (λ q. absurd (eqb-false n a e q)) (h n (omega arith) t))
+    (count-but f g a n (λ i l. h i (omega arith))))
+
+-- the first n places and those behind them; the first place and those behind it; the last place
+count-on : (b : Bool) (m n : ℕ) → cond b (suc (m + n)) (m + n) ≡ m + cond b (suc n) n
+count-on true m n = omega arith
+count-on false m n = refl
+
+pub count-add : (f : ℕ → Bool) (n m : ℕ) → count f (n + m) ≡ count f n + count (λ i. f (n + i)) m
+unfolding count
+count-add f n zero = let e : n + 0 ≡ n = omega arith in rw e (omega arith)
+count-add f n (suc m) =
+    let e : n + suc m ≡ suc (n + m) = omega arith in
+    rw (e, count-add f n m) (count-on (f (n + m)) (count f n) (count (λ i. f (n + i)) m))
+
+pub count-first : (f : ℕ → Bool) (n : ℕ) → count f (suc n) ≡ cond (f 0) 1 0 + count (λ i. f (suc i)) n
+unfolding count
+count-first f zero = omega arith
+count-first f (suc n) =
+    ap (λ (m : ℕ). cond (f (suc n)) (suc m) m) (count-first f n) ∙ count-on (f (suc n)) (cond (f 0) 1 0) (count (λ i. f (suc i)) n)
+
+pub count-last : (f : ℕ → Bool) (n : ℕ) → count f (suc n) ≡ count f n + cond (f n) 1 0
+unfolding count
+count-last f n = by (f n) (count f n)
+  where
+    by : (b : Bool) (m : ℕ) → cond b (suc m) m ≡ m + cond b 1 0
+    by true m = omega arith
+    by false m = omega arith
 
 count-or-by : (a b : Bool) (m n k : ℕ) → m ≤ n + k → cond (a || b) (suc m) m ≤ cond a (suc n) n + cond b (suc k) k
 count-or-by true true m n k h = omega arith

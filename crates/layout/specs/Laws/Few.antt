@@ -92,7 +92,7 @@ module _ {lines : List Line} (g : Good lines) where
 
   pub few-slots : pages lines ≤ length lines + 11
   unfolding pages
-  few-slots = omega (arith, count-imp (used lines) (near lines) slots used-near, near-few lines slots, eleven)
+  few-slots = omega (arith, count-imp (used lines) (near lines) slots (λ s l e. used-near s e), near-few lines slots, eleven)
 
   -- a lent RAM can have the words
   pub needed-small : needed lines ≤ lentLimit

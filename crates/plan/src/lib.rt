@@ -1,0 +1,1 @@
+// Plans: the kind of each paragraph and the pages of each chapter. Definitions and theorems; no code.
