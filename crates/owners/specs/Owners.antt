@@ -59,6 +59,11 @@ unfoldable pub leastOf : ℕ → (ℕ → ℕ) → ℕ
 leastOf zero f = 0
 leastOf (suc n) f = lesser (f n) (leastOf n f)
 
+-- the least number of the lines that pass a test
+abbrev pub leastHas : (Entry → Bool) → List Line → ℕ
+leastHas f [] = 0
+leastHas f (l ∷ ls) = lesser (only (f (l .entry)) (l .source)) (leastHas f ls)
+
 -- the least owner of the places that an entry claims
 abbrev pub ownedBy : (ℕ → Entry → Bool) → List ℕ → Entry → ℕ → ℕ
 ownedBy claims owners e p = only (claims p e) (getD owners p 0)

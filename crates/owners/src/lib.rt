@@ -12,8 +12,8 @@ use places::CHAPTER_PAGES;
 use places::CHAPTER_SIZE;
 use places::Console;
 use places::FLIP_ENTRIES;
-use places::PARAGRAPHS;
 use places::PARAGRAPH_SIZE;
+use places::PARAGRAPHS;
 
 // The numbers of the lines that own each paragraph, and each page of each chapter; 0 where nobody does.
 pub struct Owners {

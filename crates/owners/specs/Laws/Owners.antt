@@ -17,7 +17,7 @@ use Rattle.lines.specs.declared.Line.{Line}
 use Rattle.lines.specs.Typed.{All, nil, cons}
 use Rattle.lines.specs.Laws.Lines.{all-end, all-map}
 use Rattle.owners.specs.declared.Owners.{Owners}
-use Rattle.owners.specs.Owners.{claimsParagraph, claimsPage, only, orElse, firstHas, paragraphOwner, pageOwner, ownersOf, claimedBy, claimedBoth, lesser, leastOf, ownedBy, leastOwner}
+use Rattle.owners.specs.Owners.{claimsParagraph, claimsPage, only, orElse, firstHas, paragraphOwner, pageOwner, ownersOf, claimedBy, claimedBoth, lesser, leastOf, leastHas, ownedBy, leastOwner}
 use Rattle.owners.specs.Laws.Least.{else-none, else-assoc, only-none, lesser-none, lesser-both, least-same, least-join, least-only, least-nobody}
 
 -- before any line nobody owns a place
@@ -62,11 +62,6 @@ pub data Apart : List Line → Type 0 where
 pub apart-more : {ls : List Line} (l : Line) → Apart ls → All (λ m. common m (l .entry) ≡ false) ls → Apart (ls ++ (l ∷ []))
 apart-more l none nil = also nil none
 apart-more l (also a rest) (cons p ps) = also (all-end l a p) (apart-more l rest ps)
-
--- the least number of the lines that pass a test
-abbrev pub leastHas : (Entry → Bool) → List Line → ℕ
-leastHas f [] = 0
-leastHas f (l ∷ ls) = lesser (only (f (l .entry)) (l .source)) (leastHas f ls)
 
 least-or : (f g : Entry → Bool) (ls : List Line) → lesser (leastHas f ls) (leastHas g ls) ≡ leastHas (λ m. f m || g m) ls
 least-or f g [] = refl
