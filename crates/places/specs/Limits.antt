@@ -30,7 +30,8 @@ cardLimit = 24576
 abbrev pub cardWords : ℕ
 cardWords = 16384
 
--- the console's addresses: 16 chapters of 16 paragraphs of 256 words (01, The machine)
+-- the console's addresses: 16 chapters of 16 paragraphs of 256 words, so of 4,096 words (01, The machine); in chapter 4 a page has
+-- half of them, from $4800 on (01, What a CFG may say)
 abbrev pub chapters : ℕ
 chapters = 16
 
@@ -42,6 +43,15 @@ chapterParagraphs = 16
 
 abbrev pub paragraphSize : ℕ
 paragraphSize = 256
+
+abbrev pub chapterSize : ℕ
+chapterSize = 4096
+
+abbrev pub halfSize : ℕ
+halfSize = 2048
+
+abbrev pub halfStart : ℕ
+halfStart = 0x4800
 
 -- a chapter's pages, and the flip entries of all chapters, sixteen rows of sixteen (01, File layout); a chapter's layers are its pages
 -- and its plain lines (01, What a CFG may say)

@@ -34,7 +34,8 @@ pub const CARD_LIMIT: usize = 24576;
 
 pub const CARD_WORDS: usize = 16384;
 
-// The console's chapters and paragraphs, the paragraphs of a chapter, and the words of a paragraph.
+// The console's chapters and paragraphs, the paragraphs of a chapter, the words of a paragraph and of a chapter; and the words of
+// a page of chapter 4, and where they start.
 pub const CHAPTERS: usize = 16;
 
 pub const PARAGRAPHS: usize = 256;
@@ -42,6 +43,12 @@ pub const PARAGRAPHS: usize = 256;
 pub const CHAPTER_PARAGRAPHS: usize = 16;
 
 pub const PARAGRAPH_SIZE: usize = 256;
+
+pub const CHAPTER_SIZE: usize = 4096;
+
+pub const HALF_SIZE: usize = 2048;
+
+pub const HALF_START: usize = 0x4800;
 
 // A chapter's pages, the flip entries of all chapters, and a chapter's layers: its pages and its plain lines.
 pub const CHAPTER_PAGES: usize = 16;

@@ -1,59 +1,46 @@
 -- Rules 25 and 26, line by line: the lines before line k pass, and the first fault is that of the lines from k on.
 use Prim.Native.Nat.{ℕ, _≤_, _<_, _+_}
 use mathlib.Core.List.{List}
-use mathlib.Core.Path.{_≡_, refl, sym, _∙_}
-use mathlib.Core.Bool.{Bool, true, false}
+use mathlib.Core.Path.{_≡_, refl, sym, _∙_, ap}
 use native.Mathlib.Omega.{arith}
 use lib.ListN.{take, length, drop, getD}
-use Rattle.basics.specs.Rows.{firstOf}
+use Rattle.basics.specs.declared.Refusal.{Refusal}
+use Rattle.basics.specs.Refusals.{noRefusal, firstRefusal}
+use Rattle.basics.specs.Laws.Refusals.{refused-front}
+use Rattle.places.specs.Limits.{lineLimit}
 use Rattle.lines.specs.declared.Line.{Line}
-use Rattle.lines.specs.Typed.{All, nil, Typed}
-use Rattle.rules.specs.declared.Judged.{Judged}
-use Rattle.rules.specs.Rules.{Verdict, lineRows, passed, outOfRange, misshapen}
-use Rattle.rules.specs.Judged.{judged}
-use Rattle.rules.specs.Code.Shapes.{Fine}
-use Rattle.rules.proofs.Lists.{last-line, next-line, all-more}
-use Rattle.rules.specs.Code.Survey.{noLine}
-use Rattle.rules.specs.Laws.Shapes.{fine-of}
-
--- what is found of the lines
-abbrev pub fault : ℕ → ℕ → List Line → Verdict
-fault words n lines = firstOf (lineRows words (take n lines)) passed
-
-abbrev pub Fault : ℕ → ℕ → List Line → Judged → Type 0
-Fault words n lines r = (r ≡ judged (fault words n lines) 0) × (r .number ≡ 0 → All Fine (take n lines))
+use Rattle.rules.specs.Rules.{rowsOf, lineRows}
+use Rattle.rules.specs.Laws.Refusals.{rows-refuse, passed-front}
+use Rattle.rules.proofs.Lists.{noLine, next-line, last-line}
 
 pub record Checked (words n : ℕ) (lines : List Line) (k : ℕ) : Type 0 where
   pub up : k ≤ n
-  pub long : length lines ≡ 64
-  pub fine : All Fine (take k lines)
-  pub same : fault words n lines ≡ firstOf (lineRows words (drop k (take n lines))) passed
+  pub long : length lines ≡ lineLimit
+  pub same : firstRefusal (lineRows words (take n lines)) ≡ firstRefusal (lineRows words (drop k (take n lines)))
 
-pub checked-none : (words n : ℕ) (lines : List Line) → length lines ≡ 64 → Checked words n lines 0
-checked-none words n lines h = record { up = omega arith; long = h; fine = nil; same = refl }
+pub checked-none : (words n : ℕ) (lines : List Line) → length lines ≡ lineLimit → Checked words n lines 0
+checked-none words n lines h = record { up = omega arith; long = h; same = refl }
 
-module _ (words n : ℕ) (lines : List Line) (m : n ≤ 64) (k : ℕ) (c : Checked words n lines k) where
+module _ (words n : ℕ) (lines : List Line) (m : n ≤ lineLimit) (k : ℕ) (c : Checked words n lines k) where
   within : n ≤ length lines
   within = omega (arith, c .long)
 
-  pub checked-all : n ≤ k → Fault words n lines (record { number = 0; place = 0; with = 0 })
-  checked-all h =
-      let e : k ≡ n = omega (arith, c .up) in
-      (rw (c .same, last-line n lines within k h), λ z. rw e at (c .fine))
+  pub checked-all : n ≤ k → (r : Refusal) → r ≡ noRefusal → r ≡ firstRefusal (lineRows words (take n lines))
+  checked-all h r e = e ∙ sym (rw (c .same, last-line n lines within k h))
 
-  module _ (h : k < n) (b : Bool) (typed : (b ≡ outOfRange words (getD lines k noLine .entry)) × Typed (getD lines k noLine .entry)) where
-    pub checked-25 : b ≡ true → Fault words n lines (record { number = 25; place = getD lines k noLine .source; with = 0 })
-    checked-25 e = (rw (c .same, next-line n lines within k h, ← typed .0, e), λ z. absurd (omega arith))
+  module _ (h : k < n) (r : Refusal) (e : r ≡ firstRefusal (rowsOf words (getD lines k noLine))) where
+    pub checked-hit : (r .number ≡ 0 → ⊥) → r ≡ firstRefusal (lineRows words (take n lines))
+    checked-hit q =
+        rw (c .same, next-line n lines within k h)
+        (e ∙ sym (refused-front (rowsOf words (getD lines k noLine)) (lineRows words (drop (k + 1) (take n lines))) (λ z. q (ap (λ (x : Refusal). x .number) e ∙ z))))
 
-    module _ (e : b ≡ false) (d : Bool) (t : d ≡ misshapen (getD lines k noLine .entry)) where
-      pub checked-26 : d ≡ true → Fault words n lines (record { number = 26; place = getD lines k noLine .source; with = 0 })
-      checked-26 f = (rw (c .same, next-line n lines within k h, ← typed .0, e, ← t, f), λ z. absurd (omega arith))
-
-      pub checked-more : d ≡ false → Checked words n lines (k + 1)
-      checked-more f =
-          record {
-            up = omega arith;
-            long = c .long;
-            fine = all-more n lines within k h (c .fine) (fine-of words _ (typed .1) (sym (typed .0) ∙ e) (sym t ∙ f));
-            same = c .same ∙ rw (next-line n lines within k h, ← typed .0, e, ← t, f);
-          }
+    pub checked-more : r .number ≡ 0 → Checked words n lines (k + 1)
+    checked-more q =
+        record {
+          up = omega arith;
+          long = c .long;
+          same =
+              rw (c .same, next-line n lines within k h)
+              (passed-front (rowsOf words (getD lines k noLine)) (lineRows words (drop (k + 1) (take n lines))) (rows-refuse words (getD lines k noLine))
+              (sym (ap (λ (x : Refusal). x .number) e) ∙ q));
+        }

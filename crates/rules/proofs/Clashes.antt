@@ -1,80 +1,85 @@
--- Rule 27, line by line: the owners are those of the lines before line k, and the first clash is among the lines from k on.
-use Prim.Native.Nat.{ℕ, _≤_, _<_, _-_, _+_, suc}
+-- Rule 27, line by line: the owners are those of the lines before line k, none of which share, and the first that shares is among the
+-- lines from k on.
+use Prim.Native.Nat.{ℕ, _≤_, _<_, _+_}
 use mathlib.Core.List.{List, []}
-use mathlib.Core.Path.{_≡_, refl, _∙_, ap, sym}
+use mathlib.Core.Bool.{true, false, not}
+use mathlib.Core.Path.{_≡_, refl, sym, _∙_, ap}
 use native.Mathlib.Omega.{arith}
-use lib.ListN.{take, length, drop, replicate, getD}
+use lib.Dec.{eqb}
+use lib.ListN.{take, length, drop, getD}
 use borrow.Author.Tests.{ne-eqb, eq-eqb}
-use Rattle.basics.specs.Rows.{firstOf}
-use Rattle.basics.specs.Lists.{laid}
+use Rattle.basics.specs.declared.Refusal.{Refusal}
+use Rattle.basics.specs.Refusals.{refuse, noRefusal, firstRefusal}
+use Rattle.places.specs.Limits.{lineLimit}
 use Rattle.lines.specs.declared.Line.{Line}
+use Rattle.lines.specs.declared.Entry.{Entry}
 use Rattle.lines.specs.Typed.{All}
-use Rattle.rules.specs.declared.Judged.{Judged}
-use Rattle.rules.specs.Judged.{judged, sharer}
-use Rattle.rules.specs.Rules.{shareRows, passed, shares, rival}
-use Rattle.rules.specs.Code.Numbers.{Owns, Spans, leastIn, lesser, takes}
-use Rattle.rules.specs.Code.Survey.{claimsParagraph, claimsPage, noLine, lineOf}
-use Rattle.rules.specs.Laws.Numbers.{owns-none, number-most, rival-owned, line-taken, owns-more}
+use Rattle.owners.specs.declared.Owners.{Owners}
+use Rattle.owners.specs.Owners.{ownersOf, claimedBoth, leastOwner, leastHas}
+use Rattle.owners.specs.Laws.Owners.{owners-more, Apart, none, apart-more}
+use Rattle.rules.specs.Rules.{shareRows, shares, sharesEarlier, firstRival}
 use Rattle.rules.specs.Code.Shapes.{Fine}
-use Rattle.rules.proofs.Lists.{last-line, all-passed, all-line, passed-length, next-line, passed-line}
-use Rattle.rules.specs.Survey.{numberOf}
-use Rattle.rules.specs.Laws.Shares.{rival-number}
+use Rattle.rules.specs.Code.Clashes.{Allowed, Clashed}
+use Rattle.rules.specs.Laws.Shares.{met-least, shared-numbered, none-common}
+use Rattle.rules.proofs.Lists.{noLine, next-line, last-line, passed-line, all-line, all-passed, each-passed}
 
-abbrev pub clash : ℕ → List Line → Judged
-clash n lines = judged (firstOf (shareRows [] (take n lines)) passed) (sharer [] (take n lines))
-
-pub record Clashing (n : ℕ) (lines : List Line) (o q : List ℕ) (k : ℕ) : Type 0 where
+pub record Clashing (n : ℕ) (lines : List Line) (owners : Owners) (k : ℕ) : Type 0 where
   pub up : k ≤ n
-  pub long : length lines ≡ 64
-  pub paragraphs : Owns 256 claimsParagraph (take k lines) o
-  pub pages : Owns 256 claimsPage (take k lines) q
-  pub verdict : firstOf (shareRows [] (take n lines)) passed ≡ firstOf (shareRows (take k lines) (drop k (take n lines))) passed
-  pub other : sharer [] (take n lines) ≡ sharer (take k lines) (drop k (take n lines))
+  pub long : length lines ≡ lineLimit
+  pub owned : owners ≡ ownersOf (take k lines)
+  pub apart : Apart (take k lines)
+  pub rows : firstRefusal (shareRows [] (take n lines)) ≡ firstRefusal (shareRows (take k lines) (drop k (take n lines)))
+  pub rival : firstRival [] (take n lines) ≡ firstRival (take k lines) (drop k (take n lines))
 
-pub clashing-none : (n : ℕ) (lines : List Line) → length lines ≡ 64 → Clashing n lines (replicate 256 0) (replicate 256 0) 0
-clashing-none n lines h =
-    record {
-      up = omega arith;
-      long = h;
-      paragraphs = owns-none 256 claimsParagraph;
-      pages = owns-none 256 claimsPage;
-      verdict = refl;
-      other = refl;
-    }
+pub clashing-none : (n : ℕ) (lines : List Line) (owners : Owners) → length lines ≡ lineLimit → owners ≡ ownersOf [] → Clashing n lines owners 0
+clashing-none n lines owners h e = record { up = omega arith; long = h; owned = e; apart = none; rows = refl; rival = refl }
 
-module _ (n : ℕ) (lines : List Line) (pre : (n ≤ 64) × All Fine (take n lines)) (o q : List ℕ) (k : ℕ) (c : Clashing n lines o q k) where
+module _ (n : ℕ) (lines : List Line) (pre : (n ≤ lineLimit) × Allowed (take n lines)) (owners : Owners) (k : ℕ) (c : Clashing n lines owners k) where
   within : n ≤ length lines
   within = omega (arith, c .long, pre .0)
 
-  pub clashing-all : n ≤ k → record { number = 0; place = 0; with = 0 } ≡ clash n lines
-  clashing-all h = rw (c .verdict, c .other, last-line n lines within k h)
+  pub clashing-all : n ≤ k → (r : Refusal) → r ≡ noRefusal → Clashed (take n lines) (record { refusal = r; with = 0; owners = owners })
+  clashing-all h r e =
+      let z : k ≡ n = omega (arith, c .up) in
+      record {
+        refusal = e ∙ sym (rw (c .rows, last-line n lines within k h));
+        with = sym (rw (c .rival, last-line n lines within k h));
+        owners = λ q. rw z at (c .owned);
+      }
 
-  module _ (h : k < n) (a i b j r u v : ℕ) (s : Spans 256 claimsParagraph (getD lines k noLine .entry) a i) (t : Spans 256 claimsPage (getD lines k noLine .entry) b j)
-      (ru : u ≡ leastIn o a i) (rv : v ≡ leastIn q b j) (rr : r ≡ lesser u v) where
-    found : r ≡ numberOf (λ m. shares m (getD lines k noLine .entry)) (take k lines)
-    found =
-        rr ∙ rw (ru, rv)
-        (rival-number (take k lines) (getD lines k noLine .entry) o q a i b j (all-passed n lines (pre .1) k (c .up)) (all-line n lines within (pre .1) k h)
-        (c .paragraphs) (c .pages) s t)
+  module _ (h : k < n) (o : ℕ) (eo : o ≡ leastOwner owners (getD lines k noLine .entry)) where
+    abbrev entry : Entry
+    entry = getD lines k noLine .entry
 
-    pub clash-below : r ≤ k
-    clash-below = rw found (let m : length (take k lines) ≡ k = passed-length n lines within k (c .up) in omega (arith, number-most (λ m. shares m (getD lines k noLine .entry)) (take k lines)))
+    fine : All Fine (take k lines)
+    fine = all-passed n lines (pre .1 .fine) k (c .up)
 
-    rivals : rival (take k lines) (getD lines k noLine .entry) ≡ lineOf lines r
-    rivals = rival-owned (take k lines) (getD lines k noLine .entry) ∙ ap (lineOf (take k lines)) (sym found) ∙ line-taken k r lines clash-below
+    this : Fine entry
+    this = all-line n lines within (pre .1 .fine) k h
 
-    pub clash-hit : (r ≡ 0 → ⊥) → record { number = 27; place = getD lines k noLine .source; with = getD lines (r - 1) noLine .source } ≡ clash n lines
-    clash-hit e = rw (c .verdict, c .other, next-line n lines within k h, rivals, ne-eqb r 0 e)
+    least : o ≡ leastHas (λ m. shares m entry) (take k lines)
+    least = eo ∙ rw (c .owned) (met-least (take k lines) entry fine this (c .apart))
 
-    pub clashing-more : r ≡ 0 → (number : ℕ) → number ≡ k + 1 → (o′ q′ : List ℕ)
-        → o′ ≡ laid a i (λ x. takes number (getD o (a + x) 0)) o → q′ ≡ laid b j (λ x. takes number (getD q (b + x) 0)) q → Clashing n lines o′ q′ (k + 1)
-    clashing-more e number en o′ q′ eo eq =
-        let m : number ≡ suc (length (take k lines)) = omega (arith, passed-length n lines within k (c .up)) in
+    meets : sharesEarlier (take k lines) entry ≡ not (eqb o 0)
+    meets = rw least (shared-numbered (take k lines) entry (each-passed n lines (pre .1 .numbered) k (c .up)))
+
+    pub clash-hit : (o ≡ 0 → ⊥) → (r : Refusal) → r ≡ refuse 27 (getD lines k noLine .source) → Clashed (take n lines) (record { refusal = r; with = o; owners = owners })
+    clash-hit e r er =
+        let s : sharesEarlier (take k lines) entry ≡ true = meets ∙ rw (ne-eqb o 0 e) in
+        record {
+          refusal = er ∙ sym (rw (c .rows, next-line n lines within k h, s));
+          with = least ∙ sym (rw (c .rival, next-line n lines within k h, s));
+          owners = λ q. absurd (omega (arith, ap (λ (x : Refusal). x .number) er));
+        }
+
+    pub clashing-more : o ≡ 0 → (next : Owners) → next ≡ claimedBoth owners (getD lines k noLine) → Clashing n lines next (k + 1)
+    clashing-more e next en =
+        let s : sharesEarlier (take k lines) entry ≡ false = meets ∙ rw (eq-eqb o 0 e) in
         record {
           up = omega arith;
           long = c .long;
-          paragraphs = rw (passed-line n lines within k h, eo) (owns-more 256 claimsParagraph (take k lines) (getD lines k noLine) o a i number (c .paragraphs) s m);
-          pages = rw (passed-line n lines within k h, eq) (owns-more 256 claimsPage (take k lines) (getD lines k noLine) q b j number (c .pages) t m);
-          verdict = c .verdict ∙ rw (next-line n lines within k h, rivals, eq-eqb r 0 e, passed-line n lines within k h);
-          other = c .other ∙ rw (next-line n lines within k h, rivals, eq-eqb r 0 e, passed-line n lines within k h);
+          owned = en ∙ rw (c .owned, passed-line n lines within k h) (owners-more (take k lines) (getD lines k noLine));
+          apart = rw (passed-line n lines within k h) (apart-more (getD lines k noLine) (c .apart) (none-common (take k lines) entry fine this s));
+          rows = c .rows ∙ rw (next-line n lines within k h, s, passed-line n lines within k h);
+          rival = c .rival ∙ rw (next-line n lines within k h, s, passed-line n lines within k h);
         }

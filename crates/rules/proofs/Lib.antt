@@ -1,10 +1,8 @@
 pub mod Tests
 pub mod Lists
-pub mod Claims
+pub mod Joined
 pub mod Checked
 pub mod Clashes
-pub mod Joined
-pub mod Verdicts
-pub mod Owning
 pub mod Covers
+pub mod Parts
 pub mod Same

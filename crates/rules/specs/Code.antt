@@ -1,5 +1,4 @@
 -- What private functions promise.
 pub mod Shapes
-pub mod Survey
-pub mod Numbers
-pub mod Spans
+pub mod Clashes
+pub mod Chapters

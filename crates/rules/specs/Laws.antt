@@ -1,10 +1,6 @@
 -- Theorems over the definitions.
-pub mod Owners
-pub mod Row
+pub mod Refusals
 pub mod Shapes
 pub mod Rules
-pub mod Numbers
-pub mod Spans
 pub mod Shares
-pub mod Survey
-pub mod Refusals
+pub mod Chapters

@@ -1,8 +1,7 @@
 -- The rules' definitions, then their laws.
+pub mod Chapters
 pub mod Rules
 pub mod Chapters
 pub mod Accepted
-pub mod Survey
-pub mod Judged
 pub mod Code
 pub mod Laws

@@ -1,6 +1,6 @@
 -- Which line holds an address: what is known of a line that was found, and addresses at which the same line is found.
 use Prim.Native.Nat.{ℕ, _<_, zero, suc, _≤_}
-use mathlib.Core.List.{List}
+use mathlib.Core.List.{List, [], _∷_, _++_}
 use mathlib.Core.Path.{_≡_, refl}
 use mathlib.Core.Bool.{true, _&&_}
 use mathlib.Core.Option.{some, Option}
@@ -20,6 +20,15 @@ pub all-at : {P : Entry → Type 0} {lines : List Line} → All P lines → (d :
 all-at nil d i h = absurd (omega arith)
 all-at (cons p ps) d zero h = p
 all-at (cons p ps) d (suc i) h = all-at ps d i (omega arith)
+
+pub all-end : {P : Entry → Type 0} {lines : List Line} (l : Line) → All P lines → P (l .entry) → All P (lines ++ (l ∷ []))
+all-end l nil p = cons p nil
+all-end l (cons q qs) p = cons q (all-end l qs p)
+
+-- a fact that another one gives
+pub all-map : {P Q : Entry → Type 0} {lines : List Line} → ((e : Entry) → P e → Q e) → All P lines → All Q lines
+all-map f nil = nil
+all-map f (cons {l = l} p ps) = cons (f (l .entry) p) (all-map f ps)
 
 -- an address within a line
 pub record Within (e : Entry) (a : ℕ) : Type 0 where

@@ -1,7 +1,7 @@
 -- `rules::line_fault` meets its contract. The loop's invariant: the lines before line k pass 25 and 26.
 use Prim.Native.Nat.{_-_}
 use borrow.Author.Needs.{needs}
-use Rattle.rules.proofs.Checked.{Checked, checked-none, checked-25, checked-26, checked-more, checked-all}
+use Rattle.rules.proofs.Checked.{Checked, checked-none, checked-hit, checked-more, checked-all}
 use Rattle.rules.proofs.line_fault.Statement.{statement}
 use Rattle.rules.proofs.line_fault.Tie as tie
 
@@ -15,16 +15,13 @@ loop-holds : tie.Need-loop-holds Inv-loop μ-loop
 loop-holds c = search (needs, checked-none)
 
 returns : tie.Need-returns Inv-loop μ-loop
-returns c = checked-25 _ _ _ (c .before .before .before .before .before .pre) _ (c .before .before .before .before .loop .inv) (c .before .before .before .loop-test .taken) _ (c .before .out-of-range .ensures) (c .if1 .taken)
-
-returns-2 : tie.Need-returns-2 Inv-loop μ-loop
-returns-2 c = checked-26 _ _ _ (c .before .before .before .before .before .before .before .pre) _ (c .before .before .before .before .before .before .loop .inv) (c .before .before .before .before .before .loop-test .taken) _ (c .before .before .before .out-of-range .ensures) (c .before .before .if1 .left) _ (c .before .is-misshapen .ensures) (c .if2 .taken)
+returns c = search (needs, checked-hit)
 
 loop-again : tie.Need-loop-again Inv-loop μ-loop
-loop-again c = checked-more _ _ _ (c .before .before .before .before .before .before .before .pre) _ (c .before .before .before .before .before .before .loop .inv) (c .before .before .before .before .before .loop-test .taken) _ (c .before .before .before .out-of-range .ensures) (c .before .before .if1 .left) _ (c .before .is-misshapen .ensures) (c .if2 .left)
+loop-again c = search (needs, checked-more)
 
-returns-3 : tie.Need-returns-3 Inv-loop μ-loop
-returns-3 c = checked-all _ _ _ (c .before .before .pre) _ (c .before .loop .inv) (c .loop-test .left)
+returns-2 : tie.Need-returns-2 Inv-loop μ-loop
+returns-2 c = search (needs, checked-all)
 
 pub line-fault-spec : {M : Type 1} → statement M
 line-fault-spec =
@@ -37,9 +34,8 @@ line-fault-spec =
     (λ c. search needs)
     (λ c κs. search needs)
     returns
-    (λ c κs. search needs)
-    returns-2
     (λ c. search needs)
     (λ c. search needs)
     loop-again
-    returns-3)
+    (λ c κs. search needs)
+    returns-2)

@@ -2,24 +2,25 @@
 use Prim.Native.Nat.{ℕ, _%_, _≤_, _<_, _*_, _/_, _+_, suc}
 use mathlib.Core.Path.{_≡_}
 use mathlib.Core.Logic.{_⊎_}
+use Rattle.places.specs.Limits.{paragraphSize, chapterSize, chapterPages}
 use Rattle.switches.specs.Flips.{firstK}
 use Rattle.lines.specs.declared.Entry.{Entry}
 use Rattle.lines.specs.Lines.{layer, first, last}
 
 -- words a to b, whole paragraphs, clear of the three silent ranges
 pub record PlainShape (a b : ℕ) : Type 0 where
-  pub start : a % 256 ≡ 0
-  pub end : b % 256 ≡ 255
+  pub start : a % paragraphSize ≡ 0
+  pub end : b % paragraphSize ≡ 255
   pub above : 0x500 ≤ a
   pub one : (b < 0x1000) ⊎ (0x2000 ≤ a)
   pub three : (b < 0x3000) ⊎ (0x4000 ≤ a)
 
 -- words a to b, the flippable range of a chapter: 2 or 4 to 15
 pub record PageShape (a b : ℕ) : Type 0 where
-  pub start : a ≡ 4096 * (a / 4096) + 256 * firstK (a / 4096)
-  pub end : b ≡ 4096 * (a / 4096) + 4095
-  pub above : 2 ≤ a / 4096
-  pub not-three : a / 4096 ≡ 3 → ⊥
+  pub start : a ≡ chapterSize * (a / chapterSize) + paragraphSize * firstK (a / chapterSize)
+  pub end : suc b ≡ chapterSize * suc (a / chapterSize)
+  pub above : 2 ≤ a / chapterSize
+  pub not-three : a / chapterSize ≡ 3 → ⊥
 
 pub record PlainLine (e : Entry) : Type 0 where
   pub on : layer e ≡ 0
@@ -28,7 +29,7 @@ pub record PlainLine (e : Entry) : Type 0 where
 pub record PageLine (e : Entry) : Type 0 where
   pub page : ℕ
   pub on : layer e ≡ suc page
-  pub digit : page < 16
+  pub digit : page < chapterPages
   pub shape : PageShape (first e) (last e)
 
 pub record Fine (e : Entry) : Type 0 where

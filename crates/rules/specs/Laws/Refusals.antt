@@ -1,117 +1,60 @@
--- The rules refuse exactly when one of them is broken, with the number and place of the first that is; and in lines that they
--- accept each word has one owner.
-use Prim.Native.Nat.{ℕ, zero, suc, _<_, _+_, _/_}
-use mathlib.Core.List.{List, [], _∷_, _++_, append-assoc}
-use mathlib.Core.Bool.{Bool, false, true, _&&_, cond}
-use mathlib.Core.Path.{_≡_, refl, ap, _∙_, sym}
-use mathlib.Core.Logic.{_↔_, _⊎_, inl, inr}
-use mathlib.Core.Option.{none, some}
+-- The rules' answer: refused with a number and a place exactly when that row holds and none before it does, accepted exactly when no
+-- row holds; and tables of rows one behind the other.
+use Prim.Native.Nat.{ℕ, zero, suc}
+use mathlib.Core.List.{List, [], _∷_, _++_}
+use mathlib.Core.Bool.{Bool}
+use mathlib.Core.Path.{_≡_, ap}
+use mathlib.Core.Logic.{_↔_}
 use native.Mathlib.Omega.{arith}
-use lib.ListN.{length, getD, List·getD-append, length-append}
-use lib.Dec.{eqb}
-use borrow.Author.Tests.{eqb-true, le-leb, eq-eqb, ne-eqb}
-use Rattle.basics.specs.Laws.Numbered.{Refusing, refusing-append, refused-exactly as exactly-refused, accepted-exactly as exactly-accepted}
+use Rattle.basics.specs.declared.Refusal.{Refusal}
 use Rattle.basics.specs.Tables.{made}
 use Rattle.basics.specs.Rows.{Row, Gives, Silent}
+use Rattle.basics.specs.Refusals.{refuse, noRefusal, firstRefusal}
 use Rattle.basics.specs.Laws.Rows.{silent-first}
-use Rattle.basics.specs.Laws.Tests.{cases, and-left, and-right, true-is-not-false, compare}
-use Rattle.basics.specs.Laws.Options.{some-is-not-none}
+use Rattle.basics.specs.Laws.Refusals.{Refusing, refusing-append, silent-behind, refused-exactly, accepted-exactly}
+use Rattle.places.specs.Limits.{chapters}
 use Rattle.lines.specs.declared.Line.{Line}
-use Rattle.lines.specs.declared.Entry.{Entry}
-use Rattle.lines.specs.Lines.{layer, first, last}
-use Rattle.lines.specs.Laws.Lines.{Within, within, all-at}
-use Rattle.rules.specs.Rules.{Verdict, lineRows, shareRows, ruleRows, chapterRows, breaksPlain, judgeOf, passed, rival, shares, meets}
-use Rattle.rules.specs.Laws.Rules.{Apart, done, next, chapter-of, page-line, Good, good}
-use Rattle.rules.specs.Code.Shapes.{Fine}
-use Rattle.rules.specs.Laws.Owners.{there}
-use Rattle.rules.specs.Accepted.{Accepted}
+use Rattle.rules.specs.Rules.{rowsOf, lineRows, shareRows, chapterRows, breaksPlain, refusalRows, refusalOf}
 
--- the number of a verdict; every row refuses with one
-abbrev pub numberOf : Verdict → ℕ
-numberOf v = v .0
+pub record Exactly (words : ℕ) (lines : List Line) (answer : Refusal) : Type 0 where
+  -- refused so exactly when that row holds and none before it does
+  pub refuses : (r : Refusal) → (r .number ≡ 0 → ⊥) → (answer ≡ r) ↔ Gives (refusalRows words lines) r
+  -- accepted exactly when no row holds
+  pub accepts : (answer ≡ noRefusal) ↔ Silent (refusalRows words lines)
 
-line-rows : (words : ℕ) (lines : List Line) → Refusing numberOf (lineRows words lines)
+-- every row refuses with a number
+pub rows-refuse : (words : ℕ) (l : Line) → Refusing (rowsOf words l)
+rows-refuse words l = ((λ z. omega arith), ((λ z. omega arith), tt))
+
+pub line-rows : (words : ℕ) (lines : List Line) → Refusing (lineRows words lines)
 line-rows words [] = tt
-line-rows words (l ∷ ls) = ((λ z. omega arith), ((λ z. omega arith), line-rows words ls))
+line-rows words (l ∷ ls) = refusing-append (rowsOf words l) (lineRows words ls) (rows-refuse words l) (line-rows words ls)
 
-share-rows : (earlier lines : List Line) → Refusing numberOf (shareRows earlier lines)
+pub share-rows : (earlier lines : List Line) → Refusing (shareRows earlier lines)
 share-rows earlier [] = tt
 share-rows earlier (l ∷ ls) = ((λ z. omega arith), share-rows (earlier ++ (l ∷ [])) ls)
 
-chapter-rows : (f : ℕ → Bool) (i n : ℕ) → Refusing numberOf (made {A = Row Verdict} i n (λ x. (f x, (28, x))))
+chapter-rows : (f : ℕ → Bool) (i n : ℕ) → Refusing (made {A = Row Refusal} i n (λ x. (f x, refuse 28 x)))
 unfolding made
 chapter-rows f i zero = tt
 chapter-rows f i (suc n) = ((λ z. omega arith), chapter-rows f (suc i) n)
 
-pub rule-rows : (words : ℕ) (lines : List Line) → Refusing numberOf (ruleRows words lines)
-rule-rows words lines =
-    refusing-append numberOf (lineRows words lines) (shareRows [] lines ++ chapterRows lines) (line-rows words lines)
-    (refusing-append numberOf (shareRows [] lines) (chapterRows lines) (share-rows [] lines) (chapter-rows (breaksPlain lines) 0 16))
+pub each-refuses : (words : ℕ) (lines : List Line) → Refusing (refusalRows words lines)
+each-refuses words lines =
+    refusing-append (lineRows words lines) (shareRows [] lines ++ chapterRows lines) (line-rows words lines)
+    (refusing-append (shareRows [] lines) (chapterRows lines) (share-rows [] lines) (chapter-rows (breaksPlain lines) 0 chapters))
 
-module _ (words : ℕ) (lines : List Line) where
-  -- refused with a number and a place exactly when that row holds and none before it does
-  pub refused-exactly : (v : Verdict) → 0 < v .0 → (judgeOf words lines ≡ v) ↔ Gives (ruleRows words lines) v
-  unfolding judgeOf
-  refused-exactly v h = exactly-refused numberOf (ruleRows words lines) (rule-rows words lines) passed refl v (λ z. omega arith)
+pub exactly : (words : ℕ) (lines : List Line) → Exactly words lines (refusalOf words lines)
+unfolding refusalOf
+exactly words lines =
+    record {
+      refuses = refused-exactly (refusalRows words lines) (each-refuses words lines);
+      accepts = (
+        λ e. accepted-exactly (refusalRows words lines) (each-refuses words lines) .0 (ap (λ (r : Refusal). r .number) e),
+        λ s. silent-first noRefusal s,
+      );
+    }
 
-  -- accepted exactly when no row holds
-  pub accepted-exactly : (judgeOf words lines ≡ passed) ↔ Silent (ruleRows words lines)
-  unfolding judgeOf
-  accepted-exactly =
-      ((λ e. exactly-accepted numberOf (ruleRows words lines) (rule-rows words lines) passed refl .0 (ap numberOf e)), (λ s. silent-first passed s))
-
--- no two accepted lines share
-rival-none : (d : Line) (es : List Line) (e : Entry) → rival es e ≡ none → (i : ℕ) → i < length es → shares (getD es i d .entry) e ≡ false
-rival-none d [] e h i b = absurd (omega arith)
-rival-none d (m ∷ ms) e h i b =
-    cases (shares (m .entry) e)
-    (λ s. let z : some m ≡ none = simp s at h in some-is-not-none refl z)
-    (λ s. at i b s (λ j c. rival-none d ms e (simp s at h) j c))
-  where
-    at : (k : ℕ) → k < length (m ∷ ms) → shares (m .entry) e ≡ false → ((j : ℕ) → j < length ms → shares (getD ms j d .entry) e ≡ false) →
-        shares (getD (m ∷ ms) k d .entry) e ≡ false
-    at zero c s k = s
-    at (suc j) c s k = k j (omega arith)
-
-apart-at : (d : Line) {es ls : List Line} → Apart es ls → (i j : ℕ) → j < length ls → i < length es + j →
-    shares (getD (es ++ ls) i d .entry) (getD ls j d .entry) ≡ false
-apart-at d done i j b c = absurd (omega arith)
-apart-at d {es = es} (next {ls = ls} {l = l} h r) i zero b c =
-    let k : i < length es = omega arith in
-    rw (List·getD-append es (l ∷ ls) d i k) (rival-none d es (l .entry) h i k)
-apart-at d {es = es} (next {ls = ls} {l = l} h r) i (suc j) b c =
-    rw append-assoc at (apart-at d r i j (omega arith) (rw length-append (omega arith)))
-
-shares-both : (e m : Entry) → Fine e → Fine m → (t a : ℕ) → there e t a ≡ true → there m t a ≡ true → shares e m ≡ true
-unfolding shares
-shares-both e m f g t a h k =
-    let o : layer e ≡ t = eqb-true _ _ (and-left _ _ h) in
-    let q : layer m ≡ t = eqb-true _ _ (and-left _ _ k) in
-    let w : Within e a = within e a (and-right (eqb (layer e) t) _ h) in
-    let v : Within m a = within m a (and-right (eqb (layer m) t) _ k) in
-    by t o q w v
-  where
-    by : (u : ℕ) → layer e ≡ u → layer m ≡ u → Within e a → Within m a →
-        eqb (layer e) (layer m) && cond (eqb (layer e) 0) (meets (first e) (last e) (first m) (last m)) (eqb (first e / 4096) (first m / 4096)) ≡ true
-    by zero o q w v = simp (o, q, le-leb (first e) (last m) (omega (arith, w .from, v .to)), le-leb (first m) (last e) (omega (arith, w .to, v .from)))
-    by (suc y) o q w v =
-        let c : first e / 4096 ≡ first m / 4096 = chapter-of (page-line f o) a w ∙ sym (chapter-of (page-line g q) a v) in
-        simp (o, q, eq-eqb (suc y) (suc y) refl, ne-eqb (suc y) 0 (omega arith), eq-eqb (first e / 4096) (first m / 4096) c)
-
-module _ {bin : List ℕ} {lines : List Line} (accepted : Accepted bin lines) (d : Line) (t a : ℕ) where
-  never : (i j : ℕ) → i < j → j < length lines → there (getD lines i d .entry) t a ≡ true → there (getD lines j d .entry) t a ≡ true → ⊥
-  never i j c b h k =
-      let g : Good lines = good accepted in
-      true-is-not-false
-      (shares-both (getD lines i d .entry) (getD lines j d .entry) (all-at (g .fine) d i (omega arith)) (all-at (g .fine) d j b) t a h k)
-      (apart-at d (g .apart) i j b (omega arith))
-
-  -- of two lines that hold an address on one layer, the numbers are one
-  pub one-owner : (i j : ℕ) → i < length lines → j < length lines → there (getD lines i d .entry) t a ≡ true →
-      there (getD lines j d .entry) t a ≡ true → i ≡ j
-  one-owner i j b c h k = by (compare i j)
-    where
-      by : (i ≡ j) ⊎ ((i < j) ⊎ (j < i)) → i ≡ j
-      by (inl e) = e
-      by (inr (inl l)) = absurd (never i j l c h k)
-      by (inr (inr l)) = absurd (never j i l b k h)
+-- a table that refuses nothing leaves the answer to what stands behind it
+pub passed-front : (rs qs : List (Row Refusal)) → Refusing rs → firstRefusal rs .number ≡ 0 → firstRefusal (rs ++ qs) ≡ firstRefusal qs
+passed-front rs qs r e = silent-behind rs qs (accepted-exactly rs r .0 e)

@@ -1,25 +1,26 @@
--- `rules::chapters::is_paged` meets its contract. The loop's invariant: r says whether one of the first y pages is in use.
-use Prim.Native.Nat.{_*_, _+_, suc, _-_}
-use mathlib.Core.Bool.{false}
-use native.Mathlib.Numerals.{add-one}
+-- `rules::chapters::is_paged` meets its contract. The loop's invariant: r says whether one of the first y pages has an owner.
+use Prim.Native.Nat.{_*_, _+_, _-_}
+use mathlib.Core.Bool.{not}
+use lib.Dec.{eqb}
 use lib.ListN.{getD}
 use borrow.Author.Needs.{needs}
+use Rattle.places.specs.Limits.{chapterPages}
+use Rattle.rules.specs.Code.Chapters.{pagedIn}
 use Rattle.rules.proofs.Joined.{Somewhere, somewhere-none, somewhere-more, somewhere-all}
-use Rattle.rules.specs.Code.Survey.{pagedIn}
 use Rattle.rules.proofs.chapters.is_paged.Statement.{statement}
 use Rattle.rules.proofs.chapters.is_paged.Tie as tie
 
 abbrev Inv-loop : tie.InvT-loop
-Inv-loop used x r₀ y₀ r y = Somewhere 16 (λ i. getD used (17 * x + suc i) false) y r
+Inv-loop pages x r₀ y₀ r y = Somewhere chapterPages (λ i. not (eqb (getD pages (chapterPages * x + i) 0) 0)) y r
 
 abbrev μ-loop : tie.MeasureT-loop
-μ-loop used x r₀ y₀ r y = 16 - y
+μ-loop pages x r₀ y₀ r y = chapterPages - y
 
 loop-holds : tie.Need-loop-holds Inv-loop μ-loop
 loop-holds c = search (needs, somewhere-none)
 
 loop-again : tie.Need-loop-again Inv-loop μ-loop
-loop-again c = somewhere-more _ _ _ _ _ (c .before .before .before .loop .inv) (c .before .before .loop-test .taken) (rw add-one at (c .either .ensures))
+loop-again c = search (needs, somewhere-more)
 
 returns : tie.Need-returns Inv-loop μ-loop
 unfolding pagedIn

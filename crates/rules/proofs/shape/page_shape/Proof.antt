@@ -1,4 +1,4 @@
--- `rules::page_shape` meets its contract, by what the tests that it joins ensure.
+-- `rules::shape::page_shape` meets its contract, by what the tests that it joins ensure.
 use borrow.Author.Needs.{needs}
 use Rattle.rules.specs.Rules.{pageShape}
 use Rattle.rules.proofs.shape.page_shape.Statement.{statement}

@@ -1,4 +1,4 @@
--- `rules::plain_shape` meets its contract, by what the tests that it joins ensure.
+-- `rules::shape::plain_shape` meets its contract, by what the tests that it joins ensure.
 use borrow.Author.Needs.{needs}
 use Rattle.rules.specs.Rules.{plainShape}
 use Rattle.rules.proofs.shape.plain_shape.Statement.{statement}
@@ -12,6 +12,7 @@ pub plain-shape-spec : {M : Type 1} → statement M
 plain-shape-spec =
     tie.close
     (tie.spec
+    (λ c. search needs)
     (λ c κs. search needs)
     (λ c κs. search needs)
     (λ c κs. search needs)

@@ -1,18 +1,20 @@
--- `rules::whole_page` meets its contract, by what the tests that it joins ensure.
+-- `rules::shape::whole_page` meets its contract, by what the tests that it joins ensure.
 use mathlib.Core.Path.{refl}
 use borrow.Author.Needs.{needs}
+use Rattle.places.specs.Limits.{chapterSize}
 use Rattle.rules.proofs.Tests.{one-more}
 use Rattle.rules.proofs.shape.whole_page.Statement.{statement}
 use Rattle.rules.proofs.shape.whole_page.Tie as tie
 
 returns : tie.Need-returns
-returns c = cc (one-more (c .before .before .before .above .result) 4095 4096 refl)
+returns c = cc (one-more (c .before .before .before .above .result) 4095 chapterSize refl)
 
 pub whole-page-spec : {M : Type 1} → statement M
 whole-page-spec =
     tie.close
     (tie.spec
     (λ c κs. search needs)
+    (λ c. search needs)
     (λ c κs. search needs)
     (λ c κs. search needs)
     (λ c κs. search needs)
