@@ -11,6 +11,7 @@ use Rattle.places.specs.Limits.{lent}
 use Rattle.load.specs.Load.{refusalRows as loadRows, loadingOf, loadRamOf, refused as loadRefused}
 use Rattle.lines.specs.declared.Line.{Line}
 use Rattle.cfg.specs.File.{refusalRows as cfgRows, readingOf, refused as cfgRefused}
+use Rattle.rules.specs.Rules.{refusalRows as ruleRows, refusalOf as ruledBy}
 use Rattle.save.specs.Writing.{Content, refusalRows as writeRows, writingOf, writtenOf, answerFor}
 use Rattle.build.specs.Building.{refusalRows as buildRows, buildingOf, builtOf, refused as buildRefused}
 
@@ -32,6 +33,7 @@ pub record Demand1 : Type 0 where
   -- reading a CFG, and the rules on its lines
   pub cfg : (cfg : List ℕ) → Decides (cfgRows cfg) (readingOf cfg .refusal)
   pub cfg-zero : (cfg : List ℕ) → Refused (readingOf cfg .refusal) → readingOf cfg ≡ cfgRefused (readingOf cfg .refusal)
+  pub rules : (words : ℕ) (lines : List Line) → Decides (ruleRows words lines) (ruledBy words lines)
   -- writing: all else zero but the length at 29, no buffer byte changed
   pub write : (out : List ℕ) (c : Content) → Decides (writeRows out c) (writingOf out c .refusal)
   pub write-zero : (out : List ℕ) (c : Content) → Refused (writingOf out c .refusal) → (writingOf out c .refusal .number ≡ 29 → ⊥)

@@ -1,6 +1,6 @@
 -- The bench cases, computed; 6 and 7 by what `build` and `load` promise.
 use Prim.Native.Nat.{ℕ, _+_, _≤_}
-use mathlib.Core.List.{List, _∷_, [], _++_, map}
+use mathlib.Core.List.{List, _∷_, [], _++_}
 use mathlib.Core.Path.{_≡_, refl, ap, _∙_}
 use mathlib.Core.Bool.{false}
 use native.Mathlib.Omega.{arith}
@@ -22,14 +22,13 @@ use Rattle.cfg.specs.Laws.Examples.{case8}
 use Rattle.lines.specs.declared.Line.{Line}
 use Rattle.lines.specs.Bin.{binWords}
 use Rattle.rules.specs.Accepted.{Accepted}
-use Rattle.rules.specs.Rules.{ruleRows}
+use Rattle.rules.specs.Rules.{refusalRows as ruleRows}
 use Rattle.rules.specs.Laws.Refusals as Rules
 use Rattle.layout.specs.Layout.{needed}
 use Rattle.build.specs.declared.Building.{Building}
-use Rattle.build.specs.Building.{wrongBin, tooShort, pressedImage, refusalRows, refusalOf, built, tablesFor, ruledRow}
+use Rattle.build.specs.Building.{wrongBin, tooShort, pressedImage, refusalRows, refusalOf, built, tablesFor}
 use Rattle.build.specs.Laws.Image.{within-limit}
 use Rattle.build.specs.Laws.Refusals as Build
-use Rattle.build.specs.Laws.Answers.{ruled-silent}
 use Rattle.plays.specs.Plain.{plainAnswers, fresh}
 use Rattle.demands.specs.Pressing.{Pressing, Pressed}
 use Rattle.demands.specs.Bench.{Bench, Case, six, Six, seven, Seven, sevenAccesses}
@@ -49,7 +48,7 @@ module _ (p : Pressing) (q : Pressed p) (fine : wrongBin (p .bin) ≡ false) (re
   silent =
       also fine
       (silent-append (Cfg.exactly (p .cfg) .accepts .0 read)
-      (silent-append (ruled-silent (Rules.accepted-exactly (binWords (p .bin)) (entriesOf (p .cfg)) .0 (accepted .judged))) (also fits none)))
+      (silent-append (Rules.exactly (binWords (p .bin)) (entriesOf (p .cfg)) .accepts .0 (accepted .judged)) (also fits none)))
 
   number-0 : p .building .refusal .number ≡ 0
   number-0 = ap (λ (b : Building). b .refusal .number) (q .answer) ∙ Build.answers (p .bin) (p .cfg) (p .out) .accepted .1 silent
@@ -107,7 +106,7 @@ fine-510 bin e = rw e
 
 module _ (bin cfg out : List ℕ) (e : length bin ≡ 510) (read : Silent (cfgRows cfg)) (says : entriesOf cfg ≡ sixLines) where
   abbrev behind : List (Row Refusal)
-  behind = map ruledRow (ruleRows (binWords bin) (entriesOf cfg)) ++ ((tooShort bin cfg out, refuse 29 0) ∷ [])
+  behind = ruleRows (binWords bin) (entriesOf cfg) ++ ((tooShort bin cfg out, refuse 29 0) ∷ [])
 
   by-the-rules : refusalOf bin cfg out ≡ firstRefusal behind
   unfolding refusalOf

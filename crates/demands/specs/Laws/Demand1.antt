@@ -4,15 +4,18 @@ use mathlib.Core.List.{List}
 use mathlib.Core.Path.{_≡_, sym, _∙_}
 use mathlib.Core.Logic.{_↔_}
 use Rattle.basics.specs.declared.Refusal.{Refusal}
-use Rattle.basics.specs.Rows.{Gives}
+use Rattle.basics.specs.Rows.{Gives, Silent}
 use Rattle.basics.specs.Refusals.{passes}
-use Rattle.basics.specs.Laws.Refusals.{refused-exactly}
+use Rattle.basics.specs.Laws.Refusals.{refused-exactly, accepted-exactly}
 use Rattle.basics.specs.Laws.Tests.{cases}
 use Rattle.places.specs.Limits.{lent}
 use Rattle.load.specs.Load.{loads, loadingOf, refused as loadRefused}
 use Rattle.load.specs.Laws.Refusals as Load
 use Rattle.cfg.specs.File.{readingOf, refusalOf, refusalRows as cfgRows, refused as cfgRefused}
 use Rattle.cfg.specs.Laws.Refusals as Cfg
+use Rattle.lines.specs.declared.Line.{Line}
+use Rattle.rules.specs.Rules.{refusalRows as ruleRows, refusalOf as ruledBy}
+use Rattle.rules.specs.Laws.Refusals as Rules
 use Rattle.save.specs.Laws.Refusals as Save
 use Rattle.build.specs.Building.{builds, buildingOf, refused as buildRefused}
 use Rattle.build.specs.Laws.Refusals as Build
@@ -32,6 +35,10 @@ cfg-refused cfg r h =
     let x = refused-exactly (cfgRows cfg) (Cfg.each-refuses cfg) r h in
     ((λ e. x .0 (sym (Cfg.refusal-is cfg) ∙ e)), (λ g. Cfg.refusal-is cfg ∙ x .1 g))
 
+rules-accepted : (words : ℕ) (lines : List Line) → (ruledBy words lines .number ≡ 0) ↔ Silent (ruleRows words lines)
+unfolding ruledBy
+rules-accepted words lines = accepted-exactly (ruleRows words lines) (Rules.each-refuses words lines)
+
 build-zero : (bin cfg out : List ℕ) → Refused (buildingOf bin cfg out .refusal) → buildingOf bin cfg out ≡ buildRefused bin cfg (buildingOf bin cfg out .refusal)
 unfolding buildingOf
 build-zero bin cfg out n = cases (builds bin cfg out) (λ e. absurd (n (rw e))) (λ e. rw e)
@@ -44,6 +51,7 @@ demand-1 =
       load-keeps = Load.refused-keeps;
       cfg = λ cfg. record { refused = cfg-refused cfg; accepted = Cfg.exactly cfg .accepts };
       cfg-zero = cfg-zero;
+      rules = λ words lines. record { refused = Rules.exactly words lines .refuses; accepted = rules-accepted words lines };
       write = λ out c. record { refused = Save.answers out c .refused; accepted = Save.answers out c .accepted };
       write-zero = λ out c. Save.answers out c .zero;
       write-keeps = λ out c. Save.answers out c .kept;
