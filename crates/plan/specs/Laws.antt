@@ -1,5 +1,4 @@
 -- Theorems over the definitions.
-pub mod Bridge
 pub mod Tables
 pub mod Covered
 pub mod Valid

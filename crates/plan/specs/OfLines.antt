@@ -3,8 +3,7 @@ use Prim.Native.Nat.{suc, _+_, _*_}
 use mathlib.Core.List.{List}
 use Rattle.places.specs.Limits.{chapterParagraphs}
 use Rattle.lines.specs.declared.Line.{Line}
-use Rattle.rules.specs.Rules.{uses}
-use Rattle.rules.specs.Chapters.{kindAt}
+use Rattle.rules.specs.Chapters.{uses, kindAt}
 use Rattle.plan.specs.Plan.{Plan}
 
 abbrev pub planOf : List Line → Plan

@@ -24,7 +24,7 @@ use Rattle.grammar.specs.Words.{cut}
 use Rattle.cfg.specs.File.{entriesOf, readingOf, saysFrom, outsideFrom, entriesFrom}
 use Rattle.rules.specs.Accepted.{Accepted}
 use Rattle.rules.specs.Chapters.{paged, uses, under, bare}
-use Rattle.rules.specs.Rules.{refusalOf, touchesSilent, plainShape, misshapen, shares, breaksPlain, pageShape}
+use Rattle.rules.specs.Rules.{refusalOf, touchesSilent, plainShape, shares, breaksPlain, pageShape}
 use Rattle.layout.specs.Layout.{needed, pages, used, mappingTable, mappingAt, flippable, pageOf, permissionsTable, permissionsAt, flipTable, flipEntry, answering}
 use Rattle.plays.specs.Plain.{plainAnswers, fresh, plainRead, shownLine, numberAfter}
 use Rattle.demands.specs.Bench.{six, seven, sevenAccesses, sevenAnswers}
@@ -55,7 +55,7 @@ seven-read = refl
 
 -- case 6
 pub six-accepted : (bin : List ℕ) → length bin ≡ 512 → Accepted bin sixLines
-unfolding refusalOf touchesSilent plainShape misshapen shares breaksPlain paged uses under bare holds any all made
+unfolding refusalOf touchesSilent plainShape shares breaksPlain paged uses under bare holds any all made
 six-accepted bin e = let t : 0x5000 < 0x10000 = omega arith in record { few = omega arith; typed = cons t nil; judged = rw e }
 
 pub six-words : needed sixLines ≡ 4096
@@ -72,7 +72,7 @@ six-permission = getD-table 0 256 (permissionsAt sixLines 0) 0x50 (omega arith)
 
 -- case 7
 pub seven-accepted : (bin : List ℕ) → length bin ≡ 8192 → Accepted bin sevenLines
-unfolding refusalOf pageShape misshapen shares breaksPlain paged uses under bare holds any all made
+unfolding refusalOf pageShape shares breaksPlain paged uses under bare holds any all made
 seven-accepted bin e = let t : 0xC000 < 0x10000 = omega arith in record { few = omega arith; typed = cons t nil; judged = rw e }
 
 pub seven-words : needed sevenLines ≡ 4096

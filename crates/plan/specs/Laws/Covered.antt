@@ -22,8 +22,7 @@ use Rattle.lines.specs.Lines.{layer, lineAt}
 use Rattle.lines.specs.Kinds.{kindBy, kindOf}
 use Rattle.lines.specs.Laws.Lines.{found}
 use Rattle.lines.specs.Laws.Kinds.{some-by}
-use Rattle.rules.specs.Rules.{lineIn, uses}
-use Rattle.rules.specs.Chapters.{kindAt}
+use Rattle.rules.specs.Chapters.{lineIn, uses, kindAt}
 use Rattle.rules.specs.Code.Shapes.{Fine}
 use Rattle.rules.specs.Laws.Rules.{page-in, uses-page}
 use Rattle.layout.specs.Layout.{used, pageOf, pages, slotOfPage, lineHeld, covered}

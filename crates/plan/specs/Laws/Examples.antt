@@ -10,7 +10,7 @@ use Rattle.basics.specs.Laws.Tests.{cases, and-left, and-right, or-left}
 use Rattle.places.specs.Limits.{lineLimit}
 use Rattle.cart.specs.Reads.{silent}
 use Rattle.lines.specs.Lines.{holds}
-use Rattle.rules.specs.Rules.{uses}
+use Rattle.rules.specs.Chapters.{uses}
 use Rattle.layout.specs.Laws.Examples.{ecs}
 use Rattle.plan.specs.Plan.{Plan, kinds, hasPage, hasPlain, hasPages, rangeIs, isUnder}
 use Rattle.plan.specs.Valid.{Valid, quiet, mayFlip, allowed}

@@ -18,12 +18,11 @@ use Rattle.lines.specs.Lines.{first, layer, holds, lineAt}
 use Rattle.lines.specs.Kinds.{kindBy, kindOf}
 use Rattle.lines.specs.Typed.{All, nil, cons}
 use Rattle.lines.specs.Laws.Lines.{Within, within, holding}
-use Rattle.rules.specs.Rules.{lineIn, uses}
-use Rattle.rules.specs.Chapters.{kindAt}
+use Rattle.rules.specs.Chapters.{lineIn, uses, kindAt}
 use Rattle.rules.specs.Accepted.{Accepted}
 use Rattle.rules.specs.Code.Shapes.{Fine, PageLine}
-use Rattle.rules.specs.Laws.Rules.{good, aligned, chapter-of}
-use Rattle.rules.specs.Laws.Refusals.{one-owner}
+use Rattle.rules.specs.Laws.Shapes.{aligned}
+use Rattle.rules.specs.Laws.Rules.{good, chapter-of, one-owner}
 use Rattle.plan.specs.Plan.{kinds, hasPage}
 use Rattle.plan.specs.Fewest.{starts, fewest}
 use Rattle.plan.specs.OfLines.{planOf}

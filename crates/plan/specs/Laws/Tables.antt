@@ -14,13 +14,11 @@ use Rattle.basics.specs.Laws.Tests.{not-cond}
 use Rattle.lines.specs.declared.Line.{Line}
 use Rattle.lines.specs.Kinds.{kindOf}
 use Rattle.lines.specs.Laws.Kinds.{some-by}
-use Rattle.rules.specs.Rules.{lineIn, uses, paged, allRom}
-use Rattle.rules.specs.Chapters.{kindAt, under}
+use Rattle.rules.specs.Chapters.{lineIn, uses, paged, kindAt, under}
 use Rattle.layout.specs.Layout.{used, pageOf, pages, answering, entryFor, flipEntry, flippable, mappingAt, permissionsAt, mappingTable, permissionsTable, flipTable}
 use Rattle.plan.specs.Plan.{hasPlain, hasPages, rangeIs, isUnder}
 use Rattle.plan.specs.Image.{size, pageAt, base, pagesOf, chapterFlip, turns, chapterMapping, chapterPermissions, mappingOf, permissionsOf, flipsOf}
 use Rattle.plan.specs.OfLines.{planOf}
-use Rattle.plan.specs.Laws.Bridge.{permission-kind, under-is}
 
 module _ (lines : List Line) where
   plain-is : (x : ℕ) → hasPlain (planOf lines x) ≡ uses lines x 0
@@ -76,8 +74,8 @@ module _ (lines : List Line) where
   flip-is : (x y : ℕ) → y < 16 → flipEntry lines x y ≡ chapterFlip x (planOf lines x) (base (planOf lines) x) y
   unfolding chapterFlip flipEntry answering
   flip-is x y h =
-      rw (pages-are x, range-is x, under-is lines x, page-page x y h, plain-page x)
-      (by (paged lines x) (uses lines x (suc y)) (allRom lines x) (pageOf lines x (suc y)) (pageOf lines x 0))
+      rw (pages-are x, range-is x, page-page x y h, plain-page x)
+      (by (paged lines x) (uses lines x (suc y)) (under lines x) (pageOf lines x (suc y)) (pageOf lines x 0))
     where
       by : (p u a : Bool) (m n : ℕ) → cond p (entryFor (cond {A = Option ℕ} u (some m) (cond {A = Option ℕ} a (some n) none))) 0
           ≡ cond p (cond u (16 * m + 9) (cond a (16 * n + 9) 8)) 0
@@ -104,7 +102,7 @@ module _ (lines : List Line) where
   permissions-at : (p : ℕ) → permissionsAt lines 0 p ≡ chapterPermissions (p / 16) (planOf lines (p / 16)) (base (planOf lines) (p / 16)) (p % 16)
   unfolding chapterPermissions permissionsAt turns flippable
   permissions-at p =
-      rw (pages-are (p / 16), ← flip-is (p / 16) 0 (omega arith), whole p, permission-kind (lineIn lines 0 p))
+      rw (pages-are (p / 16), ← flip-is (p / 16) 0 (omega arith), whole p)
 
   pub mapping-is : mappingTable lines ≡ mappingOf (planOf lines)
   mapping-is =

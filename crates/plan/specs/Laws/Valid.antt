@@ -2,6 +2,7 @@
 use Prim.Native.Nat.{ℕ, suc, _+_, _*_, _<_}
 use mathlib.Core.Path.{_≡_, refl, sym, _∙_}
 use mathlib.Core.List.{List}
+use mathlib.Core.Logic.{⊎-elim}
 use mathlib.Core.Bool.{true, false}
 use mathlib.Core.Option.{Option, none, some}
 use native.Mathlib.Omega.{arith}
@@ -14,13 +15,11 @@ use Rattle.lines.specs.declared.Entry.the-variants.{Rom, Paged, Ram}
 use Rattle.lines.specs.declared.Line.{Line}
 use Rattle.lines.specs.declared.Width.the-variants.{Sixteen, Eight}
 use Rattle.lines.specs.Kinds.{kindBy, kindOf}
-use Rattle.rules.specs.Rules.{lineIn, uses, paged}
-use Rattle.rules.specs.Chapters.{kindAt, bare}
-use Rattle.rules.specs.Laws.Rules.{Good, Used, Flips, used-at, found-open, found-flips}
+use Rattle.rules.specs.Chapters.{lineIn, uses, paged, kindAt, under, bare}
+use Rattle.rules.specs.Laws.Rules.{Good, Used, Flips, used-at, found-open, found-flips, under-or-bare}
 use Rattle.plan.specs.Plan.{rangeIs, isBare}
 use Rattle.plan.specs.Valid.{Valid, quiet, mayFlip, allowed}
 use Rattle.plan.specs.OfLines.{planOf}
-use Rattle.plan.specs.Laws.Bridge.{under-or-bare}
 use Rattle.plan.specs.Laws.Tables.{pages-are, range-is}
 
 entry-allowed : (p : ℕ) (e : Entry) → quiet p ≡ false → allowed p (kindBy e) ≡ true
@@ -58,5 +57,8 @@ plan-valid {lines} g x h =
     record {
       kinds = kinds-allowed g x;
       pages = λ e. pages-flip g x (sym (pages-are lines x) ∙ e);
-      range = λ e. rw (range-is lines x, bare-is g x) (under-or-bare g x (sym (pages-are lines x) ∙ e));
+      range =
+          λ e.
+          rw (range-is lines x, bare-is g x)
+          (⊎-elim (λ a. or-left _ _ a) (λ a. or-right (under lines x) _ a) (under-or-bare g x (sym (pages-are lines x) ∙ e)));
     }
