@@ -34,12 +34,14 @@ pub const CARD_LIMIT: usize = 24576;
 
 pub const CARD_WORDS: usize = 16384;
 
-// The console's chapters and paragraphs, the paragraphs of a chapter, and the words of a paragraph.
+// The console's chapters and paragraphs, the paragraphs and the words of a chapter, and the words of a paragraph.
 pub const CHAPTERS: usize = 16;
 
 pub const PARAGRAPHS: usize = 256;
 
 pub const CHAPTER_PARAGRAPHS: usize = 16;
+
+pub const CHAPTER_SIZE: usize = 4096;
 
 pub const PARAGRAPH_SIZE: usize = 256;
 
@@ -50,8 +52,15 @@ pub const FLIP_ENTRIES: usize = 256;
 
 pub const LAYERS: usize = 17;
 
-// The words of a Locutus page, the most pages that a build lays out, and the paragraphs of Locutus RAM.
+// The slots: the layers of all chapters. The cells: the paragraphs of all layers.
+pub const SLOTS: usize = CHAPTERS * LAYERS;
+
+pub const CELLS: usize = LAYERS * PARAGRAPHS;
+
+// The words and the paragraphs of a Locutus page, the most pages that a build lays out, and the paragraphs of Locutus RAM.
 pub const PAGE_SIZE: usize = 4096;
+
+pub const PAGE_PARAGRAPHS: usize = 16;
 
 pub const PAGE_LIMIT: usize = 80;
 

@@ -1,4 +1,5 @@
 -- The rules' definitions, then their laws.
+pub mod Chapters
 pub mod Rules
 pub mod Accepted
 pub mod Survey

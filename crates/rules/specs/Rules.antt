@@ -14,7 +14,8 @@ use Rattle.switches.specs.Flips.{firstK}
 use Rattle.lines.specs.declared.Entry.{Entry}
 use Rattle.lines.specs.declared.Entry.the-variants.{Rom, Paged, Ram}
 use Rattle.lines.specs.declared.Line.{Line}
-use Rattle.lines.specs.Lines.{layer, first, last, lineAt, isRam}
+use Rattle.lines.specs.Lines.{layer, first, last, isRam}
+unfoldable pub use Rattle.rules.specs.Chapters.{lineIn, uses, paged, throughout}
 
 -- 25: lo above hi; in mapping also hi past the BIN, of so many words, or addresses past $FFFF
 abbrev pub offBin : ℕ → BinWord → BinWord → Console → Bool
@@ -63,21 +64,6 @@ shares e f =
 abbrev pub rival : List Line → Entry → Option Line
 rival [] e = none
 rival (m ∷ ms) e = cond (shares (m .entry) e) (some m) (rival ms e)
-
--- The line of a layer that holds paragraph p, $pp00 to $ppFF. By rule 26 a line holds all of a paragraph or none of it.
-abbrev pub lineIn : List Line → ℕ → ℕ → Option Line
-lineIn lines t p = lineAt lines t (256 * p)
-
--- layer t has words in chapter x; chapter x has PAGE lines
-unfoldable pub uses : List Line → ℕ → ℕ → Bool
-uses lines x t = any 16 (λ k. isSome (lineIn lines t (16 * x + k)))
-
-unfoldable pub paged : List Line → ℕ → Bool
-paged lines x = any 16 (λ y. uses lines x (suc y))
-
--- 28: all of the flippable range of chapter x, its paragraphs from k = firstK x on, passes a test
-abbrev pub throughout : ℕ → (ℕ → Bool) → Bool
-throughout x f = all 16 (λ k. ltb k (firstK x) || f (16 * x + k))
 
 abbrev pub isRom : Option Line → Bool
 isRom none = false

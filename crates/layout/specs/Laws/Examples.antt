@@ -11,7 +11,8 @@ use Rattle.lines.specs.declared.Line.{Line}
 use Rattle.lines.specs.declared.Entry.the-variants.{Paged, Ram}
 use Rattle.lines.specs.declared.Width.the-variants.{Sixteen}
 use Rattle.lines.specs.Lines.{holds}
-use Rattle.rules.specs.Rules.{judgeOf, passed, touchesSilent, plainShape, pageShape, shares, breaksPlain, paged, uses, allRom, noRom, noRam}
+use Rattle.rules.specs.Chapters.{paged, uses, under}
+use Rattle.rules.specs.Rules.{judgeOf, passed, touchesSilent, plainShape, pageShape, shares, breaksPlain, allRom, noRom, noRam}
 use Rattle.layout.specs.Layout.{pages, flipEntry, mappingAt, permissionsAt, covered, used, answering, pageOf, flippable, lineHeld, slotOfPage}
 
 abbrev pub ecs : List Line
@@ -37,19 +38,19 @@ unfolding pages used uses holds count any
 ecs-pages = refl
 
 ecs-entries : all 16 (λ y. eqb (flipEntry ecs 4 y) (cond (eqb y 1) 25 8)) ≡ true
-unfolding flipEntry answering pageOf used paged allRom uses holds count all any
+unfolding flipEntry answering pageOf used paged under uses holds count all any
 ecs-entries = refl
 
 ecs-ram : all 8 (λ k. eqb (mappingAt ecs 0 (0x40 + k)) k && eqb (permissionsAt ecs 0 (0x40 + k)) 3) ≡ true
-unfolding mappingAt permissionsAt flippable flipEntry answering pageOf used paged allRom uses holds count all any
+unfolding mappingAt permissionsAt flippable flipEntry answering pageOf used paged under uses holds count all any
 ecs-ram = refl
 
 ecs-page-0 : all 8 (λ k. eqb (mappingAt ecs 0 (0x48 + k)) (8 + k) && eqb (permissionsAt ecs 0 (0x48 + k)) 0) ≡ true
-unfolding mappingAt permissionsAt flippable flipEntry answering pageOf used paged allRom uses holds count all any
+unfolding mappingAt permissionsAt flippable flipEntry answering pageOf used paged under uses holds count all any
 ecs-page-0 = refl
 
 ecs-page-1 : all 8 (λ k. eqb (mappingAt ecs 1 (0x48 + k)) (24 + k) && eqb (permissionsAt ecs 1 (0x48 + k)) 1) ≡ true
-unfolding mappingAt permissionsAt flippable flipEntry answering pageOf used paged allRom uses holds count all any
+unfolding mappingAt permissionsAt flippable flipEntry answering pageOf used paged under uses holds count all any
 ecs-page-1 = refl
 
 ecs-covered : all 40 (λ p. eqb (cond (covered ecs p) 1 0) (cond (ltb p 8 || (leb 24 p && ltb p 32)) 1 0)) ≡ true

@@ -7,7 +7,7 @@ use mathlib.Core.Bool.{false, Bool, true, cond, _||_, not, _&&_}
 use mathlib.Core.Logic.{_⊎_, inl, inr, ⊎-elim}
 use native.Mathlib.Omega.{arith}
 use lib.ListN.{length}
-use lib.Dec.{leb, ltb}
+use lib.Dec.{leb, ltb, eqb}
 use borrow.Author.Tests.{le-ltb, ne-eqb, leb-true, leb-false, ltb-false}
 use Rattle.basics.specs.Rows.{firstOf, Row}
 use Rattle.basics.specs.Options.{isSome}
@@ -15,18 +15,22 @@ use Rattle.basics.specs.Laws.Options.{none-of}
 use Rattle.basics.specs.Tables.{made}
 use Rattle.basics.specs.Laws.Rows.{first-append}
 use Rattle.basics.specs.Laws.Tests.{same-test, true-is-not-false, cases, or-left, or-right, not-true, and-right, or-cases, and-left}
-use Rattle.basics.specs.Laws.Counts.{any-of, Place, any-at, all-at, all-of}
+use Rattle.basics.specs.Laws.Counts.{any-of, Place, any-at, all-at, all-of, all-same}
 use Rattle.places.specs.Limits.{lineLimit}
 use Rattle.switches.specs.Flips.{firstK}
 use Rattle.cart.specs.Reads.{silent}
 use Rattle.switches.specs.Laws.Flips.{first-small}
 use Rattle.lines.specs.declared.Line.{Line}
 use Rattle.lines.specs.declared.Entry.{Entry}
+use Rattle.lines.specs.declared.Entry.the-variants.{Rom, Paged, Ram}
+use Rattle.lines.specs.declared.Width.the-variants.{Sixteen, Eight}
+use Rattle.lines.specs.Kinds.{kindBy, kindOf}
 use Rattle.lines.specs.Typed.{All, Typed, nil, cons}
 use Rattle.lines.specs.Bin.{binWords}
 use Rattle.lines.specs.Lines.{first, last, holds, layer, lineAt, isRam}
 use Rattle.lines.specs.Laws.Lines.{Within, within, holding, same-line, Found, found}
 use Rattle.rules.specs.Rules.{rival, breaksPlain, Verdict, lineRows, passed, misshapen, outOfRange, shareRows, judgeOf, chapterRows, lineIn, uses, paged, throughout, isRom, isRamLine, allRom, noRom, noRam}
+use Rattle.rules.specs.Chapters.{under, bare, kindAt}
 use Rattle.rules.specs.Code.Shapes.{Fine, PlainLine, PageLine, PageShape, PlainShape}
 use Rattle.rules.specs.Laws.Row.{row-rest, row-passed}
 use Rattle.rules.specs.Laws.Shapes.{fine-of}
@@ -360,3 +364,36 @@ module _ {lines : List Line} (g : Good lines) where
     unfolding noRam
     not-ram p l e =
         not-true (isRam (l .entry)) (rw e at (through-word (g .fine) (λ o. not (isRamLine o)) a turns (no-ram (a / 4096) p)))
+
+-- the same by kinds: plain ROM covers all of the flippable range of a chapter with PAGE lines, or nothing plain is in it
+rom-by : (e : Entry) → eqb (kindBy e) 1 ≡ not (isRam e)
+rom-by (Rom lo hi at) = refl
+rom-by (Paged lo hi at y) = refl
+rom-by (Ram lo hi Sixteen) = refl
+rom-by (Ram lo hi Eight) = refl
+
+rom-kind : (o : Option Line) → eqb (kindOf o) 1 ≡ isRom o
+rom-kind none = refl
+rom-kind (some l) = rom-by (l .entry)
+
+under-is : (lines : List Line) (x : ℕ) → under lines x ≡ allRom lines x
+unfolding under allRom
+under-is lines x =
+    all-same 16 (λ k. ltb k (firstK x) || eqb (kindAt lines (16 * x + k)) 1) (λ k. ltb k (firstK x) || isRom (lineIn lines 0 (16 * x + k)))
+    (λ k h. ap (λ (b : Bool). ltb k (firstK x) || b) (rom-kind (lineIn lines 0 (16 * x + k))))
+
+module _ {lines : List Line} (g : Good lines) where
+  bare-is : (x : ℕ) → paged lines x ≡ true → noRom lines x ≡ true → bare lines x ≡ true
+  unfolding bare noRom noRam
+  bare-is x p e =
+      all-of 16 (λ k. ltb k (firstK x) || eqb (kindAt lines (16 * x + k)) 0)
+      (λ k h.
+      cases (ltb k (firstK x)) (λ q. or-left _ _ q)
+      (λ q.
+      let t : firstK x ≤ k = ltb-false k (firstK x) q in
+      let n : lineIn lines 0 (16 * x + k) ≡ none =
+      no-line (lineIn lines 0 (16 * x + k)) (through-at x (λ i. not (isRom (lineIn lines 0 i))) e k h t) (through-at x (λ i. not (isRamLine (lineIn lines 0 i))) (no-ram g x p) k h t) in
+      or-right (ltb k (firstK x)) _ (rw n)))
+
+  pub under-or-bare : (x : ℕ) → paged lines x ≡ true → (under lines x ≡ true) ⊎ (bare lines x ≡ true)
+  under-or-bare x p = ⊎-elim (λ e. inl (under-is lines x ∙ e)) (λ e. inr (bare-is x p e)) (rom-or-none g x p)
