@@ -1,7 +1,7 @@
 -- The line of each cell, line by line: a line more takes the cells that it holds and that are free.
 use Prim.Native.Nat.{ℕ, _+_, _*_, _-_, _/_, _%_, _<_, _≤_, suc}
 use mathlib.Core.List.{List, [], _∷_, _++_}
-use mathlib.Core.Path.{_≡_, refl, sym, ap, _∙_}
+use mathlib.Core.Path.{_≡_, refl, sym, _∙_}
 use mathlib.Core.Bool.{Bool, true, false, cond, _&&_, not}
 use mathlib.Core.Option.{Option, none, some}
 use mathlib.Core.Logic.{_⊎_, inl, inr}
@@ -17,8 +17,7 @@ use Rattle.places.specs.Limits.{lineLimit, cells, layers, paragraphs, paragraph
 use Rattle.lines.specs.declared.Line.{Line}
 use Rattle.lines.specs.declared.Entry.{Entry}
 use Rattle.lines.specs.Lines.{layer, holds, lineAt}
-use Rattle.rules.specs.Chapters.{lineIn}
-use Rattle.layout.specs.Code.Survey.{noLine, lineOf, takes, claimed, Cells, Few}
+use Rattle.layout.specs.Code.Survey.{noLine, lineOf, takes, claimed, Cells}
 
 pub some-line : (ls : List Line) (n : ℕ) → isSome (lineOf ls n) ≡ not (eqb n 0)
 some-line ls n = cases (eqb n 0) (λ h. rw h) (λ h. rw h)
@@ -54,9 +53,6 @@ line-more [] l t a = refl
 line-more (m ∷ ls) l t a = rw (line-more ls l t a) (more-by (there (m .entry) t a) (lineAt ls t a) l m (there (l .entry) t a))
 
 -- a cell after a claim
-off-layer : (e : Entry) (t a : ℕ) → (layer e ≡ t → ⊥) → there e t a ≡ false
-off-layer e t a h = rw (ne-eqb (layer e) t h)
-
 module _ (e : Entry) (number : ℕ) (o : List ℕ) (long : length o ≡ cells) (i : ℕ) (h : i < cells) where
   abbrev word : ℕ → ℕ
   word p = takes (holds e (paragraphSize * p)) number (getD o (paragraphs * layer e + p) 0)

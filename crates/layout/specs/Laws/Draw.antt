@@ -7,18 +7,17 @@ use mathlib.Core.Option.{Option, none, some}
 use native.Mathlib.Omega.{arith}
 use lib.ListN.{length, getD}
 use lib.Dec.{eqb, ltb}
-use borrow.Author.Tests.{ne-eqb, eqb-true, eqb-false}
+use borrow.Author.Tests.{ne-eqb}
 use Rattle.basics.specs.Options.{isSome}
-use Rattle.basics.specs.Counts.{count, nth}
+use Rattle.basics.specs.Counts.{count}
 use Rattle.basics.specs.Tables.{table}
-use Rattle.basics.specs.Lists.{laid}
 use Rattle.basics.specs.Laws.Counts.{count-most}
 use Rattle.basics.specs.Laws.Nth.{nth-below}
 use Rattle.basics.specs.Laws.Lists.{laid-same}
 use Rattle.basics.specs.Laws.Tables.{getD-table, table-same}
-use Rattle.basics.specs.Laws.Tests.{cases, not-cond}
+use Rattle.basics.specs.Laws.Tests.{cases}
 use Rattle.places.specs.Limits.{lineLimit, chapters, chapterParagraphs, chapterPages, flipEntries, paragraphs, paragraphSize, layers, slots, cells, pageParagraphs, locutusParagraphs}
-use Rattle.switches.specs.Flips.{flipMapping, flipPermissions}
+use Rattle.switches.specs.Flips.{flipMapping}
 use Rattle.lines.specs.declared.Line.{Line}
 use Rattle.lines.specs.declared.Entry.{Entry}
 use Rattle.lines.specs.declared.Entry.the-variants.{Rom, Paged, Ram}

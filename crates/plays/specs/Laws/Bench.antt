@@ -15,7 +15,8 @@ use Rattle.lines.specs.Lines.{holds}
 use Rattle.lines.specs.Typed.{cons, nil}
 use Rattle.lines.specs.Bin.{binWords}
 use Rattle.rules.specs.Accepted.{Accepted}
-use Rattle.rules.specs.Rules.{judgeOf, touchesSilent, plainShape, shares, breaksPlain, paged, uses, allRom, noRom, noRam, pageShape}
+use Rattle.rules.specs.Chapters.{paged, uses, under}
+use Rattle.rules.specs.Rules.{judgeOf, touchesSilent, plainShape, shares, breaksPlain, allRom, noRom, noRam, pageShape}
 use Rattle.layout.specs.Layout.{needed, pages, used, mappingTable, mappingAt, flippable, pageOf, permissionsTable, permissionsAt, flipTable, flipEntry, answering}
 use Rattle.plays.specs.Bench.{six, Six, seven, sevenAccesses, sevenAnswers, Seven}
 use Rattle.plays.specs.Plain.{plainAnswers, fresh, plainRead, shownLine, numberAfter}
@@ -60,7 +61,7 @@ unfolding flipEntry answering pageOf used paged uses holds count any
 seven-entry = getD-table 0 256 (λ n. flipEntry seven (n / 16) (n % 16)) 194 (omega arith)
 
 seven-row : all 16 (λ y. eqb (flipEntry seven 12 y) (cond (eqb y 2) 0x0009 0x0008)) ≡ true
-unfolding flipEntry answering pageOf used paged allRom uses holds count all any
+unfolding flipEntry answering pageOf used paged under uses holds count all any
 seven-row = refl
 
 seven-others : (y : ℕ) → y < 16 → (y ≡ 2 → ⊥) → getD (flipTable seven) (192 + y) 0 ≡ 0x0008

@@ -19,7 +19,7 @@ use Rattle.lines.specs.declared.Entry.the-variants.{Rom, Paged, Ram}
 use Rattle.lines.specs.Lines.{lineAt, isRam}
 use Rattle.rules.specs.Accepted.{Accepted}
 use Rattle.rules.specs.Laws.Rules.{good, uses-of, RomIs, all-rom, none-plain, rom-or-none}
-use Rattle.rules.specs.Rules.{paged, uses}
+use Rattle.rules.specs.Chapters.{paged, uses}
 use Rattle.layout.specs.Laws.Layout.{placeOf}
 use Rattle.layout.specs.Layout.{writtenBy, lineHeld, paragraphHeld, paragraphWords, writtenOf}
 use Rattle.plays.specs.Loaded.{Loaded}
