@@ -4,7 +4,7 @@ pub mod Places
 pub mod Uses
 pub mod Tables
 pub mod Shows
-pub mod Few
 pub mod Examples
-pub mod Plan
+pub mod Cells
+pub mod Survey
 pub mod Draw

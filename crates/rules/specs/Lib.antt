@@ -1,7 +1,6 @@
 -- The rules' definitions, then their laws.
 pub mod Chapters
 pub mod Rules
-pub mod Chapters
 pub mod Accepted
 pub mod Code
 pub mod Laws

@@ -22,7 +22,7 @@ use Rattle.rules.specs.Accepted.{Accepted}
 use Rattle.rules.specs.Laws.Rules.{good}
 use Rattle.layout.specs.Layout.{mappingAt, permissionsAt, flipEntry, needed, covered, paragraphWords, pages, permissionsTable, flipTable}
 use Rattle.layout.specs.Laws.Uses.{length-words, covered-inside, covered-below}
-use Rattle.layout.specs.Laws.Few.{pages-75}
+use Rattle.plan.specs.Laws.Pages.{pages-most}
 use Rattle.layout.specs.Laws.Tables.{permissions-entry, permissions-below, unflipped, flip-entry}
 use Rattle.build.specs.Building.{flagBytes, uidOf, tablesFor, hunksFor}
 
@@ -55,7 +55,7 @@ module _ (bin cfg : List ℕ) (lines : List Line) where
     hunks-few =
         let c : count (covered lines) locutusParagraphs ≤ 16 * pages lines =
         count-below (covered lines) (16 * pages lines) locutusParagraphs (λ i l e. covered-below lines i e) in
-        omega (arith, length-chosen (covered lines) (paragraphWords bin lines) locutusParagraphs, pages-75 accepted)
+        omega (arith, length-chosen (covered lines) (paragraphWords bin lines) locutusParagraphs, pages-most (good accepted))
 
     pub within-limit : length (imageFor flagBytes (uidOf bin cfg) (tablesFor lines) (hunksFor bin lines)) ≤ imageLimit
     within-limit =

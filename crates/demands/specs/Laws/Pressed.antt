@@ -21,7 +21,7 @@ use Rattle.cfg.specs.File.{entriesOf}
 use Rattle.rules.specs.Accepted.{Accepted}
 use Rattle.rules.specs.Laws.Rules.{good}
 use Rattle.layout.specs.Layout.{needed, covered, paragraphWords}
-use Rattle.layout.specs.Laws.Few.{needed-small}
+use Rattle.plan.specs.Laws.Pages.{needed-small}
 use Rattle.layout.specs.Laws.Uses.{covered-inside}
 use Rattle.build.specs.declared.Building.{Building}
 use Rattle.build.specs.Building.{builds, flagBytes, tablesFor, pressedImage, uidOf, buildingOf, refused, refusalOf, built, builtOf}

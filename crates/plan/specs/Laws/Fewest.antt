@@ -19,10 +19,9 @@ use Rattle.lines.specs.Kinds.{kindBy, kindOf}
 use Rattle.lines.specs.Typed.{All, nil, cons}
 use Rattle.lines.specs.Laws.Lines.{Within, within, holding}
 use Rattle.rules.specs.Chapters.{lineIn, uses, kindAt}
-use Rattle.rules.specs.Accepted.{Accepted}
 use Rattle.rules.specs.Code.Shapes.{Fine, PageLine}
 use Rattle.rules.specs.Laws.Shapes.{aligned}
-use Rattle.rules.specs.Laws.Rules.{good, chapter-of, one-owner}
+use Rattle.rules.specs.Laws.Rules.{Good, chapter-of, one-owner}
 use Rattle.plan.specs.Plan.{kinds, hasPage}
 use Rattle.plan.specs.Fewest.{starts, fewest}
 use Rattle.plan.specs.OfLines.{planOf}
@@ -157,5 +156,5 @@ lines-most : (ls : List Line) → All Fine ls → Single ls → fewest (planOf l
 lines-most [] nil s = omega (arith, no-lines)
 lines-most (l ∷ ls) (cons f fs) s = omega (arith, line-more l ls f s, lines-most ls fs (single-rest l ls s))
 
-pub plan-fewest : {bin : List ℕ} {lines : List Line} → Accepted bin lines → fewest (planOf lines) ≤ length lines
-plan-fewest {lines = lines} a = lines-most lines (good a .fine) (λ d t c i j. one-owner a d t c i j)
+pub plan-fewest : {lines : List Line} → Good lines → fewest (planOf lines) ≤ length lines
+plan-fewest {lines} g = lines-most lines (g .fine) (λ d t c i j. one-owner g d t c i j)

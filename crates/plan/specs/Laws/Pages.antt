@@ -15,8 +15,7 @@ use Rattle.basics.specs.Laws.Tests.{cases, true-is-not-false, not-true, or-left
 use Rattle.places.specs.Limits.{lineLimit, pageLimit, lentLimit}
 use Rattle.cart.specs.Reads.{silent}
 use Rattle.lines.specs.declared.Line.{Line}
-use Rattle.rules.specs.Accepted.{Accepted}
-use Rattle.rules.specs.Laws.Rules.{good}
+use Rattle.rules.specs.Laws.Rules.{Good}
 use Rattle.layout.specs.Layout.{pages, needed}
 use Rattle.plan.specs.Plan.{Plan, kinds, hasPage, hasPlain}
 use Rattle.plan.specs.Valid.{Valid, quiet, allowed, isRamKind}
@@ -159,12 +158,12 @@ module _ (q : Plan) where
 abbrev pub mostPages : ℕ
 mostPages = lineLimit + 11
 
-module _ {bin : List ℕ} {lines : List Line} (accepted : Accepted bin lines) where
+module _ {lines : List Line} (g : Good lines) where
   pub few-pages : pages lines ≤ length lines + 11
-  few-pages = omega (arith, pages-is lines, plan-pages (planOf lines) (plan-valid (good accepted)), plan-fewest accepted)
+  few-pages = omega (arith, pages-is lines, plan-pages (planOf lines) (plan-valid g), plan-fewest g)
 
   pub pages-most : pages lines ≤ mostPages
-  pages-most = omega (arith, few-pages, accepted .few)
+  pages-most = omega (arith, few-pages, g .few)
 
   -- so many pages as a build has room for, and so many words as a lent RAM can have
   pub pages-limit : pages lines ≤ pageLimit

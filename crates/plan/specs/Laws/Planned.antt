@@ -20,5 +20,5 @@ planned {lines = lines} a =
       covered = covered-is (good a .fine);
       ram = ram-is (good a .fine);
       valid = plan-valid (good a);
-      fewest = plan-fewest a;
+      fewest = plan-fewest (good a);
     }

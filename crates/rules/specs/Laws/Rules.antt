@@ -384,10 +384,9 @@ shares-both e m f g t a h k =
         let c : first e / chapterSize ≡ first m / chapterSize = chapter-of (page-line f o) a w ∙ sym (chapter-of (page-line g q) a v) in
         simp (o, q, eq-eqb (suc y) (suc y) refl, ne-eqb (suc y) 0 (omega arith), eq-eqb (first e / chapterSize) (first m / chapterSize) c)
 
-module _ {bin : List ℕ} {lines : List Line} (accepted : Accepted bin lines) (d : Line) (t a : ℕ) where
+module _ {lines : List Line} (g : Good lines) (d : Line) (t a : ℕ) where
   never : (i j : ℕ) → i < j → j < length lines → there (getD lines i d .entry) t a ≡ true → there (getD lines j d .entry) t a ≡ true → ⊥
   never i j c b h k =
-      let g : Good lines = good accepted in
       true-is-not-false
       (shares-both (getD lines i d .entry) (getD lines j d .entry) (line-at (g .fine) d i (omega arith)) (line-at (g .fine) d j b) t a h k)
       (separate-at d (g .separate) i j c b)
