@@ -1,16 +1,21 @@
 // The builder: an image from a publisher's BIN and CFG (01, "How an image is laid out by the builder").
-ghost use Prim.Native.Nat.{_*_, _≤_, _<_};
 ghost use mathlib.Core.Path.{_≡_};
-ghost use lib.ListN.{length, take};
+ghost use mathlib.Core.Bool.{false};
+ghost use lib.ListN.{take};
+ghost use Rattle.basics.specs.Bytes.{le32};
+ghost use Rattle.save.specs.Writing.{writingOf, writtenOf};
 ghost use Rattle.places.specs.Limits.{pageLimit};
 ghost use Rattle.cfg.specs.File.{entriesOf};
 ghost use Rattle.rules.specs.Accepted.{Accepted};
 ghost use Rattle.build.specs.Building.{flagBytes, uidOf, wrongBin, buildingOf, builtOf};
-ghost use Rattle.build.specs.Code.Answers.{answeredOf, bare, Pressed};
+ghost use Rattle.build.specs.Code.Answers.{answeredOf, bare, drawnContent, Read, Answers, Pressed};
 use basics::Refusal;
 use basics::either;
 use basics::high;
 use basics::low;
+use cfg::Reading;
+use header::UID_SIZE;
+use layout::Drawing;
 use lines::Line;
 use places::BIN_LIMIT;
 use places::LINE_LIMIT;
@@ -46,31 +51,26 @@ fn flag_bytes() -> [u8; 16]
     flags
 }
 
-// CRC32 of the BIN, then of the CFG, the lowest byte first.
-fn uid_of(bin: &[u8], cfg: &[u8]) -> [u8; 8]
+// The four bytes of a sum, the lowest first.
+fn bytes_of(x: u32) -> [u8; 4]
+    ensures { λ r. ⌜ r ≡ le32 x ⌝ }
+{
+    let lower = (x % 65536) as u16;
+    let upper = (x / 65536) as u16;
+    [low(lower), high(lower), low(upper), high(upper)]
+}
+
+// CRC32 of the BIN, then of the CFG.
+fn uid_of(bin: &[u8], cfg: &[u8]) -> [u8; UID_SIZE]
     ensures { λ r. ⌜ r ≡ uidOf (now (bin .entry)) (now (cfg .entry)) ⌝ }
 {
-    let b = sums::crc32(bin);
-    let c = sums::crc32(cfg);
-    let b0 = (b % 65536) as u16;
-    let b1 = (b / 65536) as u16;
-    let c0 = (c % 65536) as u16;
-    let c1 = (c / 65536) as u16;
-    [
-        low(b0),
-        high(b0),
-        low(b1),
-        high(b1),
-        low(c0),
-        high(c0),
-        low(c1),
-        high(c1),
-    ]
+    let b = bytes_of(sums::crc32(bin));
+    let c = bytes_of(sums::crc32(cfg));
+    [b[0], b[1], b[2], b[3], c[0], c[1], c[2], c[3]]
 }
 
 // What the writer's answer is for a build of so many pages.
-fn answered(w: Writing, pages: u32) -> Building
-    requires { ⌜ pages ≤ pageLimit ⌝ }
+fn answered(w: Writing, pages: u16) -> Building
     ensures { λ r. ⌜ r ≡ answeredOf w pages ⌝ }
 {
     let r = w.refusal;
@@ -84,7 +84,7 @@ fn answered(w: Writing, pages: u32) -> Building
     Building {
         refusal: r,
         length: w.length,
-        needed: PAGE_SIZE as u32 * pages,
+        needed: PAGE_SIZE as u32 * pages as u32,
     }
 }
 
@@ -99,30 +99,65 @@ fn refuse(r: Refusal) -> Building
     }
 }
 
-// The image of lines that the rules accept: laid out in a RAM of PAGE_LIMIT pages, and written by the plain writer.
+// The image of what was drawn, with this UID, by the plain writer from a RAM that has its words.
+fn write_drawing(out: &mut [u8], uid: &[u8; UID_SIZE], d: Drawing, ram: &[u16]) -> Writing
+    ensures { λ r. ⌜ (r ≡ writingOf (now (out .entry)) (drawnContent (now (uid .entry)) d (now (ram .entry))))
+        × (now (out .exit) ≡ writtenOf (now (out .entry)) (drawnContent (now (uid .entry)) d (now (ram .entry)))) ⌝ }
+{
+    let flags = flag_bytes();
+    let mapping = d.mapping;
+    let permissions = d.permissions;
+    let flips = d.flips;
+    let marks = d.marks;
+    save::write(
+        out,
+        &flags,
+        uid,
+        &mapping,
+        &permissions,
+        &flips,
+        ram,
+        &marks,
+    )
+}
+
+// The image of lines that the rules accept: laid out in a RAM of PAGE_LIMIT pages, and written.
 fn press(bin: &[u8], cfg: &[u8], count: u32, lines: [Line; LINE_LIMIT], out: &mut [u8]) -> Building
     requires { ⌜ Accepted (now bin) (take count lines) ⌝ }
     ensures { λ r. ⌜ Pressed (now (bin .entry)) (now (cfg .entry)) (take count lines) (now (out .entry)) r (now (out .exit)) ⌝ }
 {
     let mut ram = [0u16; RAM_WORDS];
-    let drawing = layout::lay_out(bin, count, lines, &mut ram);
-    let flags = flag_bytes();
+    let d = layout::lay_out(bin, count, lines, &mut ram);
     let uid = uid_of(bin, cfg);
-    let mapping = drawing.mapping;
-    let permissions = drawing.permissions;
-    let flips = drawing.flips;
-    let marks = drawing.marks;
-    let w = save::write(
-        out,
-        &flags,
-        &uid,
-        &mapping,
-        &permissions,
-        &flips,
-        &ram,
-        &marks,
-    );
-    answered(w, drawing.pages)
+    let w = write_drawing(out, &uid, d, &ram);
+    answered(w, d.pages)
+}
+
+// 25 to 28, then the image, of a CFG that was read.
+fn build_lines(bin: &[u8], cfg: &[u8], r: Reading, out: &mut [u8]) -> Building
+    requires { ⌜ Read (now bin) (now cfg) r ⌝ }
+    ensures { λ b. ⌜ Answers (now (bin .entry)) (now (cfg .entry)) (now (out .entry)) b (now (out .exit)) ⌝ }
+{
+    let lines = r.lines;
+    let words = (bin.len() / 2) as u32;
+    let j = rules::judge(words, r.count, lines);
+    if j.number != 0 {
+        return refuse(j);
+    }
+    press(bin, cfg, r.count, lines, out)
+}
+
+// 22 to 24, then the lines, beside a BIN that 21 passes.
+fn build_text(bin: &[u8], cfg: &[u8], out: &mut [u8]) -> Building
+    requires { ⌜ wrongBin (now bin) ≡ false ⌝ }
+    ensures { λ b. ⌜ Answers (now (bin .entry)) (now (cfg .entry)) (now (out .entry)) b (now (out .exit)) ⌝ }
+{
+    let r = cfg::read_cfg(cfg);
+    let refusal = r.refusal;
+    if refusal.number != 0 {
+        return refuse(refusal);
+    }
+    build_lines(bin, cfg, r, out)
 }
 
 // An image from a BIN and a CFG, into the front of a lent buffer.
@@ -132,16 +167,5 @@ pub fn build(bin: &[u8], cfg: &[u8], out: &mut [u8]) -> Building
     if is_wrong(bin) {
         return refuse(basics::refuse(21, 0));
     }
-    let r = cfg::read_cfg(cfg);
-    let read = r.refusal;
-    if read.number != 0 {
-        return refuse(read);
-    }
-    let lines = r.lines;
-    let words = (bin.len() / 2) as u32;
-    let j = rules::judge(words, r.count, lines);
-    if j.number != 0 {
-        return refuse(j);
-    }
-    press(bin, cfg, r.count, lines, out)
+    build_text(bin, cfg, out)
 }

@@ -28,7 +28,7 @@ pub struct Drawing {
     pub mapping: [u16; PARAGRAPHS],
     pub permissions: [u8; PARAGRAPHS],
     pub flips: [u16; FLIP_ENTRIES],
-    pub pages: u32,
+    pub pages: u16,
     pub marks: [bool; LOCUTUS_PARAGRAPHS],
 }
 
@@ -51,7 +51,7 @@ fn drawn(s: Survey) -> Drawing
         mapping,
         permissions,
         flips,
-        pages: s.pages as u32,
+        pages: s.pages,
         marks,
     }
 }

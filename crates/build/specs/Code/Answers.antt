@@ -1,6 +1,6 @@
--- The writer's answer as the builder's.
+-- What the steps of a build are given and answer.
 use Prim.Native.Nat.{ℕ, _*_}
-use mathlib.Core.Bool.{cond}
+use mathlib.Core.Bool.{cond, false}
 use mathlib.Core.List.{List, _++_}
 use mathlib.Core.Path.{_≡_}
 use lib.ListN.{length, drop}
@@ -8,11 +8,16 @@ use lib.Dec.{ltb}
 use Rattle.basics.specs.declared.Refusal.{Refusal}
 use Rattle.basics.specs.Refusals.{refuse, noRefusal, passes}
 use Rattle.places.specs.Limits.{pageSize}
+use Rattle.tables.specs.Tables.{tables}
 use Rattle.save.specs.declared.Writing.{Writing}
+use Rattle.save.specs.Writing.{Content, content}
 use Rattle.lines.specs.declared.Line.{Line}
+use Rattle.cfg.specs.declared.Reading.{Reading}
+use Rattle.cfg.specs.File.{readingOf}
+use Rattle.layout.specs.declared.Drawing.{Drawing}
 use Rattle.layout.specs.Layout.{needed}
 use Rattle.build.specs.declared.Building.{Building}
-use Rattle.build.specs.Building.{imageOn}
+use Rattle.build.specs.Building.{imageOn, flagBytes, wrongBin, buildingOf, builtOf}
 
 -- a refusal, and zero in all else; 29 with the length needed; and an image with the words that it needs
 abbrev pub bare : Refusal → Building
@@ -27,6 +32,20 @@ whole n words = record { refusal = noRefusal; length = n; needed = words }
 abbrev pub answeredOf : Writing → ℕ → Building
 answeredOf w pages =
     record { refusal = w .refusal; length = w .length; needed = cond (passes (w .refusal)) (pageSize * pages) 0 }
+
+-- what the writer is given of a drawing, with this UID and a RAM that has its words
+abbrev pub drawnContent : List ℕ → Drawing → List ℕ → Content
+drawnContent uid d ram = content flagBytes uid (tables (d .mapping) (d .permissions) (d .flips)) ram (d .marks)
+
+-- a BIN that 21 passes, and a CFG that was read
+pub record Read (bin cfg : List ℕ) (r : Reading) : Type 0 where
+  pub fine : wrongBin bin ≡ false
+  pub reading : r ≡ readingOf cfg
+  pub accepted : r .refusal .number ≡ 0
+
+-- a build's answer, and the buffer after it
+abbrev pub Answers : List ℕ → List ℕ → List ℕ → Building → List ℕ → Type 0
+Answers bin cfg out r after = (r ≡ buildingOf bin cfg out) × (after ≡ builtOf bin cfg out)
 
 -- what pressing lines that the rules accept answers, and what it leaves
 pub record Pressed (bin cfg : List ℕ) (lines : List Line) (out : List ℕ) (r : Building) (after : List ℕ) : Type 0 where

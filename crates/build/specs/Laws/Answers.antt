@@ -28,7 +28,7 @@ use Rattle.rules.specs.Accepted.{Accepted}
 use Rattle.layout.specs.Layout.{needed}
 use Rattle.build.specs.declared.Building.{Building}
 use Rattle.build.specs.Building.{imageOn, pressedImage, buildingOf, builtOf, refusalRows, refusalOf, refused, wrongBin, tooShort}
-use Rattle.build.specs.Code.Answers.{bare, Pressed}
+use Rattle.build.specs.Code.Answers.{bare, Read, Answers, Pressed}
 
 -- the numbers of the CFG's refusals, and of the rules'
 below-by : (m : ℕ) (b : Bool) (x y : Refusal) → x .number < m → y .number < m → cond b x y .number < m
@@ -66,97 +66,93 @@ rules-below words ls =
     (shares-below [] ls _ (chapters-below (breaksPlain ls) 0 chapters noRefusal (omega arith)))))
 
 module _ (bin cfg out : List ℕ) where
-  abbrev Answers : Building → List ℕ → Type 0
-  Answers r after = (r ≡ buildingOf bin cfg out) × (after ≡ builtOf bin cfg out)
-
-  refuses : (r : Refusal) → refusalOf bin cfg out ≡ r → (r .number ≡ 0 → ⊥) → Answers (refused bin cfg r) out
+  refuses : (r : Refusal) → refusalOf bin cfg out ≡ r → (r .number ≡ 0 → ⊥) → Answers bin cfg out (refused bin cfg r) out
   unfolding buildingOf builtOf
   refuses r e h = (rw (e, ne-eqb (r .number) 0 h), rw (e, ne-eqb (r .number) 0 h))
 
   -- any refusal but 29 answers nothing else
-  refuses-bare : (r : Refusal) → refusalOf bin cfg out ≡ r → (r .number ≡ 0 → ⊥) → (r .number ≡ 29 → ⊥) → Answers (bare r) out
-  refuses-bare r e h k = let a : Answers (refused bin cfg r) out = refuses r e h in rw (ne-eqb (r .number) 29 k) at a
+  refuses-bare : (r : Refusal) → refusalOf bin cfg out ≡ r → (r .number ≡ 0 → ⊥) → (r .number ≡ 29 → ⊥) → Answers bin cfg out (bare r) out
+  refuses-bare r e h k = let a : Answers bin cfg out (refused bin cfg r) out = refuses r e h in rw (ne-eqb (r .number) 29 k) at a
 
   -- 21
-  pub refused-bin : (b : Bool) → b ≡ wrongBin bin → b ≡ true → (r : Refusal) → r ≡ refuse 21 0 → (q : Building) → q ≡ bare r → Answers q out
+  pub refused-bin : (b : Bool) → b ≡ wrongBin bin → b ≡ true → (r : Refusal) → r ≡ refuse 21 0 → (q : Building) → q ≡ bare r → Answers bin cfg out q out
   unfolding refusalOf
   refused-bin b e h r er q eq = rw (eq, er) (refuses-bare (refuse 21 0) (rw (← e, h)) (λ z. omega arith) (λ z. omega arith))
 
-  module _ (b : Bool) (eb : b ≡ wrongBin bin) (hb : b ≡ false) where
-    abbrev behind : List (Row Refusal)
-    behind = ruleRows (binWords bin) (entriesOf cfg) ++ ((tooShort bin cfg out, refuse 29 0) ∷ [])
+  abbrev behind : List (Row Refusal)
+  behind = ruleRows (binWords bin) (entriesOf cfg) ++ ((tooShort bin cfg out, refuse 29 0) ∷ [])
 
+  module _ (fine : wrongBin bin ≡ false) where
     parts : refusalOf bin cfg out ≡ firstRefusal (cfgRows cfg ++ behind)
     unfolding refusalOf
-    parts = rw (← eb, hb)
+    parts = rw fine
 
     -- 22 to 24
-    pub refused-cfg : (r : Reading) → r ≡ readingOf cfg → (r .refusal .number ≡ 0 → ⊥) → (q : Building) → q ≡ bare (r .refusal) → Answers q out
+    pub refused-cfg : (r : Reading) → r ≡ readingOf cfg → (r .refusal .number ≡ 0 → ⊥) → (q : Building) → q ≡ bare (r .refusal) → Answers bin cfg out q out
     refused-cfg r e h q eq =
         let s : r .refusal ≡ cfgRefusal cfg = ap (λ (x : Reading). x .refusal) e ∙ refusal-is cfg in
         let n : cfgRefusal cfg .number ≡ 0 → ⊥ = rw s at h in
         rw (eq, s) (refuses-bare (cfgRefusal cfg) (parts ∙ refused-front (cfgRows cfg) behind n) n (λ z. omega (arith, cfg-below cfg)))
 
-    module _ (r : Reading) (er : r ≡ readingOf cfg) (hr : r .refusal .number ≡ 0) where
-      read : readingOf cfg .refusal .number ≡ 0
-      read = sym (ap (λ (x : Reading). x .refusal .number) er) ∙ hr
+  module _ (r : Reading) (given : Read bin cfg r) where
+    read : readingOf cfg .refusal .number ≡ 0
+    read = sym (ap (λ (x : Reading). x .refusal .number) (given .reading)) ∙ given .accepted
 
-      pub lines-are : take (r .count) (r .lines) ≡ entriesOf cfg
-      lines-are = rw er (accepted-holds cfg read .lines)
+    pub lines-are : take (r .count) (r .lines) ≡ entriesOf cfg
+    lines-are = rw (given .reading) (accepted-holds cfg read .lines)
 
-      behind-cfg : refusalOf bin cfg out ≡ firstRefusal behind
-      behind-cfg = parts ∙ silent-behind (cfgRows cfg) behind (exactly cfg .accepts .0 read)
+    behind-cfg : refusalOf bin cfg out ≡ firstRefusal behind
+    behind-cfg = parts (given .fine) ∙ silent-behind (cfgRows cfg) behind (exactly cfg .accepts .0 read)
 
-      module _ (words : ℕ) (ew : words ≡ binWords bin) (j : Refusal) (ej : j ≡ ruleRefusal words (take (r .count) (r .lines))) where
-        judged : j ≡ ruleRefusal (binWords bin) (entriesOf cfg)
-        judged = ej ∙ rw (ew, lines-are)
+    module _ (words : ℕ) (ew : words ≡ binWords bin) (j : Refusal) (ej : j ≡ ruleRefusal words (take (r .count) (r .lines))) where
+      judged : j ≡ ruleRefusal (binWords bin) (entriesOf cfg)
+      judged = ej ∙ rw (ew, lines-are)
 
-        -- 25 to 28
-        pub refused-lines : (j .number ≡ 0 → ⊥) → (q : Building) → q ≡ bare j → Answers q out
+      -- 25 to 28
+      pub refused-lines : (j .number ≡ 0 → ⊥) → (q : Building) → q ≡ bare j → Answers bin cfg out q out
+      unfolding ruleRefusal
+      refused-lines h q eq =
+          let n : ruleRefusal (binWords bin) (entriesOf cfg) .number ≡ 0 → ⊥ = rw judged at h in
+          rw (eq, judged)
+          (refuses-bare (ruleRefusal (binWords bin) (entriesOf cfg)) (behind-cfg ∙ refused-front (ruleRows (binWords bin) (entriesOf cfg)) _ n) n
+          (λ z. omega (arith, rules-below (binWords bin) (entriesOf cfg))))
+
+      module _ (h : j .number ≡ 0) where
+        silent : Silent (ruleRows (binWords bin) (entriesOf cfg))
         unfolding ruleRefusal
-        refused-lines h q eq =
-            let n : ruleRefusal (binWords bin) (entriesOf cfg) .number ≡ 0 → ⊥ = rw judged at h in
-            rw (eq, judged)
-            (refuses-bare (ruleRefusal (binWords bin) (entriesOf cfg)) (behind-cfg ∙ refused-front (ruleRows (binWords bin) (entriesOf cfg)) _ n) n
-            (λ z. omega (arith, rules-below (binWords bin) (entriesOf cfg))))
+        silent =
+            accepted-exactly (ruleRows (binWords bin) (entriesOf cfg)) (rules-refuse (binWords bin) (entriesOf cfg)) .0
+            (sym (ap (λ (x : Refusal). x .number) judged) ∙ h)
 
-        module _ (h : j .number ≡ 0) where
-          silent : Silent (ruleRows (binWords bin) (entriesOf cfg))
-          unfolding ruleRefusal
-          silent =
-              accepted-exactly (ruleRows (binWords bin) (entriesOf cfg)) (rules-refuse (binWords bin) (entriesOf cfg)) .0
-              (sym (ap (λ (x : Refusal). x .number) judged) ∙ h)
+        pub accepts : Accepted bin (take (r .count) (r .lines))
+        accepts =
+            let k : Holds cfg (readingOf cfg) = accepted-holds cfg read in
+            rw lines-are (record { few = omega (arith, k .counted, k .most); typed = all-typed (k .fitting); judged = rules-exactly (binWords bin) (entriesOf cfg) .accepts .1 silent })
 
-          pub accepts : Accepted bin (take (r .count) (r .lines))
-          accepts =
-              let k : Holds cfg (readingOf cfg) = accepted-holds cfg read in
-              rw lines-are (record { few = omega (arith, k .counted, k .most); typed = all-typed (k .fitting); judged = rules-exactly (binWords bin) (entriesOf cfg) .accepts .1 silent })
+        image-is : imageOn bin cfg (take (r .count) (r .lines)) ≡ pressedImage bin cfg
+        unfolding pressedImage
+        image-is = rw lines-are
 
-          image-is : imageOn bin cfg (take (r .count) (r .lines)) ≡ pressedImage bin cfg
-          unfolding pressedImage
-          image-is = rw lines-are
+        left : refusalOf bin cfg out ≡ cond (tooShort bin cfg out) (refuse 29 0) noRefusal
+        left = behind-cfg ∙ silent-behind (ruleRows (binWords bin) (entriesOf cfg)) _ silent
 
-          left : refusalOf bin cfg out ≡ cond (tooShort bin cfg out) (refuse 29 0) noRefusal
-          left = behind-cfg ∙ silent-behind (ruleRows (binWords bin) (entriesOf cfg)) _ silent
-
-          -- 29, and the image
-          pub pressed : (q : Building) (after : List ℕ) → Pressed bin cfg (take (r .count) (r .lines)) out q after → Answers q after
-          unfolding buildingOf builtOf tooShort pressedImage
-          pressed q after p =
-              cases (tooShort bin cfg out)
-              (λ t.
-              let v : refusalOf bin cfg out ≡ refuse 29 0 = left ∙ rw t in
-              let u : ltb (length out) (length (imageOn bin cfg (take (r .count) (r .lines)))) ≡ true = rw image-is t in
-              (p .answer ∙ rw (u, image-is, v), p .leaves ∙ rw (u, v)))
-              (λ t.
-              let v : refusalOf bin cfg out ≡ noRefusal = left ∙ rw t in
-              let u : ltb (length out) (length (imageOn bin cfg (take (r .count) (r .lines)))) ≡ false = rw image-is t in
-              (p .answer ∙ rw (u, image-is, lines-are, v), p .leaves ∙ rw (u, image-is, v)))
+        -- 29, and the image
+        pub pressed : (q : Building) (after : List ℕ) → Pressed bin cfg (take (r .count) (r .lines)) out q after → Answers bin cfg out q after
+        unfolding buildingOf builtOf tooShort pressedImage
+        pressed q after p =
+            cases (tooShort bin cfg out)
+            (λ t.
+            let v : refusalOf bin cfg out ≡ refuse 29 0 = left ∙ rw t in
+            let u : ltb (length out) (length (imageOn bin cfg (take (r .count) (r .lines)))) ≡ true = rw image-is t in
+            (p .answer ∙ rw (u, image-is, v), p .leaves ∙ rw (u, v)))
+            (λ t.
+            let v : refusalOf bin cfg out ≡ noRefusal = left ∙ rw t in
+            let u : ltb (length out) (length (imageOn bin cfg (take (r .count) (r .lines)))) ≡ false = rw image-is t in
+            (p .answer ∙ rw (u, image-is, lines-are, v), p .leaves ∙ rw (u, image-is, v)))
 
 -- a BIN that 21 passes
-pub bin-small : (bin : List ℕ) (b : Bool) → b ≡ wrongBin bin → b ≡ false → length bin ≤ binLimit
+pub bin-small : (bin : List ℕ) → wrongBin bin ≡ false → length bin ≤ binLimit
 unfolding wrongBin
-bin-small bin b e h =
-    let z : ltb binLimit (length bin) ≡ false =
-    or-false-right (eqb (length bin % 2) 1) _ (or-false-right (eqb (length bin) 0) _ (sym e ∙ h)) in
+bin-small bin h =
+    let z : ltb binLimit (length bin) ≡ false = or-false-right (eqb (length bin % 2) 1) _ (or-false-right (eqb (length bin) 0) _ h) in
     ltb-false binLimit (length bin) z

@@ -19,7 +19,6 @@ use Rattle.basics.specs.Laws.Counts.{Place, any-at}
 use Rattle.basics.specs.Laws.Puts.{put-room}
 use Rattle.places.specs.Places.{console}
 use Rattle.places.specs.Limits.{locutusParagraphs, lent, imageLimit, pageLimit, pageSize, pageParagraphs, paragraphSize}
-use Rattle.tables.specs.Tables.{tables}
 use Rattle.save.specs.declared.Writing.{Writing}
 use Rattle.save.specs.Chosen.{imageFor}
 use Rattle.save.specs.Writing.{Content, content, paragraphOf, isMarked, marked, pastLent, imageBy, refusalOf, answerFor, writingOf, writtenOf}
@@ -34,15 +33,17 @@ use Rattle.plan.specs.Laws.Pages.{pages-limit}
 use Rattle.layout.specs.Laws.Uses.{covered-below, covered-inside}
 use Rattle.build.specs.declared.Building.{Building}
 use Rattle.build.specs.Building.{hunksFor, flagBytes, uidOf, tablesFor, imageOn}
-use Rattle.build.specs.Code.Answers.{answeredOf, short, whole, Pressed}
+use Rattle.build.specs.Code.Answers.{answeredOf, short, whole, drawnContent, Pressed}
 use Rattle.build.specs.Laws.Image.{supported, within-limit}
 
 -- the words that a build lays out
 abbrev pub ramWords : ℕ
 ramWords = pageLimit * pageSize
 
-module _ (bin : List ℕ) (lines : List Line) (accepted : Accepted bin lines) (ram₀ ram : List ℕ) (long : length ram₀ ≡ ramWords) (laid-as : ram ≡ ramOf bin lines ram₀)
-    (marks : List Bool) (em : marks ≡ table locutusParagraphs (covered lines)) where
+module _ (bin : List ℕ) (lines : List Line) (accepted : Accepted bin lines) (ram₀ ram : List ℕ) (long : length ram₀ ≡ ramWords) (laid-as : ram ≡ ramOf bin lines ram₀) where
+  abbrev marks : List Bool
+  marks = table locutusParagraphs (covered lines)
+
   room : needed lines ≤ ramWords
   room = omega (arith, pages-limit (good accepted))
 
@@ -68,7 +69,7 @@ module _ (bin : List ℕ) (lines : List Line) (accepted : Accepted bin lines) (r
 
   is-marked : (p : ℕ) → p < locutusParagraphs → isMarked marks p ≡ covered lines p
   unfolding isMarked
-  is-marked p h = rw em (getD-table false locutusParagraphs (covered lines) p h)
+  is-marked p h = getD-table false locutusParagraphs (covered lines) p h
 
   marked-are : marked ram marks ≡ hunksFor bin lines
   marked-are = chosen-same locutusParagraphs (isMarked marks) (covered lines) (paragraphOf ram) (paragraphWords bin lines) is-marked (λ p h e. words-there p e)
@@ -114,13 +115,12 @@ module _ (bin : List ℕ) (lines : List Line) (accepted : Accepted bin lines) (r
 
     -- as the code comes to it
     pub pressed-as :
-        (drawing : Drawing) → drawing ≡ drawingOf lines → (flags uid : List ℕ) → flags ≡ flagBytes → uid ≡ uidOf bin cfg → (w : Writing) (after : List ℕ) (r : Building)
-        → (w ≡ writingOf out (content flags uid (tables (drawing .mapping) (drawing .permissions) (drawing .flips)) ram marks))
-        × (after ≡ writtenOf out (content flags uid (tables (drawing .mapping) (drawing .permissions) (drawing .flips)) ram marks))
-        → r ≡ answeredOf w (drawing .pages) → Pressed bin cfg lines out r after
+        (d : Drawing) → d ≡ drawingOf lines → (uid : List ℕ) → uid ≡ uidOf bin cfg → (w : Writing) (after : List ℕ) (r : Building)
+        → (w ≡ writingOf out (drawnContent uid d ram)) × (after ≡ writtenOf out (drawnContent uid d ram)) → r ≡ answeredOf w (d .pages)
+        → Pressed bin cfg lines out r after
     unfolding drawingOf
-    pressed-as drawing ep flags uid ef eu w after r ew er =
-        let a : w ≡ writingOf out given = rw (ep, ef, eu) at (ew .0) in
-        let b : after ≡ writtenOf out given = rw (ep, ef, eu) at (ew .1) in
-        let c : r ≡ answeredOf w (pages lines) = rw ep at er in
+    pressed-as d ed uid eu w after r ew er =
+        let a : w ≡ writingOf out given = rw (ed, eu) at (ew .0) in
+        let b : after ≡ writtenOf out given = rw (ed, eu) at (ew .1) in
+        let c : r ≡ answeredOf w (pages lines) = rw ed at er in
         record { answer = c ∙ ap (λ (x : Writing). answeredOf x (pages lines)) (a ∙ writing) ∙ answer (ltb (length out) (length image)); leaves = b ∙ written }
