@@ -1,6 +1,6 @@
 -- What building answers and what it leaves in the lent buffer (01, How an image is laid out by the builder; Numbers that come back).
 use Prim.Native.Nat.{ℕ, _%_}
-use mathlib.Core.List.{List, _∷_, [], _++_, map}
+use mathlib.Core.List.{List, _∷_, [], _++_}
 use mathlib.Core.Bool.{Bool, cond, _||_}
 use lib.ListN.{replicate, length, drop}
 use lib.Dec.{eqb, ltb}
@@ -16,7 +16,7 @@ use Rattle.save.specs.Chosen.{chosen, imageFor}
 use Rattle.lines.specs.declared.Line.{Line}
 use Rattle.lines.specs.Bin.{binWords}
 use Rattle.cfg.specs.File.{entriesOf, refusalRows as cfgRows}
-use Rattle.rules.specs.Rules.{Verdict, ruleRows}
+use Rattle.rules.specs.Rules.{refusalRows as ruleRows}
 use Rattle.layout.specs.Layout.{mappingTable, permissionsTable, flipTable, covered, paragraphWords, needed}
 use Rattle.build.specs.declared.Building.{Building}
 
@@ -49,18 +49,11 @@ wrongBin bin = eqb (length bin) 0 || (eqb (length bin % 2) 1 || ltb binLimit (le
 unfoldable pub tooShort : List ℕ → List ℕ → List ℕ → Bool
 tooShort bin cfg out = ltb (length out) (length (pressedImage bin cfg))
 
--- a verdict of the rules, as a refusal
-abbrev pub ruled : Verdict → Refusal
-ruled v = refuse (v .0) (v .1)
-
-abbrev pub ruledRow : Row Verdict → Row Refusal
-ruledRow r = (r .0, ruled (r .1))
-
 -- every refusal of a build in 01's order: 21; 22, 23, 24; 25 to 28; 29
 abbrev pub refusalRows : List ℕ → List ℕ → List ℕ → List (Row Refusal)
 refusalRows bin cfg out =
     (wrongBin bin, refuse 21 0)
-    ∷ (cfgRows cfg ++ (map ruledRow (ruleRows (binWords bin) (entriesOf cfg)) ++ ((tooShort bin cfg out, refuse 29 0) ∷ [])))
+    ∷ (cfgRows cfg ++ (ruleRows (binWords bin) (entriesOf cfg) ++ ((tooShort bin cfg out, refuse 29 0) ∷ [])))
 
 unfoldable pub refusalOf : List ℕ → List ℕ → List ℕ → Refusal
 refusalOf bin cfg out = firstRefusal (refusalRows bin cfg out)

@@ -140,7 +140,7 @@ pub fn build(bin: &[u8], cfg: &[u8], out: &mut [u8]) -> Building
     let words = (bin.len() / 2) as u32;
     let j = rules::judge(words, r.count, lines);
     if j.number != 0 {
-        return refuse(basics::refuse(j.number, j.place as usize));
+        return refuse(j);
     }
     press(bin, cfg, r.count, lines, out)
 }

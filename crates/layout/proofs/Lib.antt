@@ -1,5 +1,10 @@
+pub mod Joined
+pub mod Claiming
+pub mod Surveying
 pub mod Numbering
 pub mod Rows
+pub mod Holding
+pub mod Drafts
 pub mod Laying
 pub mod Sources
 pub mod Same

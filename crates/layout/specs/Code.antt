@@ -1,2 +1,4 @@
 -- What private functions promise.
-pub mod Plan
+pub mod Survey
+pub mod Entries
+pub mod Pour

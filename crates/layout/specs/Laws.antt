@@ -6,5 +6,6 @@ pub mod Tables
 pub mod Shows
 pub mod Few
 pub mod Examples
-pub mod Plan
+pub mod Cells
+pub mod Survey
 pub mod Draw

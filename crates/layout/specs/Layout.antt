@@ -9,25 +9,24 @@ use Rattle.basics.specs.Counts.{count, nth}
 use Rattle.basics.specs.Options.{isSome}
 use Rattle.basics.specs.Tables.{table}
 use Rattle.places.specs.declared.Console.{Console}
+use Rattle.places.specs.Places.{console}
+use Rattle.places.specs.Limits.{slots, layers, paragraphs, chapterParagraphs, chapterPages, flipEntries, paragraphSize, pageSize, pageParagraphs}
 use Rattle.cart.specs.declared.Cartridge.{Cartridge}
+use Rattle.cart.specs.Cartridges.{fresh}
 use Rattle.switches.specs.Flips.{firstK, flipMapping, flipPermissions}
 use Rattle.lines.specs.declared.Line.{Line}
 use Rattle.lines.specs.declared.Entry.{Entry}
 use Rattle.lines.specs.declared.Entry.the-variants.{Rom, Paged, Ram}
-use Rattle.lines.specs.declared.Width.the-variants.{Sixteen, Eight}
 use Rattle.lines.specs.Bin.{binWord, binPlace}
-use Rattle.rules.specs.Rules.{uses, allRom, paged, lineIn}
+use Rattle.rules.specs.Chapters.{lineIn, uses, paged, kindAt, under}
 
 -- A slot is a layer of a chapter, in the order of the pages: chapters rising; in each, its plain lines (layer 0), then its
 -- PAGE lines by page number (layer 1 + y).
-abbrev pub slots : ℕ
-slots = 272
-
 abbrev pub slotOf : ℕ → ℕ → ℕ
-slotOf x t = 17 * x + t
+slotOf x t = layers * x + t
 
 unfoldable pub used : List Line → ℕ → Bool
-used lines s = uses lines (s / 17) (s % 17)
+used lines s = uses lines (s / layers) (s % layers)
 
 -- The slots in use are the Locutus pages, numbered from 0: the page of layer t of chapter x, how many pages there are, and
 -- the slot of page n.
@@ -41,73 +40,53 @@ unfoldable pub slotOfPage : List Line → ℕ → ℕ
 slotOfPage lines n = nth (used lines) slots n
 
 abbrev pub needed : List Line → ℕ
-needed lines = 4096 * pages lines
-
--- permissions: ROM 1, RAM 16 3, RAM 8 7, and 0 where no line is
-abbrev pub permissionBy : Entry → ℕ
-permissionBy (Rom lo hi at) = 1
-permissionBy (Paged lo hi at y) = 1
-permissionBy (Ram lo hi Sixteen) = 3
-permissionBy (Ram lo hi Eight) = 7
-
-abbrev pub permissionOf : Option Line → ℕ
-permissionOf none = 0
-permissionOf (some l) = permissionBy (l .entry)
+needed lines = pageSize * pages lines
 
 -- the Locutus page that answers in chapter x while page y is asked for: the PAGE line's, else that of plain ROM that covers
 -- the flippable range
 unfoldable pub answering : List Line → ℕ → ℕ → Option ℕ
 answering lines x y =
-    cond (uses lines x (suc y)) (some (pageOf lines x (suc y))) (cond (allRom lines x) (some (pageOf lines x 0)) none)
+    cond (uses lines x (suc y)) (some (pageOf lines x (suc y))) (cond (under lines x) (some (pageOf lines x 0)) none)
 
 -- flip entry y of a chapter with PAGE lines is 16L + 9 for the page L that answers there, else 8; all other entries are 0
 abbrev pub entryFor : Option ℕ → ℕ
 entryFor none = 8
-entryFor (some n) = 16 * n + 9
+entryFor (some n) = pageParagraphs * n + 9
 
 unfoldable pub flipEntry : List Line → ℕ → ℕ → ℕ
 flipEntry lines x y = cond (paged lines x) (entryFor (answering lines x y)) 0
 
 -- paragraph p lies in the flippable range of a chapter with PAGE lines
 unfoldable pub flippable : List Line → ℕ → Bool
-flippable lines p = paged lines (p / 16) && leb (firstK (p / 16)) (p % 16)
+flippable lines p = paged lines (p / chapterParagraphs) && leb (firstK (p / chapterParagraphs)) (p % chapterParagraphs)
 
 -- The mapping and the permissions of paragraph p, where page y of its chapter has just been asked for. Outside the flippable
--- ranges a plain paragraph maps to 16L + k; the rest to 0 with permission 0.
+-- ranges a plain paragraph maps to 16L + k, and its kind is its permissions; the rest maps to 0 with permission 0.
 abbrev pub plainMapping : List Line → ℕ → ℕ
-plainMapping lines p = cond (isSome (lineIn lines 0 p)) (16 * pageOf lines (p / 16) 0 + p % 16) 0
-
-abbrev pub plainPermissions : List Line → ℕ → ℕ
-plainPermissions lines p = permissionOf (lineIn lines 0 p)
+plainMapping lines p =
+    cond (isSome (lineIn lines 0 p)) (pageParagraphs * pageOf lines (p / chapterParagraphs) 0 + p % chapterParagraphs) 0
 
 unfoldable pub mappingAt : List Line → ℕ → ℕ → ℕ
 mappingAt lines y p =
-    cond (flippable lines p) (flipMapping (flipEntry lines (p / 16) y) (p % 16)) (plainMapping lines p)
+    cond (flippable lines p) (flipMapping (flipEntry lines (p / chapterParagraphs) y) (p % chapterParagraphs)) (plainMapping lines p)
 
 unfoldable pub permissionsAt : List Line → ℕ → ℕ → ℕ
 permissionsAt lines y p =
-    cond (flippable lines p) (flipPermissions (flipEntry lines (p / 16) y) (p % 16)) (plainPermissions lines p)
+    cond (flippable lines p) (flipPermissions (flipEntry lines (p / chapterParagraphs) y) (p % chapterParagraphs)) (kindAt lines p)
 
 -- the three tables: the flippable paragraphs start as if page 0 had just been asked for
 abbrev pub mappingTable : List Line → List ℕ
-mappingTable lines = table 256 (mappingAt lines 0)
+mappingTable lines = table paragraphs (mappingAt lines 0)
 
 abbrev pub permissionsTable : List Line → List ℕ
-permissionsTable lines = table 256 (permissionsAt lines 0)
+permissionsTable lines = table paragraphs (permissionsAt lines 0)
 
 abbrev pub flipTable : List Line → List ℕ
-flipTable lines = table 256 (λ n. flipEntry lines (n / 16) (n % 16))
+flipTable lines = table flipEntries (λ n. flipEntry lines (n / chapterPages) (n % chapterPages))
 
 -- the cartridge with these tables, as a load leaves it
 abbrev pub cartridgeOf : List Line → Cartridge
-cartridgeOf lines =
-    record {
-      «initial_mapping» = mappingTable lines;
-      «initial_permissions» = permissionsTable lines;
-      mapping = mappingTable lines;
-      permissions = permissionsTable lines;
-      flips = flipTable lines;
-    }
+cartridgeOf lines = fresh (mappingTable lines) (permissionsTable lines) (flipTable lines)
 
 -- the word that a line has at an address when the image is written: the BIN's; declared RAM is written as zeros
 abbrev pub writtenBy : List ℕ → Entry → Console → ℕ
@@ -121,19 +100,19 @@ writtenOf bin (some l) a = writtenBy bin (l .entry) a
 
 -- Locutus paragraph p holds a paragraph of the console, on a layer
 abbrev pub layerHeld : List Line → ℕ → ℕ
-layerHeld lines p = slotOfPage lines (p / 16) % 17
+layerHeld lines p = slotOfPage lines (p / pageParagraphs) % layers
 
 abbrev pub paragraphHeld : List Line → ℕ → ℕ
-paragraphHeld lines p = 16 * (slotOfPage lines (p / 16) / 17) + p % 16
+paragraphHeld lines p = chapterParagraphs * (slotOfPage lines (p / pageParagraphs) / layers) + p % pageParagraphs
 
 -- the line behind it; it is covered where there is one
 unfoldable pub lineHeld : List Line → ℕ → Option Line
-lineHeld lines p = cond (ltb (p / 16) (pages lines)) (lineIn lines (layerHeld lines p) (paragraphHeld lines p)) none
+lineHeld lines p = cond (ltb (p / pageParagraphs) (pages lines)) (lineIn lines (layerHeld lines p) (paragraphHeld lines p)) none
 
 abbrev pub covered : List Line → ℕ → Bool
 covered lines p = isSome (lineHeld lines p)
 
--- the 256 words of its hunk
+-- the words of its hunk
 unfoldable pub paragraphWords : List ℕ → List Line → ℕ → List ℕ
 paragraphWords bin lines p =
-    table 256 (λ i. writtenOf bin (lineHeld lines p) (record { 0 = 256 * paragraphHeld lines p + i }))
+    table paragraphSize (λ i. writtenOf bin (lineHeld lines p) (console (paragraphSize * paragraphHeld lines p + i)))

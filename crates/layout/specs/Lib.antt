@@ -1,5 +1,5 @@
 -- The layout's definitions, then its laws.
 pub mod Layout
-pub mod Plan
+pub mod Drawing
 pub mod Code
 pub mod Laws

@@ -1,101 +1,74 @@
 // How the builder lays an image out: Locutus pages, tables, covered paragraphs (01, "How an image is laid out by the builder").
+mod cells;
 mod entries;
+mod held;
 mod pages;
 mod pour;
+mod survey;
 
 ghost use mathlib.Core.Path.{_≡_};
-ghost use mathlib.Core.Bool.{cond};
 ghost use lib.ListN.{take};
-ghost use Rattle.rules.specs.Code.Survey.{Few};
-ghost use Rattle.layout.specs.Plan.{planOf, ramOf};
-ghost use Rattle.layout.specs.Code.Plan.{Small, Slots, heldIn, marksIn, drawn};
-use basics::least;
+ghost use Rattle.layout.specs.Drawing.{drawingOf, ramOf};
+ghost use Rattle.layout.specs.Code.Entries.{Small, Slots, drawnBy};
 use entries::flips_of;
 use entries::mapping_of;
 use entries::permissions_of;
+use held::marks_of;
 use lines::Line;
-use pages::Numbered;
-use pages::number;
-use pour::write_paragraphs;
-use rules::Survey;
+use places::FLIP_ENTRIES;
+use places::LINE_LIMIT;
+use places::LOCUTUS_PARAGRAPHS;
+use places::PARAGRAPHS;
+use pour::pour;
+use survey::Survey;
+use survey::survey_of;
 
 // The three tables, how many Locutus pages there are, and a mark for each covered Locutus paragraph.
-pub struct Plan {
-    pub mapping: [u16; 256],
-    pub permissions: [u8; 256],
-    pub flips: [u16; 256],
+pub struct Drawing {
+    pub mapping: [u16; PARAGRAPHS],
+    pub permissions: [u8; PARAGRAPHS],
+    pub flips: [u16; FLIP_ENTRIES],
     pub pages: u32,
-    pub marks: [bool; 2048],
+    pub marks: [bool; LOCUTUS_PARAGRAPHS],
 }
 
-// The owner of Locutus paragraph p, below so many pages.
-fn owner_if(inside: bool, owner: u8) -> u8
-    ensures { λ r. ⌜ r ≡ cond inside owner 0 ⌝ }
+fn drawn(s: Survey) -> Drawing
+    requires { ⌜ Small (s .page) × Slots (s .slot) ⌝ }
+    ensures { λ r. ⌜ r ≡ drawnBy s ⌝ }
 {
-    if inside { owner } else { 0 }
-}
-
-fn held_of(owners: &[u8; 4352], slot: &[u16; 272], pages: u16) -> [u8; 4352]
-    requires { ⌜ Slots (now slot) ⌝ }
-    ensures { λ r. ⌜ r ≡ heldIn (now (owners .entry)) (now (slot .entry)) pages ⌝ }
-{
-    let mut held = [0u8; 4352];
-    let mut p = 0;
-    while p < 4352 {
-        let s = slot[p / 16] as usize;
-        let q = 256 * (s % 17) + (16 * (s / 17) + p % 16);
-        held[p] = owner_if(p / 16 < pages as usize, owners[q]);
-        p += 1;
-    }
-    held
-}
-
-fn marks_of(held: &[u8; 4352]) -> [bool; 2048]
-    ensures { λ r. ⌜ r ≡ marksIn (now (held .entry)) ⌝ }
-{
-    let mut marks = [false; 2048];
-    let mut p = 0;
-    while p < 2048 {
-        marks[p] = held[p] != 0;
-        p += 1;
-    }
-    marks
-}
-
-// The tables and the marks.
-fn draw(s: Survey, n: Numbered, held: &[u8; 4352], lines: [Line; 64]) -> Plan
-    requires { ⌜ Small (n .page) × Few (s .owners) ⌝ }
-    ensures { λ r. ⌜ r ≡ drawn s n (now (held .entry)) lines ⌝ }
-{
+    let cells = s.cells;
+    let kinds = s.kinds;
     let used = s.used;
-    let owners = s.owners;
     let paged = s.paged;
-    let whole = s.whole;
-    let page = n.page;
-    let flips = flips_of(&used, &page, &whole, &paged);
-    let mapping = mapping_of(&paged, &flips, &owners, &page);
-    let permissions = permissions_of(&paged, &flips, &owners, lines);
-    let marks = marks_of(held);
-    Plan {
+    let under = s.under;
+    let page = s.page;
+    let slot = s.slot;
+    let flips = flips_of(&used, &page, &under, &paged);
+    let mapping = mapping_of(&paged, &flips, &kinds, &page);
+    let permissions = permissions_of(&paged, &flips, &kinds);
+    let marks = marks_of(&cells, &slot, s.pages);
+    Drawing {
         mapping,
         permissions,
         flips,
-        pages: n.pages as u32,
+        pages: s.pages as u32,
         marks,
     }
 }
 
-// The layout of a CFG's lines, with the words of all its pages laid into a RAM.
-pub fn lay_out(bin: &[u8], count: u32, lines: [Line; 64], ram: &mut [u16]) -> Plan
-    ensures { λ r. ⌜ (r ≡ planOf (take count lines)) × (now (ram .exit) ≡ ramOf (now (bin .entry)) (take count lines) (now (ram .entry))) ⌝ }
+// The tables, pages and marks of a CFG's lines.
+pub fn draw(count: u32, lines: [Line; LINE_LIMIT]) -> Drawing
+    ensures { λ r. ⌜ r ≡ drawingOf (take count lines) ⌝ }
 {
-    let s = rules::survey_of(count, lines);
-    let used = s.used;
-    let owners = s.owners;
-    let n = number(&used);
-    let slot = n.slot;
-    let held = held_of(&owners, &slot, n.pages);
-    let end = least(16 * n.pages as usize, ram.len() / 256);
-    write_paragraphs(bin, lines, &held, &slot, end, ram);
-    draw(s, n, &held, lines)
+    let s = survey_of(count, lines);
+    drawn(s)
+}
+
+// The same, with the words of all pages laid into a RAM.
+pub fn lay_out(bin: &[u8], count: u32, lines: [Line; LINE_LIMIT], ram: &mut [u16]) -> Drawing
+    ensures { λ r. ⌜ (r ≡ drawingOf (take count lines)) × (now (ram .exit) ≡ ramOf (now (bin .entry)) (take count lines) (now (ram .entry))) ⌝ }
+{
+    let s = survey_of(count, lines);
+    pour(bin, lines, s, ram);
+    drawn(s)
 }

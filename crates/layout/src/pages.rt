@@ -2,12 +2,13 @@
 ghost use Prim.Native.Nat.{_≤_};
 ghost use mathlib.Core.Path.{_≡_};
 ghost use mathlib.Core.Bool.{cond};
-ghost use Rattle.layout.specs.Code.Plan.{numberedOf};
+ghost use Rattle.layout.specs.Code.Survey.{numberedOf};
+use places::SLOTS;
 
 // The Locutus page of each slot in use, the slot of each page, and how many pages there are.
 pub(crate) struct Numbered {
-    pub page: [u16; 272],
-    pub slot: [u16; 272],
+    pub page: [u16; SLOTS],
+    pub slot: [u16; SLOTS],
     pub pages: u16,
 }
 
@@ -24,14 +25,14 @@ pub(crate) fn one_if(used: bool) -> u16
     if used { 1 } else { 0 }
 }
 
-pub(crate) fn number(used: &[bool; 272]) -> Numbered
+pub(crate) fn number(used: &[bool; SLOTS]) -> Numbered
     ensures { λ r. ⌜ r ≡ numberedOf (now (used .entry)) ⌝ }
 {
-    let mut page = [0u16; 272];
-    let mut slot = [0u16; 272];
+    let mut page = [0u16; SLOTS];
+    let mut slot = [0u16; SLOTS];
     let mut n: u16 = 0;
     let mut s = 0;
-    while s < 272 {
+    while s < SLOTS {
         page[s] = n;
         let i = n as usize;
         slot[i] = slot_if(used[s], s as u16, slot[i]);

@@ -64,9 +64,19 @@ flipEntries = 256
 abbrev pub layers : ℕ
 layers = 17
 
--- the words of a Locutus page, the most pages that a build lays out, and the paragraphs of Locutus RAM (01, How an image is laid out by the builder)
+-- the slots are the layers of all chapters, the cells the paragraphs of all layers
+abbrev pub slots : ℕ
+slots = chapters * layers
+
+abbrev pub cells : ℕ
+cells = layers * paragraphs
+
+-- the words and the paragraphs of a Locutus page, the most pages that a build lays out, and the paragraphs of Locutus RAM (01, How an image is laid out by the builder)
 abbrev pub pageSize : ℕ
 pageSize = 4096
+
+abbrev pub pageParagraphs : ℕ
+pageParagraphs = 16
 
 abbrev pub pageLimit : ℕ
 pageLimit = 80

@@ -57,8 +57,15 @@ pub const FLIP_ENTRIES: usize = 256;
 
 pub const LAYERS: usize = 17;
 
-// The words of a Locutus page, the most pages that a build lays out, and the paragraphs of Locutus RAM.
+// The slots: the layers of all chapters. The cells: the paragraphs of all layers.
+pub const SLOTS: usize = CHAPTERS * LAYERS;
+
+pub const CELLS: usize = LAYERS * PARAGRAPHS;
+
+// The words and the paragraphs of a Locutus page, the most pages that a build lays out, and the paragraphs of Locutus RAM.
 pub const PAGE_SIZE: usize = 4096;
+
+pub const PAGE_PARAGRAPHS: usize = 16;
 
 pub const PAGE_LIMIT: usize = 80;
 

@@ -3,6 +3,7 @@ use Prim.Native.Nat.{ℕ, _*_, _+_, _<_}
 use mathlib.Core.List.{List, _∷_, []}
 use mathlib.Core.Path.{_≡_}
 use lib.ListN.{length, getD}
+use Rattle.basics.specs.Refusals.{refuse}
 use Rattle.cart.specs.declared.Answer.{Answer}
 use Rattle.cart.specs.declared.Answer.the-variants.{Silence, Word}
 use Rattle.cart.specs.Run.{Access, Read, Write, Reset, answers}
@@ -10,7 +11,7 @@ use Rattle.lines.specs.declared.Line.{Line}
 use Rattle.lines.specs.declared.Entry.the-variants.{Rom, Paged}
 use Rattle.lines.specs.Bin.{binWords}
 use Rattle.rules.specs.Accepted.{Accepted}
-use Rattle.rules.specs.Rules.{judgeOf}
+use Rattle.rules.specs.Rules.{refusalOf}
 use Rattle.layout.specs.Layout.{needed, mappingTable, permissionsTable, flipTable}
 use Rattle.plays.specs.Plain.{plainAnswers, fresh}
 use Rattle.plays.specs.Loaded.{Loaded, loaded}
@@ -25,7 +26,7 @@ pub record Six : Type 0 where
   pub words : needed six ≡ 4096
   pub mapping : getD (mappingTable six) 0x50 0 ≡ 0
   pub permission : getD (permissionsTable six) 0x50 0 ≡ 1
-  pub short : (bin : List ℕ) → length bin ≡ 510 → judgeOf (binWords bin) six ≡ (25, 2)
+  pub short : (bin : List ℕ) → length bin ≡ 510 → refusalOf (binWords bin) six ≡ refuse 25 2
 
 -- `$0000 - $0FFF = $C000 PAGE 2`
 abbrev pub seven : List Line

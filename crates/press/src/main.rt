@@ -36,7 +36,7 @@ struct Answer {
     needed: u64,
 }
 
-// The earlier line that 27 names beside its own: what the rules say, asked again.
+// The earlier line with which the one that 27 names collides: the rules are asked.
 fn rival_of(bin: &[u8], cfg: &[u8]) -> u64 {
     let n = bin.len();
     if BIN_LIMIT < n {
@@ -44,8 +44,7 @@ fn rival_of(bin: &[u8], cfg: &[u8]) -> u64 {
     }
     let r = cfg::read_cfg(cfg);
     let lines = r.lines;
-    let j = rules::judge((n / 2) as u32, r.count, lines);
-    j.with as u64
+    rules::collides_with((n / 2) as u32, r.count, lines) as u64
 }
 
 // The one place here that takes the builder's answer apart.

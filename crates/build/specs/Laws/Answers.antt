@@ -1,6 +1,6 @@
 -- Each way out of a build: 21, the CFG's refusals, the rules', and the image pressed.
 use Prim.Native.Nat.{ℕ, _<_, zero, suc, _≤_, _%_}
-use mathlib.Core.List.{List, map, [], _∷_, _++_}
+use mathlib.Core.List.{List, [], _∷_, _++_}
 use mathlib.Core.Path.{_≡_, _∙_, ap, sym, refl}
 use mathlib.Core.Logic.{_⊎_, inl, inr}
 use mathlib.Core.Bool.{Bool, cond, true, false}
@@ -9,80 +9,61 @@ use lib.ListN.{length, take}
 use lib.Dec.{ltb, eqb}
 use borrow.Author.Tests.{ne-eqb, ltb-false}
 use Rattle.basics.specs.declared.Refusal.{Refusal}
-use Rattle.basics.specs.Rows.{Row, Gives, here, later, Silent, none, also, firstOf}
-use Rattle.basics.specs.Laws.Rows.{first-by, gives-first, silent-first, first-append}
-use Rattle.basics.specs.Options.{isSome}
+use Rattle.basics.specs.Rows.{Row, Silent, firstOf}
+use Rattle.basics.specs.Laws.Rows.{first-append}
 use Rattle.basics.specs.Tables.{made}
 use Rattle.basics.specs.Refusals.{refuse, noRefusal, firstRefusal}
-use Rattle.basics.specs.Laws.Refusals.{refused-front, silent-behind}
-use Rattle.basics.specs.Laws.Numbered.{accepted-exactly as exactly-accepted}
+use Rattle.basics.specs.Laws.Refusals.{refused-front, silent-behind, accepted-exactly}
 use Rattle.basics.specs.Laws.Tests.{cases, or-false-right}
-use Rattle.places.specs.Limits.{binLimit}
+use Rattle.places.specs.Limits.{binLimit, chapters}
 use Rattle.lines.specs.declared.Line.{Line}
 use Rattle.lines.specs.Bin.{binWords}
 use Rattle.cfg.specs.declared.Reading.{Reading}
 use Rattle.cfg.specs.File.{readingOf, entriesOf, tooLong, hasForeign, hasOutside, noEntry, tooMany, refusalRows as cfgRows, refusalOf as cfgRefusal}
 use Rattle.cfg.specs.Laws.Refusals.{exactly, refusal-is}
 use Rattle.cfg.specs.Laws.Entries.{accepted-holds, Holds, all-typed}
-use Rattle.rules.specs.declared.Judged.{Judged}
-use Rattle.rules.specs.Rules.{Verdict, lineRows, outOfRange, misshapen, shareRows, rival, judgeOf, chapterRows, passed, breaksPlain, ruleRows}
-use Rattle.rules.specs.Judged.{judgedOf}
-use Rattle.rules.specs.Laws.Refusals.{numberOf, rule-rows}
+use Rattle.rules.specs.Rules.{lineRows, outOfRange, notAllowed, shareRows, sharesEarlier, chapterRows, breaksPlain, refusalRows as ruleRows, refusalOf as ruleRefusal}
+use Rattle.rules.specs.Laws.Refusals.{each-refuses as rules-refuse, exactly as rules-exactly}
 use Rattle.rules.specs.Accepted.{Accepted}
 use Rattle.layout.specs.Layout.{needed}
 use Rattle.build.specs.declared.Building.{Building}
-use Rattle.build.specs.Building.{imageOn, pressedImage, ruled, ruledRow, buildingOf, builtOf, refusalRows, refusalOf, refused, wrongBin, tooShort}
+use Rattle.build.specs.Building.{imageOn, pressedImage, buildingOf, builtOf, refusalRows, refusalOf, refused, wrongBin, tooShort}
 use Rattle.build.specs.Code.Answers.{bare, Pressed}
 
--- the rules' rows as rows of refusals
-ruled-first : (rs : List (Row Verdict)) (d : Verdict) → firstOf (map ruledRow rs) (ruled d) ≡ ruled (firstOf rs d)
-ruled-first [] d = refl
-ruled-first ((true, v) ∷ rs) d = refl
-ruled-first ((false, v) ∷ rs) d = ruled-first rs d
-
-pub ruled-silent : {rs : List (Row Verdict)} → Silent rs → Silent (map ruledRow rs)
-ruled-silent none = none
-ruled-silent (also e s) = also e (ruled-silent s)
-
 -- the numbers of the CFG's refusals, and of the rules'
-cfg-by : (b : Bool) (x y : Refusal) → x .number < 25 → y .number < 25 → cond b x y .number < 25
-cfg-by true x y h l = h
-cfg-by false x y h l = l
+below-by : (m : ℕ) (b : Bool) (x y : Refusal) → x .number < m → y .number < m → cond b x y .number < m
+below-by m true x y h l = h
+below-by m false x y h l = l
 
 cfg-below : (cfg : List ℕ) → cfgRefusal cfg .number < 25
 cfg-below cfg =
-    cfg-by (tooLong cfg) _ _ (omega arith)
-    (cfg-by (hasForeign cfg) _ _ (omega arith)
-    (cfg-by (hasOutside cfg) _ _ (omega arith)
-    (cfg-by (noEntry cfg) _ _ (omega arith) (cfg-by (tooMany cfg) _ _ (omega arith) (omega arith)))))
+    below-by 25 (tooLong cfg) _ _ (omega arith)
+    (below-by 25 (hasForeign cfg) _ _ (omega arith)
+    (below-by 25 (hasOutside cfg) _ _ (omega arith)
+    (below-by 25 (noEntry cfg) _ _ (omega arith) (below-by 25 (tooMany cfg) _ _ (omega arith) (omega arith)))))
 
-below-by : (b : Bool) (n p : ℕ) (v : Verdict) → n < 29 → v .0 < 29 → cond b (n, p) v .0 < 29
-below-by true n p v h l = h
-below-by false n p v h l = l
-
-lines-below : (words : ℕ) (ls : List Line) (d : Verdict) → d .0 < 29 → firstOf (lineRows words ls) d .0 < 29
+lines-below : (words : ℕ) (ls : List Line) (d : Refusal) → d .number < 29 → firstOf (lineRows words ls) d .number < 29
 lines-below words [] d h = h
 lines-below words (l ∷ ls) d h =
-    below-by (outOfRange words (l .entry)) 25 (l .source) _ (omega arith)
-    (below-by (misshapen (l .entry)) 26 (l .source) _ (omega arith) (lines-below words ls d h))
+    below-by 29 (outOfRange words (l .entry)) _ _ (omega arith) (below-by 29 (notAllowed l) _ _ (omega arith) (lines-below words ls d h))
 
-shares-below : (earlier ls : List Line) (d : Verdict) → d .0 < 29 → firstOf (shareRows earlier ls) d .0 < 29
+shares-below : (earlier ls : List Line) (d : Refusal) → d .number < 29 → firstOf (shareRows earlier ls) d .number < 29
 shares-below earlier [] d h = h
 shares-below earlier (l ∷ ls) d h =
-    below-by (isSome (rival earlier (l .entry))) 27 (l .source) _ (omega arith) (shares-below (earlier ++ (l ∷ [])) ls d h)
+    below-by 29 (sharesEarlier earlier (l .entry)) _ _ (omega arith) (shares-below (earlier ++ (l ∷ [])) ls d h)
 
-chapters-below : (f : ℕ → Bool) (i n : ℕ) (d : Verdict) → d .0 < 29 → firstOf (made {A = Row Verdict} i n (λ x. (f x, (28, x)))) d .0 < 29
+chapters-below : (f : ℕ → Bool) (i n : ℕ) (d : Refusal) → d .number < 29 → firstOf (made {A = Row Refusal} i n (λ x. (f x, refuse 28 x))) d .number < 29
 unfolding made
 chapters-below f i zero d h = h
-chapters-below f i (suc n) d h = below-by (f i) 28 i _ (omega arith) (chapters-below f (suc i) n d h)
+chapters-below f i (suc n) d h = below-by 29 (f i) _ _ (omega arith) (chapters-below f (suc i) n d h)
 
-rules-below : (words : ℕ) (ls : List Line) → judgeOf words ls .0 < 29
-unfolding judgeOf
+rules-below : (words : ℕ) (ls : List Line) → ruleRefusal words ls .number < 29
+unfolding ruleRefusal
 rules-below words ls =
-    rw (first-append (lineRows words ls) (shareRows [] ls ++ chapterRows ls) passed)
+    rw (first-append (lineRows words ls) (shareRows [] ls ++ chapterRows ls) noRefusal)
     (lines-below words ls _
-    (rw (first-append (shareRows [] ls) (chapterRows ls) passed)
-    (shares-below [] ls _ (chapters-below (breaksPlain ls) 0 16 passed (omega arith)))))
+    (rw (first-append (shareRows [] ls) (chapterRows ls) noRefusal)
+    (shares-below [] ls _ (chapters-below (breaksPlain ls) 0 chapters noRefusal (omega arith)))))
 
 module _ (bin cfg out : List ℕ) where
   abbrev Answers : Building → List ℕ → Type 0
@@ -103,7 +84,7 @@ module _ (bin cfg out : List ℕ) where
 
   module _ (b : Bool) (eb : b ≡ wrongBin bin) (hb : b ≡ false) where
     abbrev behind : List (Row Refusal)
-    behind = map ruledRow (ruleRows (binWords bin) (entriesOf cfg)) ++ ((tooShort bin cfg out, refuse 29 0) ∷ [])
+    behind = ruleRows (binWords bin) (entriesOf cfg) ++ ((tooShort bin cfg out, refuse 29 0) ∷ [])
 
     parts : refusalOf bin cfg out ≡ firstRefusal (cfgRows cfg ++ behind)
     unfolding refusalOf
@@ -126,55 +107,37 @@ module _ (bin cfg out : List ℕ) where
       behind-cfg : refusalOf bin cfg out ≡ firstRefusal behind
       behind-cfg = parts ∙ silent-behind (cfgRows cfg) behind (exactly cfg .accepts .0 read)
 
-      module _ (words : ℕ) (ew : words ≡ binWords bin) (j : Judged) (ej : j ≡ judgedOf words (take (r .count) (r .lines))) where
-        abbrev verdict : Verdict
-        verdict = judgeOf (binWords bin) (entriesOf cfg)
-
-        judged : j ≡ judgedOf (binWords bin) (entriesOf cfg)
+      module _ (words : ℕ) (ew : words ≡ binWords bin) (j : Refusal) (ej : j ≡ ruleRefusal words (take (r .count) (r .lines))) where
+        judged : j ≡ ruleRefusal (binWords bin) (entriesOf cfg)
         judged = ej ∙ rw (ew, lines-are)
 
-        number-is : j .number ≡ verdict .0
-        unfolding judgedOf
-        number-is = ap (λ (x : Judged). x .number) judged
-
-        place-is : j .place ≡ verdict .1
-        unfolding judgedOf
-        place-is = ap (λ (x : Judged). x .place) judged
-
-        ruled-is : firstRefusal (map ruledRow (ruleRows (binWords bin) (entriesOf cfg))) ≡ ruled verdict
-        unfolding judgeOf
-        ruled-is = ruled-first (ruleRows (binWords bin) (entriesOf cfg)) passed
-
         -- 25 to 28
-        pub refused-lines : (j .number ≡ 0 → ⊥) → (f : Refusal) → f ≡ refuse (j .number) (j .place) → (q : Building) → q ≡ bare f → Answers q out
-        refused-lines h f ef q eq =
-            let n : verdict .0 ≡ 0 → ⊥ = λ z. h (number-is ∙ z) in
-            let m : firstRefusal (map ruledRow (ruleRows (binWords bin) (entriesOf cfg))) .number ≡ 0 → ⊥ = λ z. n (sym (ap (λ (x : Refusal). x .number) ruled-is) ∙ z) in
-            let v : refusalOf bin cfg out ≡ ruled verdict = behind-cfg ∙ refused-front (map ruledRow (ruleRows (binWords bin) (entriesOf cfg))) _ m ∙ ruled-is in
-            rw (eq, ef, number-is, place-is) (refuses-bare (ruled verdict) v n (λ z. omega (arith, rules-below (binWords bin) (entriesOf cfg))))
+        pub refused-lines : (j .number ≡ 0 → ⊥) → (q : Building) → q ≡ bare j → Answers q out
+        unfolding ruleRefusal
+        refused-lines h q eq =
+            let n : ruleRefusal (binWords bin) (entriesOf cfg) .number ≡ 0 → ⊥ = rw judged at h in
+            rw (eq, judged)
+            (refuses-bare (ruleRefusal (binWords bin) (entriesOf cfg)) (behind-cfg ∙ refused-front (ruleRows (binWords bin) (entriesOf cfg)) _ n) n
+            (λ z. omega (arith, rules-below (binWords bin) (entriesOf cfg))))
 
         module _ (h : j .number ≡ 0) where
           silent : Silent (ruleRows (binWords bin) (entriesOf cfg))
-          unfolding judgeOf
+          unfolding ruleRefusal
           silent =
-              exactly-accepted numberOf (ruleRows (binWords bin) (entriesOf cfg)) (rule-rows (binWords bin) (entriesOf cfg)) passed refl .0
-              (sym number-is ∙ h)
-
-          pass : judgeOf (binWords bin) (entriesOf cfg) ≡ passed
-          unfolding judgeOf
-          pass = silent-first passed silent
+              accepted-exactly (ruleRows (binWords bin) (entriesOf cfg)) (rules-refuse (binWords bin) (entriesOf cfg)) .0
+              (sym (ap (λ (x : Refusal). x .number) judged) ∙ h)
 
           pub accepts : Accepted bin (take (r .count) (r .lines))
           accepts =
               let k : Holds cfg (readingOf cfg) = accepted-holds cfg read in
-              rw lines-are (record { few = omega (arith, k .counted, k .most); typed = all-typed (k .fitting); judged = pass })
+              rw lines-are (record { few = omega (arith, k .counted, k .most); typed = all-typed (k .fitting); judged = rules-exactly (binWords bin) (entriesOf cfg) .accepts .1 silent })
 
           image-is : imageOn bin cfg (take (r .count) (r .lines)) ≡ pressedImage bin cfg
           unfolding pressedImage
           image-is = rw lines-are
 
           left : refusalOf bin cfg out ≡ cond (tooShort bin cfg out) (refuse 29 0) noRefusal
-          left = behind-cfg ∙ silent-behind (map ruledRow (ruleRows (binWords bin) (entriesOf cfg))) _ (ruled-silent silent)
+          left = behind-cfg ∙ silent-behind (ruleRows (binWords bin) (entriesOf cfg)) _ silent
 
           -- 29, and the image
           pub pressed : (q : Building) (after : List ℕ) → Pressed bin cfg (take (r .count) (r .lines)) out q after → Answers q after

@@ -1,29 +1,26 @@
 -- A build is refused exactly when a row of 01's table holds and none before it does, and a refusal leaves the buffer; and what an
 -- acceptance holds: lines that the rules accept.
 use Prim.Native.Nat.{ℕ}
-use mathlib.Core.List.{List, map, _++_, _∷_, []}
+use mathlib.Core.List.{List, _++_, _∷_, []}
 use mathlib.Core.Path.{_≡_, refl, sym, ap, _∙_}
 use mathlib.Core.Logic.{_⊎_, inl, inr, _↔_}
 use mathlib.Core.Bool.{true}
 use native.Mathlib.Omega.{arith}
 use borrow.Author.Tests.{eqb-true, ne-eqb}
 use Rattle.basics.specs.declared.Refusal.{Refusal}
-use Rattle.basics.specs.Rows.{Row, Gives, Silent, also, none}
+use Rattle.basics.specs.Rows.{Row, Gives, Silent, also}
 use Rattle.basics.specs.Refusals.{refuse, noRefusal}
 use Rattle.basics.specs.Laws.Rows.{silent-left, silent-right, silent-first, first-by}
 use Rattle.basics.specs.Laws.Refusals.{Refusing, refusing-append, gives-refused, refused-exactly, accepted-exactly}
-use Rattle.basics.specs.Laws.Numbered as Numbered
 use Rattle.lines.specs.Bin.{binWords}
 use Rattle.cfg.specs.File.{refusalRows as cfgRows, entriesOf, readingOf}
-use Rattle.cfg.specs.Laws.Refusals.{each-refuses, exactly}
+use Rattle.cfg.specs.Laws.Refusals.{each-refuses as cfg-refuses, exactly}
 use Rattle.cfg.specs.Laws.Entries.{Holds, accepted-holds, all-typed}
-use Rattle.rules.specs.Rules.{Verdict, ruleRows, passed, judgeOf}
-use Rattle.rules.specs.Laws.Refusals.{numberOf, rule-rows}
-use Rattle.rules.specs.Laws.Refusals as Rules
+use Rattle.rules.specs.Rules.{refusalRows as ruleRows}
+use Rattle.rules.specs.Laws.Refusals.{each-refuses as rules-refuse, exactly as rules-exactly}
 use Rattle.rules.specs.Accepted.{Accepted}
 use Rattle.build.specs.declared.Building.{Building}
-use Rattle.build.specs.Building.{ruledRow, tooShort, refusalRows, refusalOf, builds, buildingOf, builtOf}
-use Rattle.build.specs.Laws.Answers.{ruled-silent}
+use Rattle.build.specs.Building.{tooShort, refusalRows, refusalOf, builds, buildingOf, builtOf}
 
 -- what a build answers and leaves, for every BIN, CFG and buffer
 pub record Answers (bin cfg out : List ℕ) : Type 0 where
@@ -33,30 +30,21 @@ pub record Answers (bin cfg out : List ℕ) : Type 0 where
   -- a refusal leaves the buffer
   pub kept : (buildingOf bin cfg out .refusal .number ≡ 0 → ⊥) → builtOf bin cfg out ≡ out
 
--- a row of the rules refuses as a row of refusals
-ruled-refusing : (rs : List (Row Verdict)) → Numbered.Refusing numberOf rs → Refusing (map ruledRow rs)
-ruled-refusing [] r = tt
-ruled-refusing (x ∷ rs) r = (r .0, ruled-refusing rs (r .1))
-
-ruled-back : (rs : List (Row Verdict)) → Silent (map ruledRow rs) → Silent rs
-ruled-back [] none = none
-ruled-back (x ∷ rs) (also e s) = also e (ruled-back rs s)
-
 module _ (bin cfg out : List ℕ) where
-  abbrev rules : List (Row Verdict)
+  abbrev rules : List (Row Refusal)
   rules = ruleRows (binWords bin) (entriesOf cfg)
 
   -- what is asked behind the CFG's rows
   abbrev behind : List (Row Refusal)
-  behind = map ruledRow rules ++ ((tooShort bin cfg out, refuse 29 0) ∷ [])
+  behind = rules ++ ((tooShort bin cfg out, refuse 29 0) ∷ [])
 
   behind-rows : Refusing behind
   behind-rows =
-      refusing-append (map ruledRow rules) ((tooShort bin cfg out, refuse 29 0) ∷ []) (ruled-refusing rules (rule-rows (binWords bin) (entriesOf cfg)))
+      refusing-append rules ((tooShort bin cfg out, refuse 29 0) ∷ []) (rules-refuse (binWords bin) (entriesOf cfg))
       ((λ z. omega arith), tt)
 
   every-row : Refusing (refusalRows bin cfg out)
-  every-row = ((λ z. omega arith), refusing-append (cfgRows cfg) behind (each-refuses cfg) behind-rows)
+  every-row = ((λ z. omega arith), refusing-append (cfgRows cfg) behind (cfg-refuses cfg) behind-rows)
 
   given : (r : Refusal) → refusalOf bin cfg out ≡ r → (r .number ≡ 0 → ⊥) → buildingOf bin cfg out .refusal ≡ r
   unfolding buildingOf
@@ -104,18 +92,13 @@ module _ (bin cfg out : List ℕ) where
     cfg-silent (also e s) = silent-left (cfgRows cfg) behind s
 
     rules-silent : Silent (refusalRows bin cfg out) → Silent rules
-    rules-silent (also e s) =
-        ruled-back rules
-        (silent-left (map ruledRow rules) ((tooShort bin cfg out, refuse 29 0) ∷ []) (silent-right (cfgRows cfg) behind s))
+    rules-silent (also e s) = silent-left rules ((tooShort bin cfg out, refuse 29 0) ∷ []) (silent-right (cfgRows cfg) behind s)
 
     -- the CFG is read, and the rules find nothing in its lines
     pub cfg-read : readingOf cfg .refusal .number ≡ 0
     cfg-read = exactly cfg .accepts .1 (cfg-silent silent)
 
-    judged : judgeOf (binWords bin) (entriesOf cfg) ≡ passed
-    judged = Rules.accepted-exactly (binWords bin) (entriesOf cfg) .1 (rules-silent silent)
-
     pub lines-accepted : Accepted bin (entriesOf cfg)
     lines-accepted =
         let h : Holds cfg (readingOf cfg) = accepted-holds cfg cfg-read in
-        record { few = omega (arith, h .counted, h .most); typed = all-typed (h .fitting); judged = judged }
+        record { few = omega (arith, h .counted, h .most); typed = all-typed (h .fitting); judged = rules-exactly (binWords bin) (entriesOf cfg) .accepts .1 (rules-silent silent) }

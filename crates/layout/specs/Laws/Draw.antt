@@ -1,69 +1,41 @@
--- The plan by the survey of some lines is the plan of those lines.
-use Prim.Native.Nat.{ℕ, _-_, zero, suc, _≤_, _+_, _<_, _*_, _/_, _%_, min}
-use mathlib.Core.Bool.{Bool, true, cond, false, not}
-use mathlib.Core.List.{List, _∷_, []}
-use mathlib.Core.Path.{_≡_, sym, refl, _∙_, ap}
-use mathlib.Core.Option.{some, none, Option}
+-- The drawing and the words by a survey of some lines are those of the lines.
+use Prim.Native.Nat.{ℕ, _+_, _*_, _-_, _/_, _%_, _<_, _≤_, suc, min}
+use mathlib.Core.List.{List}
+use mathlib.Core.Path.{_≡_, refl, sym, ap, _∙_}
+use mathlib.Core.Bool.{Bool, true, false, cond, not}
+use mathlib.Core.Option.{Option, none, some}
 use native.Mathlib.Omega.{arith}
-use lib.ListN.{getD, length, take, length-take}
+use lib.ListN.{length, getD}
 use lib.Dec.{eqb, ltb}
-use lib.Seq.{getD-take}
 use borrow.Author.Tests.{ne-eqb, eqb-true, eqb-false}
-use Rattle.basics.specs.Laws.Tables.{getD-table, length-table, table-same}
-use Rattle.basics.specs.Counts.{count, nth}
-use Rattle.basics.specs.Laws.Counts.{count-most, count-same}
-use Rattle.basics.specs.Laws.Nth.{nth-below, nth-same}
 use Rattle.basics.specs.Options.{isSome}
-use Rattle.basics.specs.Laws.Tests.{not-cond, cases, and-right}
+use Rattle.basics.specs.Counts.{count, nth}
 use Rattle.basics.specs.Tables.{table}
 use Rattle.basics.specs.Lists.{laid}
+use Rattle.basics.specs.Laws.Counts.{count-most}
+use Rattle.basics.specs.Laws.Nth.{nth-below}
 use Rattle.basics.specs.Laws.Lists.{laid-same}
-use Rattle.switches.specs.Flips.{flipMapping}
-use Rattle.lines.specs.declared.Entry.{Entry}
+use Rattle.basics.specs.Laws.Tables.{getD-table, table-same}
+use Rattle.basics.specs.Laws.Tests.{cases, not-cond}
+use Rattle.places.specs.Limits.{lineLimit, chapters, chapterParagraphs, chapterPages, flipEntries, paragraphs, paragraphSize, layers, slots, cells, pageParagraphs, locutusParagraphs}
+use Rattle.switches.specs.Flips.{flipMapping, flipPermissions}
 use Rattle.lines.specs.declared.Line.{Line}
-use Rattle.lines.specs.Lines.{first, layer}
+use Rattle.lines.specs.declared.Entry.{Entry}
+use Rattle.lines.specs.declared.Entry.the-variants.{Rom, Paged, Ram}
+use Rattle.lines.specs.declared.Width.the-variants.{Sixteen, Eight}
+use Rattle.lines.specs.Lines.{first}
 use Rattle.lines.specs.Laws.Lines.{within}
-use Rattle.rules.specs.declared.Survey.{Survey}
-use Rattle.rules.specs.Code.Survey.{noLine, Few, lineOf}
-use Rattle.rules.specs.Survey.{later, numberOf, places, claimsPlace, surveyOf, claims}
-use Rattle.rules.specs.Code.Numbers.{Owns}
-use Rattle.rules.specs.Laws.Survey.{few-owners, line-by-owner}
-use Rattle.rules.specs.Laws.Numbers.{number-most, line-taken, some-line}
-use Rattle.rules.specs.Rules.{lineIn, uses, paged, allRom}
-use Rattle.layout.specs.declared.pages.Numbered.{Numbered}
-use Rattle.layout.specs.declared.Plan.{Plan}
-use Rattle.layout.specs.Code.Plan.{Small, numberedOf, isUsed, Slots, entryBy, answerBy, answerIn, flipsBy, flipsIn, flippableIn, mappingIn, permissionsIn, heldIn, paragraphIn, marksIn, drawn, Begins, writtenIn}
-use Rattle.layout.specs.Layout.{entryFor, used, pageOf, slotOfPage, pages, flipEntry, answering, flipTable, flippable, mappingTable, mappingAt, permissionsTable, permissionsAt, paragraphHeld, slots, layerHeld, lineHeld, covered}
-use Rattle.layout.specs.Plan.{marked, planOf, ramOf, wordAt}
-
--- a line that is numbered passes
-passes-by : (b : Bool) (n : ℕ) (f : Entry → Bool) (l : Line) (ls : List Line) → b ≡ f (l .entry) → ((n ≡ 0 → ⊥) → f (getD ls (n - 1) noLine .entry) ≡ true) → (cond b 1 (later n) ≡ 0 → ⊥)
-    → f (getD (l ∷ ls) (cond b 1 (later n) - 1) noLine .entry) ≡ true
-passes-by true n f l ls e k h = sym e
-passes-by false zero f l ls e k h = absurd (h refl)
-passes-by false (suc n) f l ls e k h =
-    let p : suc n - 1 ≡ n = omega arith in
-    let q : suc (suc n) - 1 ≡ suc n = omega arith in
-    rw q (rw p at (k (λ z. omega arith)))
-
-number-passes : (f : Entry → Bool) (ls : List Line) → (numberOf f ls ≡ 0 → ⊥) → f (getD ls (numberOf f ls - 1) noLine .entry) ≡ true
-number-passes f [] h = absurd (h refl)
-number-passes f (l ∷ ls) h = passes-by (f (l .entry)) (numberOf f ls) f l ls refl (λ k. number-passes f ls k) h
-
--- the numbered pages are small
-small-pages : (u : List Bool) → Small (numberedOf u .page)
-unfolding numberedOf
-small-pages u =
-    record { each = λ s h. rw (getD-table 0 272 (count (isUsed u)) s h) (omega (arith, count-most (isUsed u) s)) }
-
-pub small-slots : (u : List Bool) → Slots (numberedOf u .slot)
-unfolding numberedOf
-small-slots u =
-    record { each = λ i h. rw (getD-table 0 272 (nth (isUsed u) 272) i h) (nth-below (isUsed u) 272 272 i (omega arith) (omega arith)) }
-
-few-pages : (u : List Bool) → numberedOf u .pages ≤ 272
-unfolding numberedOf
-few-pages u = count-most (isUsed u) 272
+use Rattle.lines.specs.Kinds.{kindBy, kindOf}
+use Rattle.rules.specs.Chapters.{lineIn, uses, paged, kindAt, under}
+use Rattle.layout.specs.declared.survey.Survey.{Survey}
+use Rattle.layout.specs.declared.Drawing.{Drawing}
+use Rattle.layout.specs.Layout.{used, pageOf, pages, slotOfPage, answering, entryFor, flipEntry, flipTable, flippable, mappingAt, mappingTable, permissionsAt, permissionsTable, layerHeld, paragraphHeld, lineHeld, covered}
+use Rattle.layout.specs.Drawing.{drawingOf, ramOf, wordAt}
+use Rattle.layout.specs.Code.Survey.{noLine, lineOf, Surveyed}
+use Rattle.layout.specs.Code.Entries.{Small, Slots, answerBy, answerIn, entryBy, flipIn, flipsIn, flipsBy, flippableIn, mappingIn, permissionsIn, slotIn, paragraphIn, heldIn, markIn, drawnBy}
+use Rattle.layout.specs.Code.Pour.{writtenIn, Begins, pouredBy}
+use Rattle.layout.specs.Laws.Cells.{some-line, line-here}
+use Rattle.layout.specs.Laws.Survey.{line-at}
 
 -- an entry by the answering page
 entry-by : (p a : Bool) (b : ℕ) (c : Bool) (d : ℕ) → entryBy p (answerBy a b c d) ≡ cond p (entryFor (cond a (some b) (cond c (some d) none))) 0
@@ -72,228 +44,169 @@ entry-by true false b true d = let e : d + 1 - 1 ≡ d = omega arith in simp (ne
 entry-by true false b false d = refl
 entry-by false a b c d = refl
 
-module _ (m : ℕ) (lines : List Line) (long : length lines ≡ 64) where
-  abbrev taken : List Line
-  taken = take m lines
+-- a line has a kind
+kind-entry : (e : Entry) → eqb (kindBy e) 0 ≡ false
+kind-entry (Rom lo hi at) = refl
+kind-entry (Paged lo hi at y) = refl
+kind-entry (Ram lo hi Sixteen) = refl
+kind-entry (Ram lo hi Eight) = refl
 
-  few : length (take m lines) ≤ 64
-  few = omega (arith, length-take m lines)
+kind-none : (o : Option Line) → not (isSome o) ≡ eqb (kindOf o) 0
+kind-none none = refl
+kind-none (some l) = sym (kind-entry (l .entry))
 
-  owns : Owns places claimsPlace (take m lines) (surveyOf (take m lines) .owners)
-  unfolding surveyOf
-  owns =
-      record {
-        long = length-table places (λ n. numberOf (claimsPlace n) (take m lines));
-        each = λ i h. getD-table 0 places (λ n. numberOf (claimsPlace n) (take m lines)) i h;
-      }
+flip-cond : (b : Bool) (x y : ℕ) → cond (not b) x y ≡ cond b y x
+flip-cond true x y = refl
+flip-cond false x y = refl
 
-  survey-few : Few (surveyOf (take m lines) .owners)
-  survey-few = few-owners m lines (surveyOf (take m lines) .owners) few owns
+module _ (all ls : List Line) (s : Survey) (v : Surveyed all ls s) where
+  -- each table at its places
+  used-at : (i : ℕ) → i < slots → getD (s .used) i false ≡ used ls i
+  used-at i h = rw (v .used-are) (getD-table false slots (used ls) i h)
 
-  owner-most : (i : ℕ) → i < places → getD (surveyOf (take m lines) .owners) i 0 ≤ m
-  owner-most i h = rw (owns .each i h) (omega (arith, number-most (claimsPlace i) (take m lines), length-take m lines))
+  page-at : (x t : ℕ) → x < chapters → t < layers → getD (s .page) (layers * x + t) 0 ≡ pageOf ls x t
+  unfolding pageOf
+  page-at x t h l = rw (v .page-are) (getD-table 0 slots (count (used ls)) (layers * x + t) (omega arith))
 
-  line-at : (t p : ℕ) → t < 17 → p < 256 → lineIn (take m lines) t p ≡ lineOf lines (getD (surveyOf (take m lines) .owners) (256 * t + p) 0)
-  line-at t p h l =
-      line-by-owner m lines (surveyOf (take m lines) .owners) few owns t p h l
-      ∙ line-taken m (getD (surveyOf (take m lines) .owners) (256 * t + p) 0) lines (owner-most (256 * t + p) (omega arith))
+  plain-page : (x : ℕ) → x < chapters → getD (s .page) (layers * x) 0 ≡ pageOf ls x 0
+  plain-page x h = let z : layers * x + 0 ≡ layers * x = omega arith in rw z at (page-at x 0 h (omega arith))
 
-  plain-at : (p : ℕ) → p < 256 → lineIn (take m lines) 0 p ≡ lineOf lines (getD (surveyOf (take m lines) .owners) p 0)
-  plain-at p l = let e : 256 * 0 + p ≡ p = omega arith in rw e at (line-at 0 p (omega arith) l)
+  paged-at : (x : ℕ) → x < chapters → getD (s .paged) x false ≡ paged ls x
+  paged-at x h = rw (v .paged-are) (getD-table false chapters (paged ls) x h)
 
-  used-at : (s : ℕ) → s < 272 → isUsed (surveyOf (take m lines) .used) s ≡ used (take m lines) s
-  unfolding surveyOf used
-  used-at s h = getD-table false 272 (λ i. uses (take m lines) (i / 17) (i % 17)) s h
+  under-at : (x : ℕ) → x < chapters → getD (s .under) x false ≡ under ls x
+  under-at x h = rw (v .under-are) (getD-table false chapters (under ls) x h)
 
-  abbrev numbered : Numbered
-  numbered = numberedOf (surveyOf (take m lines) .used)
+  kind-at : (p : ℕ) → p < paragraphs → getD (s .kinds) p 0 ≡ kindAt ls p
+  kind-at p h = rw (v .kinds-are) (getD-table 0 paragraphs (kindAt ls) p h)
 
-  page-at : (x t : ℕ) → x < 16 → t < 17 → getD (numberedOf (surveyOf (take m lines) .used) .page) (17 * x + t) 0 ≡ pageOf (take m lines) x t
-  unfolding numberedOf pageOf
-  page-at x t h l =
-      getD-table 0 272 (count (isUsed (surveyOf (take m lines) .used))) (17 * x + t) (omega arith)
-      ∙ count-same (isUsed (surveyOf (take m lines) .used)) (used (take m lines)) (17 * x + t) (λ i b. used-at i (omega arith))
-
-  slot-at : (i : ℕ) → i < 272 → getD (numberedOf (surveyOf (take m lines) .used) .slot) i 0 ≡ slotOfPage (take m lines) i
-  unfolding numberedOf slotOfPage
-  slot-at i h =
-      getD-table 0 272 (nth (isUsed (surveyOf (take m lines) .used)) 272) i h
-      ∙ nth-same (isUsed (surveyOf (take m lines) .used)) (used (take m lines)) 272 i (λ j b. used-at j b)
-
-  pages-are : numberedOf (surveyOf (take m lines) .used) .pages ≡ pages (take m lines)
-  unfolding numberedOf pages
-  pages-are = count-same (isUsed (surveyOf (take m lines) .used)) (used (take m lines)) 272 (λ j b. used-at j b)
-
-  paged-at : (x : ℕ) → x < 16 → getD (surveyOf (take m lines) .paged) x false ≡ paged (take m lines) x
-  unfolding surveyOf
-  paged-at x h = getD-table false 16 (paged (take m lines)) x h
-
-  whole-at : (x : ℕ) → x < 16 → getD (surveyOf (take m lines) .whole) x false ≡ allRom (take m lines) x
-  unfolding surveyOf
-  whole-at x h = getD-table false 16 (allRom (take m lines)) x h
+  slot-at : (i : ℕ) → i < slots → getD (s .slot) i 0 ≡ slotOfPage ls i
+  slot-at i h = rw (v .slot-are) (getD-table 0 slots (slotOfPage ls) i h)
 
   -- flip entries
-  uses-at : (x y : ℕ) → x < 16 → y < 16 → isUsed (surveyOf (take m lines) .used) (17 * x + (y + 1)) ≡ uses (take m lines) x (suc y)
+  uses-at : (x y : ℕ) → x < chapters → y < chapterPages → getD (s .used) (layers * x + (y + 1)) false ≡ uses ls x (suc y)
   unfolding used
   uses-at x y h l =
-      let a : (17 * x + (y + 1)) / 17 ≡ x = omega arith in
-      let b : (17 * x + (y + 1)) % 17 ≡ suc y = omega arith in
-      used-at (17 * x + (y + 1)) (omega arith) ∙ ap (λ (i : ℕ). uses (take m lines) i ((17 * x + (y + 1)) % 17)) a ∙ ap (uses (take m lines) x) b
+      let a : (layers * x + (y + 1)) / layers ≡ x = omega arith in
+      let b : (layers * x + (y + 1)) % layers ≡ suc y = omega arith in
+      used-at (layers * x + (y + 1)) (omega arith) ∙ rw (a, b)
 
-  entry-at : (x y : ℕ) → x < 16 → y < 16
-      → entryBy (getD (surveyOf (take m lines) .paged) x false)
-      (answerIn (surveyOf (take m lines) .used) (numberedOf (surveyOf (take m lines) .used) .page) (surveyOf (take m lines) .whole) x y)
-      ≡ flipEntry (take m lines) x y
+  entry-at : (n : ℕ) → n < flipEntries → flipIn (s .used) (s .page) (s .under) (s .paged) n ≡ flipEntry ls (n / chapterPages) (n % chapterPages)
   unfolding flipEntry answering
-  entry-at x y h l =
-      let s : y + 1 ≡ suc y = omega arith in
-      let z : 17 * x + 0 ≡ 17 * x = omega arith in
-      let p : getD (numberedOf (surveyOf (take m lines) .used) .page) (17 * x + (y + 1)) 0 ≡ pageOf (take m lines) x (suc y) =
-      page-at x (y + 1) h (omega arith) ∙ ap (pageOf (take m lines) x) s in
-      let q : getD (numberedOf (surveyOf (take m lines) .used) .page) (17 * x) 0 ≡ pageOf (take m lines) x 0 = rw z at (page-at x 0 h (omega arith)) in
-      rw (paged-at x h, uses-at x y h l, p, whole-at x h, q)
-      (entry-by (paged (take m lines) x) (uses (take m lines) x (suc y)) (pageOf (take m lines) x (suc y)) (allRom (take m lines) x) (pageOf (take m lines) x 0))
+  entry-at n h = by (n / chapterPages) (n % chapterPages) (omega arith) (omega arith)
+    where
+      by : (x y : ℕ) → x < chapters → y < chapterPages
+          → entryBy (getD (s .paged) x false) (answerIn (s .used) (s .page) (s .under) x y)
+          ≡ cond (paged ls x) (entryFor (cond (uses ls x (suc y)) (some (pageOf ls x (suc y))) (cond (under ls x) (some (pageOf ls x 0)) none))) 0
+      by x y h l =
+          let z : y + 1 ≡ suc y = omega arith in
+          let p : getD (s .page) (layers * x + (y + 1)) 0 ≡ pageOf ls x (suc y) = page-at x (y + 1) h (omega arith) ∙ ap (pageOf ls x) z in
+          rw (paged-at x h, uses-at x y h l, p, under-at x h, plain-page x h)
+          (entry-by (paged ls x) (uses ls x (suc y)) (pageOf ls x (suc y)) (under ls x) (pageOf ls x 0))
 
-  flips-are : flipsBy (surveyOf (take m lines)) (numberedOf (surveyOf (take m lines) .used)) ≡ flipTable (take m lines)
+  flips-are : flipsBy s ≡ flipTable ls
   unfolding flipsIn
-  flips-are = table-same 0 256 _ (λ n. flipEntry (take m lines) (n / 16) (n % 16)) (λ n h. entry-at (n / 16) (n % 16) (omega arith) (omega arith))
+  flips-are = table-same 0 flipEntries _ (λ n. flipEntry ls (n / chapterPages) (n % chapterPages)) entry-at
 
-  -- the tables of a paragraph
-  first-flip : (p : ℕ) → p < 256 → getD (flipsBy (surveyOf (take m lines)) (numberedOf (surveyOf (take m lines) .used))) (16 * (p / 16)) 0 ≡ flipEntry (take m lines) (p / 16) 0
+  -- the two tables of a paragraph
+  first-flip : (p : ℕ) → p < paragraphs → getD (flipsBy s) (chapterPages * (p / chapterParagraphs)) 0 ≡ flipEntry ls (p / chapterParagraphs) 0
   first-flip p h =
-      let a : 16 * (p / 16) / 16 ≡ p / 16 = omega arith in
-      let b : 16 * (p / 16) % 16 ≡ 0 = omega arith in
+      let a : chapterPages * (p / chapterParagraphs) / chapterPages ≡ p / chapterParagraphs = omega arith in
+      let b : chapterPages * (p / chapterParagraphs) % chapterPages ≡ 0 = omega arith in
       rw flips-are
-      (getD-table 0 256 (λ n. flipEntry (take m lines) (n / 16) (n % 16)) (16 * (p / 16)) (omega arith)
-      ∙ ap (λ (i : ℕ). flipEntry (take m lines) i (16 * (p / 16) % 16)) a
-      ∙ ap (flipEntry (take m lines) (p / 16)) b)
+      (getD-table 0 flipEntries (λ n. flipEntry ls (n / chapterPages) (n % chapterPages)) (chapterPages * (p / chapterParagraphs)) (omega arith) ∙ rw (a, b))
 
-  flippable-at : (p : ℕ) → p < 256 → flippableIn (surveyOf (take m lines) .paged) p ≡ flippable (take m lines) p
+  flippable-at : (p : ℕ) → p < paragraphs → flippableIn (s .paged) p ≡ flippable ls p
   unfolding flippable
-  flippable-at p h = rw (paged-at (p / 16) (omega arith))
+  flippable-at p h = rw (paged-at (p / chapterParagraphs) (omega arith))
 
-  mapping-are : mappingIn (surveyOf (take m lines) .paged) (flipsBy (surveyOf (take m lines)) (numberedOf (surveyOf (take m lines) .used))) (surveyOf (take m lines) .owners) (numberedOf (surveyOf (take m lines) .used) .page)
-      ≡ mappingTable (take m lines)
-  unfolding mappingIn mappingAt
+  mapping-are : table paragraphs (mappingIn (s .paged) (flipsBy s) (s .kinds) (s .page)) ≡ mappingTable ls
+  unfolding mappingAt
   mapping-are =
-      table-same 0 256 _ (mappingAt (take m lines) 0)
+      table-same 0 paragraphs _ (mappingAt ls 0)
       (λ p h.
-      let z : 17 * (p / 16) + 0 ≡ 17 * (p / 16) = omega arith in
-      let q : getD (numberedOf (surveyOf (take m lines) .used) .page) (17 * (p / 16)) 0 ≡ pageOf (take m lines) (p / 16) 0 = rw z at (page-at (p / 16) 0 (omega arith) (omega arith)) in
-      let s : isSome (lineIn (take m lines) 0 p) ≡ not (eqb (getD (surveyOf (take m lines) .owners) p 0) 0) = ap isSome (plain-at p h) ∙ some-line lines (getD (surveyOf (take m lines) .owners) p 0) in
-      rw (flippable-at p h, first-flip p h, q, s)
-      (ap (cond (flippable (take m lines) p) (flipMapping (flipEntry (take m lines) (p / 16) 0) (p % 16)))
-      (not-cond (eqb (getD (surveyOf (take m lines) .owners) p 0) 0) 0 (16 * pageOf (take m lines) (p / 16) 0 + p % 16))))
+      rw (flippable-at p h, first-flip p h, kind-at p h, plain-page (p / chapterParagraphs) (omega arith), ← kind-none (lineIn ls 0 p))
+      (ap (cond (flippable ls p) (flipMapping (flipEntry ls (p / chapterParagraphs) 0) (p % chapterParagraphs)))
+      (flip-cond (isSome (lineIn ls 0 p)) 0 (pageParagraphs * pageOf ls (p / chapterParagraphs) 0 + p % chapterParagraphs))))
 
-  permissions-are : permissionsIn (surveyOf (take m lines) .paged) (flipsBy (surveyOf (take m lines)) (numberedOf (surveyOf (take m lines) .used))) (surveyOf (take m lines) .owners) lines
-      ≡ permissionsTable (take m lines)
-  unfolding permissionsIn permissionsAt
+  permissions-are : table paragraphs (permissionsIn (s .paged) (flipsBy s) (s .kinds)) ≡ permissionsTable ls
+  unfolding permissionsAt
   permissions-are =
-      table-same 0 256 _ (permissionsAt (take m lines) 0) (λ p h. rw (flippable-at p h, first-flip p h, plain-at p h))
+      table-same 0 paragraphs _ (permissionsAt ls 0) (λ p h. rw (flippable-at p h, first-flip p h, kind-at p h))
 
   -- the line behind a Locutus paragraph
-  abbrev held : List ℕ
-  held = heldIn (surveyOf (take m lines) .owners) (numberedOf (surveyOf (take m lines) .used) .slot) (numberedOf (surveyOf (take m lines) .used) .pages)
-
-  paragraph-at : (p : ℕ) → p < 4352 → paragraphIn (numberedOf (surveyOf (take m lines) .used) .slot) p ≡ paragraphHeld (take m lines) p
-  paragraph-at p h = rw (slot-at (p / 16) (omega arith))
-
-  slot-below : (i : ℕ) → slotOfPage (take m lines) i < 272
+  slot-below : (i : ℕ) → slotOfPage ls i < slots
   unfolding slotOfPage
-  slot-below i = nth-below (used (take m lines)) slots 272 i (omega arith) (omega arith)
+  slot-below i = nth-below (used ls) slots slots i (omega arith) (omega arith)
 
-  held-at : (p : ℕ) → p < 4352
-      → getD held p 0 ≡ cond (ltb (p / 16) (pages (take m lines))) (getD (surveyOf (take m lines) .owners) (256 * layerHeld (take m lines) p + paragraphHeld (take m lines) p) 0) 0
-  unfolding heldIn
-  held-at p h =
-      getD-table 0 4352 _ p h
-      ∙ rw (pages-are, slot-at (p / 16) (omega arith))
+  paragraph-at : (p : ℕ) → p < cells → paragraphIn (s .slot) p ≡ paragraphHeld ls p
+  paragraph-at p h = rw (slot-at (p / pageParagraphs) (omega arith))
 
-  of-cond : (b : Bool) (n : ℕ) → lineOf lines (cond b n 0) ≡ cond b (lineOf lines n) none
-  of-cond true n = refl
-  of-cond false n = refl
+  line-cond : (b : Bool) (n : ℕ) → lineOf all (cond b n 0) ≡ cond b (lineOf all n) none
+  line-cond true n = refl
+  line-cond false n = refl
 
-  line-held : (p : ℕ) → p < 4352 → lineOf lines (getD held p 0) ≡ lineHeld (take m lines) p
-  unfolding lineHeld
+  line-held : (p : ℕ) → p < cells → lineOf all (heldIn (s .cells) (s .slot) (s .pages) p) ≡ lineHeld ls p
+  unfolding heldIn lineHeld
   line-held p h =
-      let b : slotOfPage (take m lines) (p / 16) < 272 = slot-below (p / 16) in
-      rw (held-at p h)
-      (of-cond (ltb (p / 16) (pages (take m lines))) (getD (surveyOf (take m lines) .owners) (256 * layerHeld (take m lines) p + paragraphHeld (take m lines) p) 0)
-      ∙ ap (λ (o : Option Line). cond (ltb (p / 16) (pages (take m lines))) o none) (sym (line-at (layerHeld (take m lines) p) (paragraphHeld (take m lines) p) (omega arith) (omega arith))))
+      let b : slotOfPage ls (p / pageParagraphs) < slots = slot-below (p / pageParagraphs) in
+      rw (slot-at (p / pageParagraphs) (omega arith), v .pages-are)
+      (line-cond (ltb (p / pageParagraphs) (pages ls)) (getD (s .cells) (paragraphs * layerHeld ls p + paragraphHeld ls p) 0)
+      ∙ ap (λ (o : Option Line). cond (ltb (p / pageParagraphs) (pages ls)) o none) (line-at (v .cells-are) (layerHeld ls p) (paragraphHeld ls p) (omega arith) (omega arith)))
 
-  marks-are : marksIn held ≡ table marked (covered (take m lines))
-  unfolding marksIn
+  marks-are : table locutusParagraphs (markIn (s .cells) (s .slot) (s .pages)) ≡ table locutusParagraphs (covered ls)
   marks-are =
-      table-same false 2048 _ (covered (take m lines))
-      (λ p h. sym (some-line lines (getD held p 0)) ∙ ap isSome (line-held p (omega arith)))
+      table-same false locutusParagraphs _ (covered ls)
+      (λ p h. sym (some-line all (heldIn (s .cells) (s .slot) (s .pages) p)) ∙ ap isSome (line-held p (omega arith)))
 
-  drawn-is : drawn (surveyOf (take m lines)) (numberedOf (surveyOf (take m lines) .used)) held lines ≡ planOf (take m lines)
-  unfolding drawn planOf
-  drawn-is = rw (marks-are, mapping-are, permissions-are, flips-are, pages-are)
+  drawn-is : drawnBy s ≡ drawingOf ls
+  unfolding drawnBy drawingOf
+  drawn-is = rw (mapping-are, permissions-are, flips-are, marks-are, v .pages-are)
+
+  pub draws : (d : Drawing) → d ≡ drawnBy s → d ≡ drawingOf ls
+  draws d e = e ∙ drawn-is
 
   -- its words
-  owner-held : (p : ℕ) → p < 4352 → (getD held p 0 ≡ 0 → ⊥)
-      → getD held p 0 ≡ numberOf (claims (layerHeld (take m lines) p) (paragraphHeld (take m lines) p)) (take m lines)
-  owner-held p h d = cases (ltb (p / 16) (pages (take m lines))) (λ e. held-at p h ∙ rw e owner) (λ e. absurd (d (held-at p h ∙ rw e)))
+  pub few-pages : s .pages ≤ slots
+  unfolding pages
+  few-pages = rw (v .pages-are) (count-most (used ls) slots)
+
+  pub small : Small (s .page)
+  small = record { each = λ i h. rw (v .page-are, getD-table 0 slots (count (used ls)) i h) (omega (arith, count-most (used ls) i)) }
+
+  pub slots-ok : Slots (s .slot)
+  slots-ok = record { each = λ i h. rw (slot-at i h) (slot-below i) }
+
+  held-few : (p : ℕ) → p < cells → heldIn (s .cells) (s .slot) (s .pages) p ≤ lineLimit
+  unfolding heldIn
+  held-few p h =
+      let b : slotIn (s .slot) p < slots = slots-ok .each (p / pageParagraphs) (omega arith) in
+      by (ltb (p / pageParagraphs) (s .pages)) (v .cells-are .few .each (paragraphs * (slotIn (s .slot) p % layers) + paragraphIn (s .slot) p) (omega arith))
     where
-      owner : getD (surveyOf (take m lines) .owners) (256 * layerHeld (take m lines) p + paragraphHeld (take m lines) p) 0
-          ≡ numberOf (claims (layerHeld (take m lines) p) (paragraphHeld (take m lines) p)) (take m lines)
-      owner =
-          let b : slotOfPage (take m lines) (p / 16) < 272 = slot-below (p / 16) in
-          let i : (256 * layerHeld (take m lines) p + paragraphHeld (take m lines) p) / 256 ≡ layerHeld (take m lines) p = omega arith in
-          let j : (256 * layerHeld (take m lines) p + paragraphHeld (take m lines) p) % 256 ≡ paragraphHeld (take m lines) p = omega arith in
-          owns .each (256 * layerHeld (take m lines) p + paragraphHeld (take m lines) p) (omega arith)
-          ∙ ap (λ (k : ℕ). numberOf (claims k ((256 * layerHeld (take m lines) p + paragraphHeld (take m lines) p) % 256)) (take m lines)) i
-          ∙ ap (λ (k : ℕ). numberOf (claims (layerHeld (take m lines) p) k) (take m lines)) j
+      by : (b : Bool) {n : ℕ} → n ≤ lineLimit → cond b n 0 ≤ lineLimit
+      by true l = l
+      by false l = omega arith
 
-  begins : (n : ℕ) → n ≤ 4352 → Begins lines held (numberedOf (surveyOf (take m lines) .used) .slot) n
-  begins n l =
-      record {
-        few =
-            λ p h.
-            cases (eqb (getD held p 0) 0) (λ e. omega (arith, eqb-true (getD held p 0) 0 e))
-            (λ e.
-            rw (owner-held p (omega arith) (eqb-false (getD held p 0) 0 e))
-            (omega (arith, few, number-most (claims (layerHeld (take m lines) p) (paragraphHeld (take m lines) p)) (take m lines))));
-        start =
-            λ p h d.
-            rw (paragraph-at p (omega arith)) (starts p (omega arith) d);
-      }
-    where
-      starts : (p : ℕ) → p < 4352 → (getD held p 0 ≡ 0 → ⊥) → first (getD lines (getD held p 0 - 1) noLine .entry) ≤ 256 * paragraphHeld (take m lines) p
-      starts p h d =
-          let o : getD held p 0 ≡ numberOf (claims (layerHeld (take m lines) p) (paragraphHeld (take m lines) p)) (take m lines) = owner-held p h d in
-          let c : claims (layerHeld (take m lines) p) (paragraphHeld (take m lines) p) (getD (take m lines) (getD held p 0 - 1) noLine .entry) ≡ true =
-          rw o (number-passes (claims (layerHeld (take m lines) p) (paragraphHeld (take m lines) p)) (take m lines) (λ z. d (o ∙ z))) in
-          let k : getD held p 0 ≤ m = rw o (omega (arith, number-most (claims (layerHeld (take m lines) p) (paragraphHeld (take m lines) p)) (take m lines), length-take m lines)) in
-          let f : getD (take m lines) (getD held p 0 - 1) noLine ≡ getD lines (getD held p 0 - 1) noLine = getD-take m lines (getD held p 0 - 1) noLine (omega (arith, d)) in
-          let e : claims (layerHeld (take m lines) p) (paragraphHeld (take m lines) p) (getD lines (getD held p 0 - 1) noLine .entry) ≡ true = rw f at c in
-          within (getD lines (getD held p 0 - 1) noLine .entry) (256 * paragraphHeld (take m lines) p) (and-right (eqb (layer (getD lines (getD held p 0 - 1) noLine .entry)) (layerHeld (take m lines) p)) _ e) .from
+  held-starts : (p : ℕ) → p < cells → (heldIn (s .cells) (s .slot) (s .pages) p ≡ 0 → ⊥)
+      → first (getD all (heldIn (s .cells) (s .slot) (s .pages) p - 1) noLine .entry) ≤ paragraphSize * paragraphIn (s .slot) p
+  unfolding lineHeld
+  held-starts p h d =
+      let l : lineOf all (heldIn (s .cells) (s .slot) (s .pages) p) ≡ lineHeld ls p = line-held p h in
+      let e : some (getD all (heldIn (s .cells) (s .slot) (s .pages) p - 1) noLine) ≡ lineHeld ls p = rw (ne-eqb _ _ d) at l in
+      rw (paragraph-at p h)
+      (cases (ltb (p / pageParagraphs) (pages ls))
+      (λ q. within _ (paragraphSize * paragraphHeld ls p) (line-here ls (layerHeld ls p) (paragraphSize * paragraphHeld ls p) _ (sym (rw q at e))) .from)
+      (λ q. let f : some (getD all (heldIn (s .cells) (s .slot) (s .pages) p - 1) noLine) ≡ none = rw q at e in let z : _≡_ {A = ℕ} 0 1 = cc in absurd (omega arith)))
 
-  laid-out-as : (bin ram : List ℕ) (n : ℕ) → n ≡ min (16 * numberedOf (surveyOf (take m lines) .used) .pages) (length ram / 256)
-      → laid 0 (256 * n) (writtenIn bin lines held (numberedOf (surveyOf (take m lines) .used) .slot)) ram ≡ ramOf bin (take m lines) ram
-  unfolding ramOf
-  laid-out-as bin ram n e =
-      let b : n ≤ 4352 = omega (arith, few-pages (surveyOf (take m lines) .used)) in
-      let f : n ≡ min (16 * pages (take m lines)) (length ram / 256) = rw pages-are at e in
-      laid-same 0 (256 * n) (writtenIn bin lines held (numberedOf (surveyOf (take m lines) .used) .slot)) (wordAt bin (take m lines)) ram
-      (λ i h. rw (line-held (i / 256) (omega arith), paragraph-at (i / 256) (omega arith)))
-      ∙ ap (λ (k : ℕ). laid 0 (256 * k) (wordAt bin (take m lines)) ram) f
+  pub begins : Begins all (s .cells) (s .slot) (s .pages)
+  begins = record { few = held-few; start = held-starts }
 
-  -- as the code comes to them
-  module _ (s : Survey) (es : s ≡ surveyOf (take m lines)) (n : Numbered) (en : n ≡ numberedOf (s .used)) where
-    pub pages-ok : n .pages ≤ 272
-    pages-ok = rw en (few-pages (s .used))
+  poured-is : (bin ram : List ℕ) → pouredBy bin all s ram ≡ ramOf bin ls ram
+  unfolding pouredBy ramOf writtenIn
+  poured-is bin ram =
+      laid-same 0 (paragraphSize * min (pageParagraphs * s .pages) (length ram / paragraphSize)) (writtenIn bin all (s .cells) (s .slot) (s .pages)) (wordAt bin ls) ram
+      (λ i h. let b : i / paragraphSize < cells = omega (arith, few-pages) in rw (line-held (i / paragraphSize) b, paragraph-at (i / paragraphSize) b))
+      ∙ rw (v .pages-are)
 
-    pub draw-ok : Small (n .page) × Few (s .owners)
-    draw-ok = (rw en (small-pages (s .used)), rw es survey-few)
-
-    module _ (h : List ℕ) (eh : h ≡ heldIn (s .owners) (n .slot) (n .pages)) where
-      pub begins-ok : (k : ℕ) → k ≤ 4352 → Begins lines h (n .slot) k
-      begins-ok k l = rw (eh, en, es) (begins k l)
-
-      pub plan-ok : (p : Plan) → p ≡ drawn s n h lines → p ≡ planOf (take m lines)
-      plan-ok p e = e ∙ rw (eh, en, es) drawn-is
-
-      pub ram-ok : (bin ram after : List ℕ) (k : ℕ) → k ≡ min (16 * n .pages) (length ram / 256) → after ≡ laid 0 (256 * k) (writtenIn bin lines h (n .slot)) ram → after ≡ ramOf bin (take m lines) ram
-      ram-ok bin ram after k ek e = e ∙ rw (eh, en, es) (laid-out-as bin ram k (rw (en, es) at ek))
+  pub pours : (bin ram after : List ℕ) → after ≡ pouredBy bin all s ram → after ≡ ramOf bin ls ram
+  pours bin ram after e = e ∙ poured-is bin ram

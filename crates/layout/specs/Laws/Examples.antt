@@ -6,12 +6,14 @@ use mathlib.Core.Path.{_≡_, refl}
 use mathlib.Core.Bool.{cond, true, _&&_, _||_}
 use lib.Dec.{eqb, ltb, leb}
 use Rattle.basics.specs.Counts.{all, any, count, nth}
+use Rattle.basics.specs.Refusals.{noRefusal}
 use Rattle.basics.specs.Tables.{made}
 use Rattle.lines.specs.declared.Line.{Line}
 use Rattle.lines.specs.declared.Entry.the-variants.{Paged, Ram}
 use Rattle.lines.specs.declared.Width.the-variants.{Sixteen}
 use Rattle.lines.specs.Lines.{holds}
-use Rattle.rules.specs.Rules.{judgeOf, passed, touchesSilent, plainShape, pageShape, shares, breaksPlain, paged, uses, allRom, noRom, noRam}
+use Rattle.rules.specs.Chapters.{paged, uses, under, bare}
+use Rattle.rules.specs.Rules.{refusalOf, touchesSilent, plainShape, pageShape, shares, breaksPlain}
 use Rattle.layout.specs.Layout.{pages, flipEntry, mappingAt, permissionsAt, covered, used, answering, pageOf, flippable, lineHeld, slotOfPage}
 
 abbrev pub ecs : List Line
@@ -20,7 +22,7 @@ ecs =
     ∷ record { source = 4; entry = Ram (record { 0 = 0x4000 }) (record { 0 = 0x47FF }) Sixteen } ∷ []
 
 pub record Ecs : Type 0 where
-  pub accepted : judgeOf 0x800 ecs ≡ passed
+  pub accepted : refusalOf 0x800 ecs ≡ noRefusal
   pub pages : pages ecs ≡ 2
   pub entries : all 16 (λ y. eqb (flipEntry ecs 4 y) (cond (eqb y 1) 25 8)) ≡ true
   pub ram : all 8 (λ k. eqb (mappingAt ecs 0 (0x40 + k)) k && eqb (permissionsAt ecs 0 (0x40 + k)) 3) ≡ true
@@ -28,8 +30,8 @@ pub record Ecs : Type 0 where
   pub page-1 : all 8 (λ k. eqb (mappingAt ecs 1 (0x48 + k)) (24 + k) && eqb (permissionsAt ecs 1 (0x48 + k)) 1) ≡ true
   pub covered : all 40 (λ p. eqb (cond (covered ecs p) 1 0) (cond (ltb p 8 || (leb 24 p && ltb p 32)) 1 0)) ≡ true
 
-ecs-accepted : judgeOf 0x800 ecs ≡ passed
-unfolding judgeOf touchesSilent plainShape pageShape shares breaksPlain paged uses allRom noRom noRam holds any all made
+ecs-accepted : refusalOf 0x800 ecs ≡ noRefusal
+unfolding refusalOf touchesSilent plainShape pageShape shares breaksPlain paged uses under bare holds any all made
 ecs-accepted = refl
 
 ecs-pages : pages ecs ≡ 2
@@ -37,19 +39,19 @@ unfolding pages used uses holds count any
 ecs-pages = refl
 
 ecs-entries : all 16 (λ y. eqb (flipEntry ecs 4 y) (cond (eqb y 1) 25 8)) ≡ true
-unfolding flipEntry answering pageOf used paged allRom uses holds count all any
+unfolding flipEntry answering pageOf used paged under uses holds count all any
 ecs-entries = refl
 
 ecs-ram : all 8 (λ k. eqb (mappingAt ecs 0 (0x40 + k)) k && eqb (permissionsAt ecs 0 (0x40 + k)) 3) ≡ true
-unfolding mappingAt permissionsAt flippable flipEntry answering pageOf used paged allRom uses holds count all any
+unfolding mappingAt permissionsAt flippable flipEntry answering pageOf used paged under uses holds count all any
 ecs-ram = refl
 
 ecs-page-0 : all 8 (λ k. eqb (mappingAt ecs 0 (0x48 + k)) (8 + k) && eqb (permissionsAt ecs 0 (0x48 + k)) 0) ≡ true
-unfolding mappingAt permissionsAt flippable flipEntry answering pageOf used paged allRom uses holds count all any
+unfolding mappingAt permissionsAt flippable flipEntry answering pageOf used paged under uses holds count all any
 ecs-page-0 = refl
 
 ecs-page-1 : all 8 (λ k. eqb (mappingAt ecs 1 (0x48 + k)) (24 + k) && eqb (permissionsAt ecs 1 (0x48 + k)) 1) ≡ true
-unfolding mappingAt permissionsAt flippable flipEntry answering pageOf used paged allRom uses holds count all any
+unfolding mappingAt permissionsAt flippable flipEntry answering pageOf used paged under uses holds count all any
 ecs-page-1 = refl
 
 ecs-covered : all 40 (λ p. eqb (cond (covered ecs p) 1 0) (cond (ltb p 8 || (leb 24 p && ltb p 32)) 1 0)) ≡ true

@@ -13,7 +13,7 @@ use borrow.Author.Tests.{eq-eqb, leb-false}
 use Rattle.basics.specs.Counts.{count}
 use Rattle.basics.specs.Laws.Counts.{count-or, count-single, count-imp}
 use Rattle.basics.specs.Laws.Tests.{or-right, cases, or-left}
-use Rattle.places.specs.Limits.{lentLimit}
+use Rattle.places.specs.Limits.{chapterSize, layers, slots, lentLimit, pageLimit}
 use Rattle.lines.specs.declared.Entry.{Entry}
 use Rattle.lines.specs.declared.Line.{Line}
 use Rattle.lines.specs.Lines.{first, layer, lineAt, holds, last}
@@ -21,14 +21,14 @@ use Rattle.lines.specs.Laws.Lines.{Found, found}
 use Rattle.rules.specs.Code.Shapes.{PlainShape, Fine, PlainLine, PageLine}
 use Rattle.rules.specs.Laws.Rules.{Good, Used, used-at, chapter-of, good}
 use Rattle.rules.specs.Accepted.{Accepted}
-use Rattle.layout.specs.Layout.{slotOf, slots, used, pages, needed}
+use Rattle.layout.specs.Layout.{slotOf, used, pages, needed}
 
 -- the slot where a line starts; the plain slots of chapters 5 to 15
 abbrev startOf : Entry → ℕ
-startOf e = slotOf (first e / 4096) (layer e)
+startOf e = slotOf (first e / chapterSize) (layer e)
 
 abbrev high : ℕ → Bool
-high s = eqb (s % 17) 0 && leb 5 (s / 17)
+high s = eqb (s % layers) 0 && leb 5 (s / layers)
 
 eleven : count high slots ≡ 11
 unfolding count
@@ -59,35 +59,35 @@ near-start (m ∷ ls) t a l e =
     (λ h. or-right (eqb (startOf (l .entry)) (startOf (m .entry))) (near ls (startOf (l .entry))) (near-start ls t a l (simp h at e)))
 
 -- below chapter 5 a plain line starts in the chapter that it is found in
-plain-starts : (b c a : ℕ) → PlainShape b c → b ≤ a → a ≤ c → a / 4096 < 5 → b / 4096 ≡ a / 4096
+plain-starts : (b c a : ℕ) → PlainShape b c → b ≤ a → a ≤ c → a / chapterSize < 5 → b / chapterSize ≡ a / chapterSize
 plain-starts b c a s h k n =
     ⊎-elim (λ p. omega arith) (λ p. ⊎-elim (λ q. omega arith) (λ q. omega arith) (s .three)) (s .one)
 
 module _ {lines : List Line} (g : Good lines) where
   module _ (s : ℕ) (e : used lines s ≡ true) where
-    there : Used lines (s / 17) (s % 17)
+    there : Used lines (s / layers) (s % layers)
     unfolding used
-    there = used-at (g .fine) (s / 17) (s % 17) e
+    there = used-at (g .fine) (s / layers) (s % layers) e
 
-    line : Found Fine (s % 17) (there .at) (there .line)
-    line = found (g .fine) (s % 17) (there .at) (there .line) (there .found)
+    line : Found Fine (s % layers) (there .at) (there .line)
+    line = found (g .fine) (s % layers) (there .at) (there .line) (there .found)
 
-    starts : first (there .line .entry) / 4096 ≡ there .at / 4096 → near lines s ≡ true
+    starts : first (there .line .entry) / chapterSize ≡ there .at / chapterSize → near lines s ≡ true
     starts h =
         let q : startOf (there .line .entry) ≡ s = simp (h, there .chapter, line .on) (omega arith) in
-        rw q at (near-start lines (s % 17) (there .at) (there .line) (there .found))
+        rw q at (near-start lines (s % layers) (there .at) (there .line) (there .found))
 
     used-near : near lines s ≡ true
     used-near = by (line .is .shape)
       where
         by : (PlainLine (there .line .entry)) ⊎ (PageLine (there .line .entry)) → near lines s ≡ true
         by (inl p) =
-            cases (leb 5 (s / 17))
-            (λ h. near-high lines s (simp (eq-eqb (s % 17) 0 (sym (line .on) ∙ p .on), h)))
+            cases (leb 5 (s / layers))
+            (λ h. near-high lines s (simp (eq-eqb (s % layers) 0 (sym (line .on) ∙ p .on), h)))
             (λ h.
             starts
             (plain-starts (first (there .line .entry)) (last (there .line .entry)) (there .at) (p .shape) (line .here .from) (line .here .to)
-            (omega (arith, leb-false 5 (s / 17) h, there .chapter))))
+            (omega (arith, leb-false 5 (s / layers) h, there .chapter))))
         by (inr p) = starts (chapter-of (p .shape) (there .at) (line .here))
 
   pub few-slots : pages lines ≤ length lines + 11
@@ -106,5 +106,5 @@ module _ {bin : List ℕ} {lines : List Line} (accepted : Accepted bin lines) wh
   pub pages-75 : pages lines ≤ 75
   pages-75 = omega (arith, few-pages, accepted .few)
 
-  pub pages-80 : pages lines ≤ 80
+  pub pages-80 : pages lines ≤ pageLimit
   pages-80 = omega (arith, pages-75)

@@ -8,6 +8,7 @@ use lib.ListN.{length, getD}
 use lib.Dec.{eqb}
 use borrow.Author.Tests.{eqb-true, ne-eqb}
 use Rattle.basics.specs.Counts.{any, all, count}
+use Rattle.basics.specs.Refusals.{refuse}
 use Rattle.basics.specs.Tables.{made}
 use Rattle.basics.specs.Laws.Tables.{getD-table}
 use Rattle.basics.specs.Laws.Counts.{all-at}
@@ -15,14 +16,15 @@ use Rattle.lines.specs.Lines.{holds}
 use Rattle.lines.specs.Typed.{cons, nil}
 use Rattle.lines.specs.Bin.{binWords}
 use Rattle.rules.specs.Accepted.{Accepted}
-use Rattle.rules.specs.Rules.{judgeOf, touchesSilent, plainShape, shares, breaksPlain, paged, uses, allRom, noRom, noRam, pageShape}
+use Rattle.rules.specs.Chapters.{paged, uses, under, bare}
+use Rattle.rules.specs.Rules.{refusalOf, touchesSilent, plainShape, shares, breaksPlain, pageShape}
 use Rattle.layout.specs.Layout.{needed, pages, used, mappingTable, mappingAt, flippable, pageOf, permissionsTable, permissionsAt, flipTable, flipEntry, answering}
 use Rattle.plays.specs.Bench.{six, Six, seven, sevenAccesses, sevenAnswers, Seven}
 use Rattle.plays.specs.Plain.{plainAnswers, fresh, plainRead, shownLine, numberAfter}
 use Rattle.plays.specs.Laws.Plays.{plays}
 
 six-accepted : (bin : List ℕ) → length bin ≡ 512 → Accepted bin six
-unfolding judgeOf touchesSilent plainShape shares breaksPlain paged uses allRom noRom noRam holds any all made
+unfolding refusalOf touchesSilent plainShape shares breaksPlain paged uses under bare holds any all made
 six-accepted bin e = let t : 0x5000 < 0x10000 = omega arith in record { few = omega arith; typed = cons t nil; judged = rw e }
 
 six-words : needed six ≡ 4096
@@ -37,8 +39,8 @@ six-permission : getD (permissionsTable six) 0x50 0 ≡ 1
 unfolding permissionsAt flippable paged uses holds any
 six-permission = getD-table 0 256 (permissionsAt six 0) 0x50 (omega arith)
 
-six-short : (bin : List ℕ) → length bin ≡ 510 → judgeOf (binWords bin) six ≡ (25, 2)
-unfolding judgeOf
+six-short : (bin : List ℕ) → length bin ≡ 510 → refusalOf (binWords bin) six ≡ refuse 25 2
+unfolding refusalOf
 six-short bin e = rw e
 
 pub case-6 : Six
@@ -52,7 +54,7 @@ case-6 =
     }
 
 seven-accepted : (bin : List ℕ) → length bin ≡ 8192 → Accepted bin seven
-unfolding judgeOf pageShape shares breaksPlain paged uses allRom noRom noRam holds any all made
+unfolding refusalOf pageShape shares breaksPlain paged uses under bare holds any all made
 seven-accepted bin e = let t : 0xC000 < 0x10000 = omega arith in record { few = omega arith; typed = cons t nil; judged = rw e }
 
 seven-entry : getD (flipTable seven) 194 0 ≡ 0x0009
@@ -60,7 +62,7 @@ unfolding flipEntry answering pageOf used paged uses holds count any
 seven-entry = getD-table 0 256 (λ n. flipEntry seven (n / 16) (n % 16)) 194 (omega arith)
 
 seven-row : all 16 (λ y. eqb (flipEntry seven 12 y) (cond (eqb y 2) 0x0009 0x0008)) ≡ true
-unfolding flipEntry answering pageOf used paged allRom uses holds count all any
+unfolding flipEntry answering pageOf used paged under uses holds count all any
 seven-row = refl
 
 seven-others : (y : ℕ) → y < 16 → (y ≡ 2 → ⊥) → getD (flipTable seven) (192 + y) 0 ≡ 0x0008

@@ -18,8 +18,8 @@ use Rattle.lines.specs.declared.Entry.{Entry}
 use Rattle.lines.specs.declared.Entry.the-variants.{Rom, Paged, Ram}
 use Rattle.lines.specs.Lines.{lineAt, isRam}
 use Rattle.rules.specs.Accepted.{Accepted}
-use Rattle.rules.specs.Laws.Rules.{good, uses-of, RomIs, all-rom, none-plain, rom-or-none}
-use Rattle.rules.specs.Rules.{paged, uses}
+use Rattle.rules.specs.Laws.Rules.{good, uses-of, RomIs, under-rom, bare-none, under-or-bare}
+use Rattle.rules.specs.Chapters.{paged, uses}
 use Rattle.layout.specs.Laws.Layout.{placeOf}
 use Rattle.layout.specs.Layout.{writtenBy, lineHeld, paragraphHeld, paragraphWords, writtenOf}
 use Rattle.plays.specs.Loaded.{Loaded}
@@ -69,7 +69,7 @@ module _ {bin : List ℕ} {lines : List Line} (accepted : Accepted bin lines) wh
     unnamed-page =
         ⊎-elim
         (λ h.
-        let r : RomIs (lineAt lines 0 (a .0)) = all-rom (good accepted) (a .0) turns h in
+        let r : RomIs (lineAt lines 0 (a .0)) = under-rom (good accepted) (a .0) turns h in
         inr
         (record {
           line = r .line;
@@ -77,5 +77,5 @@ module _ {bin : List ℕ} {lines : List Line} (accepted : Accepted bin lines) wh
           rom = r .rom;
           reads = by-plain ∙ rw (r .found, rom-word (r .line .entry) (c .ram) a (r .rom));
         }))
-        (λ h. inl (by-plain ∙ rw (none-plain (good accepted) (a .0) turns flips h)))
-        (rom-or-none (good accepted) (a .0 / 4096) flips)
+        (λ h. inl (by-plain ∙ rw (bare-none (good accepted) (a .0) turns h)))
+        (under-or-bare (good accepted) (a .0 / 4096) flips)

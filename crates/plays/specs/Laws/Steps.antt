@@ -29,7 +29,7 @@ use Rattle.lines.specs.declared.Width.the-variants.{Sixteen, Eight}
 use Rattle.lines.specs.Lines.{lineAt, layer, isRam}
 use Rattle.lines.specs.Laws.Lines.{ram-plain}
 use Rattle.rules.specs.Laws.Rules.{Good, paged-below, found-below, found-open, paged-above, not-ram}
-use Rattle.rules.specs.Rules.{paged}
+use Rattle.rules.specs.Chapters.{paged}
 use Rattle.layout.specs.Layout.{permissionsAt, permissionOf, flipEntry, permissionBy, mappingAt, needed}
 use Rattle.layout.specs.Laws.Layout.{placeOf}
 use Rattle.layout.specs.Laws.Places.{place-below}

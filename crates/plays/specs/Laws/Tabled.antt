@@ -14,7 +14,7 @@ use Rattle.switches.specs.Laws.Flips.{turned-at, length-turned}
 use Rattle.cart.specs.declared.Cartridge.{Cartridge}
 use Rattle.cart.specs.Cartridges.{activeOf, withActive, resetOf}
 use Rattle.lines.specs.declared.Line.{Line}
-use Rattle.rules.specs.Rules.{paged}
+use Rattle.rules.specs.Chapters.{paged}
 use Rattle.layout.specs.Layout.{mappingTable, permissionsTable, flipTable, mappingAt, permissionsAt, flippable, flipEntry, plainMapping, plainPermissions, cartridgeOf}
 use Rattle.layout.specs.Laws.Tables.{flip-entry, mapping-entry, permissions-entry}
 use Rattle.plays.specs.Plain.{renumbered}

@@ -23,4 +23,5 @@ flip-entry-spec =
     (λ c. search needs)
     (λ c. search needs)
     (λ c. search needs)
+    (λ c. search needs)
     returns-3)

@@ -23,4 +23,5 @@ mapping-by-spec =
     returns-2
     (λ c. search needs)
     (λ c. search needs)
+    (λ c. search needs)
     returns-3)

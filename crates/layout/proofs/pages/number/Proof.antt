@@ -1,6 +1,7 @@
 -- `layout::pages::number` meets its contract. The loop's invariant: the first s slots are numbered.
 use Prim.Native.Nat.{_-_}
 use borrow.Author.Needs.{needs}
+use Rattle.places.specs.Limits.{slots}
 use Rattle.layout.proofs.Numbering.{Numbering, numbering-none, numbering-more, numbering-all}
 use Rattle.layout.proofs.pages.number.Statement.{statement}
 use Rattle.layout.proofs.pages.number.Tie as tie
@@ -9,7 +10,7 @@ abbrev Inv-loop : tie.InvT-loop
 Inv-loop used page₀ slot₀ n₀ s₀ page slot n s = Numbering used page slot n s
 
 abbrev μ-loop : tie.MeasureT-loop
-μ-loop used page₀ slot₀ n₀ s₀ page slot n s = 272 - s
+μ-loop used page₀ slot₀ n₀ s₀ page slot n s = slots - s
 
 loop-holds : tie.Need-loop-holds Inv-loop μ-loop
 loop-holds c = search (needs, numbering-none)

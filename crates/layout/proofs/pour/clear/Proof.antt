@@ -1,15 +1,16 @@
 -- `layout::pour::clear` meets its contract. The loop's invariant: the first i words are zeros.
 use Prim.Native.Nat.{_-_}
 use borrow.Author.Needs.{needs}
+use Rattle.places.specs.Limits.{paragraphSize}
 use Rattle.layout.proofs.Laying.{Laying, laying-none, laying-more, laying-all}
 use Rattle.layout.proofs.pour.clear.Statement.{statement}
 use Rattle.layout.proofs.pour.clear.Tie as tie
 
 abbrev Inv-loop : tie.InvT-loop
-Inv-loop ram₀ a i₀ ram i = Laying ram₀ a 256 (λ j. 0) i ram
+Inv-loop ram₀ t i₀ ram i = Laying ram₀ t paragraphSize (λ j. 0) i ram
 
 abbrev μ-loop : tie.MeasureT-loop
-μ-loop ram₀ a i₀ ram i = 256 - i
+μ-loop ram₀ t i₀ ram i = paragraphSize - i
 
 loop-holds : tie.Need-loop-holds Inv-loop μ-loop
 loop-holds c = search (needs, laying-none)

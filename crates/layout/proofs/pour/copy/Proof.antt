@@ -1,26 +1,26 @@
 -- `layout::pour::copy` meets its contract. The loop's invariant: the first i words are the BIN's.
-use Prim.Native.Nat.{_+_, _-_}
+use Prim.Native.Nat.{_-_}
 use mathlib.Core.Path.{refl}
 use borrow.Author.Needs.{needs}
-use Rattle.layout.proofs.Laying.{Laying, laying-none, laying-more, laying-all}
-use Rattle.layout.specs.Code.Plan.{wordIn}
+use Rattle.places.specs.Limits.{paragraphSize}
+use Rattle.layout.proofs.Sources.{Copying, copying-none, copying-more, copying-all}
 use Rattle.layout.proofs.pour.copy.Statement.{statement}
 use Rattle.layout.proofs.pour.copy.Tie as tie
 
 abbrev Inv-loop : tie.InvT-loop
-Inv-loop bin w ram₀ a i₀ ram i = Laying ram₀ a 256 (λ j. wordIn bin (w + j)) i ram
+Inv-loop bin ram₀ w t i₀ ram i = Copying bin w t ram₀ i ram
 
 abbrev μ-loop : tie.MeasureT-loop
-μ-loop bin w ram₀ a i₀ ram i = 256 - i
+μ-loop bin ram₀ w t i₀ ram i = paragraphSize - i
 
 loop-holds : tie.Need-loop-holds Inv-loop μ-loop
-loop-holds c = search (needs, laying-none)
+loop-holds c = search (needs, copying-none)
 
 loop-again : tie.Need-loop-again Inv-loop μ-loop
-loop-again c = laying-more _ _ _ _ _ _ _ _ (c .before .before .before .before .before .loop .inv) (c .before .before .before .before .loop-test .taken) refl (rw (c .before .before .wide16 .ensures .0, c .wide162 .ensures .0))
+loop-again c = copying-more _ _ _ _ _ _ _ _ _ _ (c .before .before .before .before .before .loop .inv) (c .before .before .before .before .loop-test .taken) refl (c .before .before .wide16 .ensures .0) (c .wide162 .ensures .0) refl
 
 returns : tie.Need-returns Inv-loop μ-loop
-returns c = laying-all _ _ _ _ _ _ (c .before .loop .inv) (c .loop-test .left)
+returns c = copying-all _ _ _ _ _ _ _ _ _ (c .before .before .before .word-of .ensures .0) (search needs) (c .before .loop .inv) (c .loop-test .left)
 
 pub copy-spec : {M : Type 1} → statement M
 copy-spec =
@@ -28,6 +28,7 @@ copy-spec =
     (tie.spec
     Inv-loop
     μ-loop
+    (λ c κs. search needs)
     (λ c. search needs)
     loop-holds
     (λ c. search needs)
