@@ -2,6 +2,7 @@
 ghost use Prim.Native.Nat.{_*_, _≤_, _<_};
 ghost use mathlib.Core.Path.{_≡_};
 ghost use lib.ListN.{length, take};
+ghost use Rattle.places.specs.Limits.{pageLimit};
 ghost use Rattle.cfg.specs.File.{entriesOf};
 ghost use Rattle.rules.specs.Accepted.{Accepted};
 ghost use Rattle.build.specs.Building.{flagBytes, uidOf, wrongBin, buildingOf, builtOf};
@@ -69,7 +70,7 @@ fn uid_of(bin: &[u8], cfg: &[u8]) -> [u8; 8]
 
 // What the writer's answer is for a build of so many pages.
 fn answered(w: Writing, pages: u32) -> Building
-    requires { ⌜ pages ≤ 272 ⌝ }
+    requires { ⌜ pages ≤ pageLimit ⌝ }
     ensures { λ r. ⌜ r ≡ answeredOf w pages ⌝ }
 {
     let r = w.refusal;
@@ -104,13 +105,13 @@ fn press(bin: &[u8], cfg: &[u8], count: u32, lines: [Line; LINE_LIMIT], out: &mu
     ensures { λ r. ⌜ Pressed (now (bin .entry)) (now (cfg .entry)) (take count lines) (now (out .entry)) r (now (out .exit)) ⌝ }
 {
     let mut ram = [0u16; RAM_WORDS];
-    let plan = layout::lay_out(bin, count, lines, &mut ram);
+    let drawing = layout::lay_out(bin, count, lines, &mut ram);
     let flags = flag_bytes();
     let uid = uid_of(bin, cfg);
-    let mapping = plan.mapping;
-    let permissions = plan.permissions;
-    let flips = plan.flips;
-    let marks = plan.marks;
+    let mapping = drawing.mapping;
+    let permissions = drawing.permissions;
+    let flips = drawing.flips;
+    let marks = drawing.marks;
     let w = save::write(
         out,
         &flags,
@@ -121,7 +122,7 @@ fn press(bin: &[u8], cfg: &[u8], count: u32, lines: [Line; LINE_LIMIT], out: &mu
         &ram,
         &marks,
     );
-    answered(w, plan.pages)
+    answered(w, drawing.pages)
 }
 
 // An image from a BIN and a CFG, into the front of a lent buffer.

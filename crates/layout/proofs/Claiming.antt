@@ -6,7 +6,7 @@ use mathlib.Core.Bool.{Bool, true, false, _&&_}
 use mathlib.Core.Logic.{inr}
 use native.Mathlib.Omega.{arith}
 use native.Mathlib.Numerals.{add-one}
-use lib.ListN.{length, getD, set, take, replicate, length-set, length-take}
+use lib.ListN.{length, getD, set, take, replicate, length-set}
 use lib.Dec.{eqb}
 use lib.Seq.{take-suc}
 use borrow.Author.Tests.{le-ltb, lt-ltb}

@@ -1,13 +1,13 @@
 -- What a Locutus paragraph holds, as the code comes to it.
 use Prim.Native.Nat.{ℕ, _≤_, _<_, _+_, _*_, _/_, _%_}
 use mathlib.Core.List.{List}
-use mathlib.Core.Path.{_≡_, refl}
+use mathlib.Core.Path.{_≡_}
 use mathlib.Core.Bool.{Bool, false, not}
 use lib.ListN.{getD, set}
 use lib.Dec.{eqb}
 use borrow.Author.Tests.{le-ltb, lt-ltb}
 use Rattle.basics.specs.Laws.Tables.{Filled, filled-more}
-use Rattle.places.specs.Limits.{slots, layers, paragraphs, pageParagraphs, locutusParagraphs}
+use Rattle.places.specs.Limits.{layers, paragraphs, pageParagraphs, locutusParagraphs}
 use Rattle.layout.specs.Code.Entries.{slotIn, paragraphIn, heldIn, markIn}
 
 -- the marks, p of them

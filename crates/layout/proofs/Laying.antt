@@ -6,7 +6,7 @@ use native.Mathlib.Omega.{arith}
 use lib.ListN.{length, set, length-set}
 use Rattle.basics.specs.Lists.{laid}
 use Rattle.places.specs.Limits.{paragraphSize}
-use Rattle.basics.specs.Laws.Lists.{laid-none, laid-more, laid-same, laid-add, length-laid}
+use Rattle.basics.specs.Laws.Lists.{laid-none, laid-more, laid-add, length-laid}
 
 pub record Laying (m₀ : List ℕ) (a n : ℕ) (w : ℕ → ℕ) (i : ℕ) (m : List ℕ) : Type 0 where
   pub up : i ≤ n

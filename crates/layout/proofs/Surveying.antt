@@ -1,27 +1,24 @@
 -- The tables of a survey, place by place.
 use Prim.Native.Nat.{ℕ, _≤_, _<_, _+_, _*_, _-_}
 use mathlib.Core.List.{List}
-use mathlib.Core.Path.{_≡_, refl, _∙_}
+use mathlib.Core.Path.{_≡_, _∙_}
 use mathlib.Core.Bool.{Bool, true, cond, _||_, _&&_}
 use mathlib.Core.Option.{none, some}
 use native.Mathlib.Omega.{arith}
-use lib.ListN.{getD, set, take}
+use lib.ListN.{getD, set}
 use lib.Dec.{eqb, ltb}
 use borrow.Author.Tests.{eq-eqb, ne-eqb}
 use Rattle.basics.specs.Laws.Tables.{Filled, filled-more}
-use Rattle.places.specs.Limits.{lineLimit, cells, chapterParagraphs, paragraphs}
+use Rattle.places.specs.Limits.{lineLimit, chapterParagraphs, paragraphs}
 use Rattle.switches.specs.Flips.{firstK}
 use Rattle.lines.specs.declared.Line.{Line}
 use Rattle.lines.specs.Kinds.{kindBy, kindOf}
-use Rattle.layout.specs.Code.Survey.{noLine, kindIn, underIn, Few, Cells}
+use Rattle.layout.specs.Code.Survey.{noLine, kindIn, underIn, Few}
 use Rattle.layout.proofs.Joined.{Everywhere, everywhere-none, everywhere-more, everywhere-all}
 
 -- a number's line is one of the lines
 pub few-place : (o : List ℕ) → Few o → (p i : ℕ) → p < paragraphs → i ≡ getD o p 0 - 1 → i < lineLimit
 few-place o f p i h e = omega (arith, f .each p (omega arith))
-
-pub few-of : (all ls : List Line) (o : List ℕ) → Cells all ls o → Few o
-few-of all ls o w = w .few
 
 -- the kind of a line, and of none
 pub kind-none : (n : ℕ) (l : Line) → n ≡ 0 → 0 ≡ kindOf (cond (eqb n 0) none (some l))

@@ -17,7 +17,8 @@ use Rattle.basics.specs.Laws.Tables.{table-same, getD-table}
 use Rattle.basics.specs.Laws.Tests.{cases, and-left, true-is-not-false, and-right}
 use Rattle.basics.specs.Laws.Counts.{Place, any-at}
 use Rattle.basics.specs.Laws.Puts.{put-room}
-use Rattle.places.specs.Limits.{locutusParagraphs, lent, imageLimit, pageLimit, pageSize}
+use Rattle.places.specs.Places.{console}
+use Rattle.places.specs.Limits.{locutusParagraphs, lent, imageLimit, pageLimit, pageSize, pageParagraphs, paragraphSize}
 use Rattle.tables.specs.Tables.{tables}
 use Rattle.save.specs.declared.Writing.{Writing}
 use Rattle.save.specs.Chosen.{imageFor}
@@ -25,8 +26,8 @@ use Rattle.save.specs.Writing.{Content, content, paragraphOf, isMarked, marked,
 use Rattle.save.specs.Laws.Chosen.{chosen-same}
 use Rattle.lines.specs.declared.Line.{Line}
 use Rattle.rules.specs.Accepted.{Accepted}
-use Rattle.layout.specs.declared.Plan.{Plan}
-use Rattle.layout.specs.Plan.{ramOf, wordAt, planOf}
+use Rattle.layout.specs.declared.Drawing.{Drawing}
+use Rattle.layout.specs.Drawing.{ramOf, wordAt, drawingOf}
 use Rattle.layout.specs.Layout.{covered, needed, pages, paragraphWords, writtenOf as wordOf, lineHeld, paragraphHeld}
 use Rattle.layout.specs.Laws.Few.{pages-80}
 use Rattle.layout.specs.Laws.Uses.{covered-below, covered-inside}
@@ -40,33 +41,33 @@ abbrev pub ramWords : ℕ
 ramWords = pageLimit * pageSize
 
 module _ (bin : List ℕ) (lines : List Line) (accepted : Accepted bin lines) (ram₀ ram : List ℕ) (long : length ram₀ ≡ ramWords) (laid-as : ram ≡ ramOf bin lines ram₀)
-    (marks : List Bool) (em : marks ≡ table 2048 (covered lines)) where
+    (marks : List Bool) (em : marks ≡ table locutusParagraphs (covered lines)) where
   room : needed lines ≤ ramWords
   room = omega (arith, pages-80 accepted)
 
   ram-long : length ram ≡ ramWords
   unfolding ramOf
-  ram-long = ap length laid-as ∙ length-laid 0 (wordAt bin lines) ram₀ (256 * min (16 * pages lines) (length ram₀ / 256)) ∙ long
+  ram-long = ap length laid-as ∙ length-laid 0 (wordAt bin lines) ram₀ (paragraphSize * min (pageParagraphs * pages lines) (length ram₀ / paragraphSize)) ∙ long
 
-  word : (i : ℕ) → i < 4096 * pages lines → getD ram i 0 ≡ wordAt bin lines i
+  word : (i : ℕ) → i < pageSize * pages lines → getD ram i 0 ≡ wordAt bin lines i
   unfolding ramOf
   word i h =
       let z : 0 + i ≡ i = omega arith in
-      rw laid-as (rw z at (laid-in 0 (wordAt bin lines) ram₀ (256 * min (16 * pages lines) (length ram₀ / 256)) i (omega (arith, room)) (omega (arith, room))))
+      rw laid-as (rw z at (laid-in 0 (wordAt bin lines) ram₀ (paragraphSize * min (pageParagraphs * pages lines) (length ram₀ / paragraphSize)) i (omega (arith, room)) (omega (arith, room))))
 
   words-there : (p : ℕ) → covered lines p ≡ true → paragraphOf ram p ≡ paragraphWords bin lines p
   unfolding paragraphWords
   words-there p e =
-      let b : p < 16 * pages lines = covered-below lines p e in
-      table-same 0 256 (λ i. getD ram (256 * p + i) 0) (λ i. wordOf bin (lineHeld lines p) (record { 0 = 256 * paragraphHeld lines p + i }))
+      let b : p < pageParagraphs * pages lines = covered-below lines p e in
+      table-same 0 paragraphSize (λ i. getD ram (paragraphSize * p + i) 0) (λ i. wordOf bin (lineHeld lines p) (console (paragraphSize * paragraphHeld lines p + i)))
       (λ i l.
-      let q : (256 * p + i) / 256 ≡ p = omega arith in
-      let r : (256 * p + i) % 256 ≡ i = omega arith in
-      word (256 * p + i) (omega arith) ∙ rw (q, r))
+      let q : (paragraphSize * p + i) / paragraphSize ≡ p = omega arith in
+      let r : (paragraphSize * p + i) % paragraphSize ≡ i = omega arith in
+      word (paragraphSize * p + i) (omega arith) ∙ rw (q, r))
 
   is-marked : (p : ℕ) → p < locutusParagraphs → isMarked marks p ≡ covered lines p
   unfolding isMarked
-  is-marked p h = rw em (getD-table false 2048 (covered lines) p h)
+  is-marked p h = rw em (getD-table false locutusParagraphs (covered lines) p h)
 
   marked-are : marked ram marks ≡ hunksFor bin lines
   marked-are = chosen-same locutusParagraphs (isMarked marks) (covered lines) (paragraphOf ram) (paragraphWords bin lines) is-marked (λ p h e. words-there p e)
@@ -85,7 +86,7 @@ module _ (bin : List ℕ) (lines : List Line) (accepted : Accepted bin lines) (r
         let w : Place locutusParagraphs (pastLent given) = any-at locutusParagraphs (pastLent given) e in
         let c : covered lines (w .at) ≡ true = sym (is-marked (w .at) (w .below)) ∙ and-left (isMarked marks (w .at)) _ (w .passes) in
         true-is-not-false (and-right (isMarked marks (w .at)) _ (w .passes))
-        (le-ltb (lent ram) (256 * w .at + 256) (omega (arith, covered-inside lines (w .at) c, room, ram-long))))
+        (le-ltb (lent ram) (paragraphSize * w .at + paragraphSize) (omega (arith, covered-inside lines (w .at) c, room, ram-long))))
         (λ e. e)
 
     image-is : imageBy given ≡ image
@@ -112,12 +113,12 @@ module _ (bin : List ℕ) (lines : List Line) (accepted : Accepted bin lines) (r
 
     -- as the code comes to it
     pub pressed-as :
-        (plan : Plan) → plan ≡ planOf lines → (flags uid : List ℕ) → flags ≡ flagBytes → uid ≡ uidOf bin cfg → (w : Writing) (after : List ℕ) (r : Building)
-        → (w ≡ writingOf out (content flags uid (tables (plan .mapping) (plan .permissions) (plan .flips)) ram marks))
-        × (after ≡ writtenOf out (content flags uid (tables (plan .mapping) (plan .permissions) (plan .flips)) ram marks))
-        → r ≡ answeredOf w (plan .pages) → Pressed bin cfg lines out r after
-    unfolding planOf
-    pressed-as plan ep flags uid ef eu w after r ew er =
+        (drawing : Drawing) → drawing ≡ drawingOf lines → (flags uid : List ℕ) → flags ≡ flagBytes → uid ≡ uidOf bin cfg → (w : Writing) (after : List ℕ) (r : Building)
+        → (w ≡ writingOf out (content flags uid (tables (drawing .mapping) (drawing .permissions) (drawing .flips)) ram marks))
+        × (after ≡ writtenOf out (content flags uid (tables (drawing .mapping) (drawing .permissions) (drawing .flips)) ram marks))
+        → r ≡ answeredOf w (drawing .pages) → Pressed bin cfg lines out r after
+    unfolding drawingOf
+    pressed-as drawing ep flags uid ef eu w after r ew er =
         let a : w ≡ writingOf out given = rw (ep, ef, eu) at (ew .0) in
         let b : after ≡ writtenOf out given = rw (ep, ef, eu) at (ew .1) in
         let c : r ≡ answeredOf w (pages lines) = rw ep at er in

@@ -1,24 +1,23 @@
 -- The line of each cell, line by line: a line more takes the cells that it holds and that are free.
 use Prim.Native.Nat.{ℕ, _+_, _*_, _-_, _/_, _%_, _<_, _≤_, suc}
 use mathlib.Core.List.{List, [], _∷_, _++_}
-use mathlib.Core.Path.{_≡_, refl, sym, ap, _∙_}
+use mathlib.Core.Path.{_≡_, refl, sym, _∙_}
 use mathlib.Core.Bool.{Bool, true, false, cond, _&&_, not}
 use mathlib.Core.Option.{Option, none, some}
 use mathlib.Core.Logic.{_⊎_, inl, inr}
 use native.Mathlib.Omega.{arith}
 use lib.ListN.{length, getD, replicate, length-replicate, getD-replicate}
 use lib.Dec.{eqb, ltb}
-use borrow.Author.Tests.{eqb-true, eqb-false, ne-eqb, ltb-true, ltb-false}
+use borrow.Author.Tests.{eqb-true, eqb-false, ne-eqb, lt-ltb, ltb-true, ltb-false}
 use Rattle.basics.specs.Options.{isSome}
 use Rattle.basics.specs.Lists.{laid}
 use Rattle.basics.specs.Laws.Lists.{length-laid, laid-in, laid-out}
-use Rattle.basics.specs.Laws.Tests.{cases}
+use Rattle.basics.specs.Laws.Tests.{cases, and-right}
 use Rattle.places.specs.Limits.{lineLimit, cells, layers, paragraphs, paragraphSize}
 use Rattle.lines.specs.declared.Line.{Line}
 use Rattle.lines.specs.declared.Entry.{Entry}
 use Rattle.lines.specs.Lines.{layer, holds, lineAt}
-use Rattle.rules.specs.Chapters.{lineIn}
-use Rattle.layout.specs.Code.Survey.{noLine, lineOf, takes, claimed, Cells, Few}
+use Rattle.layout.specs.Code.Survey.{noLine, lineOf, takes, claimed, Cells}
 
 pub some-line : (ls : List Line) (n : ℕ) → isSome (lineOf ls n) ≡ not (eqb n 0)
 some-line ls n = cases (eqb n 0) (λ h. rw h) (λ h. rw h)
@@ -36,11 +35,7 @@ line-here (m ∷ ls) t a l e = cases (there (m .entry) t a) (λ h. here h) (λ h
     here h =
         let q : some m ≡ some l = simp h at e in
         let r : m ≡ l = cc in
-        rw (← r) (right (eqb (layer (m .entry)) t) (holds (m .entry) a) h)
-      where
-        right : (b c : Bool) → b && c ≡ true → c ≡ true
-        right true c p = p
-        right false c p = let z : _≡_ {A = ℕ} 0 1 = cc in absurd (omega arith)
+        rw (← r) (and-right (eqb (layer (m .entry)) t) (holds (m .entry) a) h)
 
 -- one line more
 more-by : (b : Bool) (o : Option Line) (l m : Line) (c : Bool)
@@ -54,9 +49,6 @@ line-more [] l t a = refl
 line-more (m ∷ ls) l t a = rw (line-more ls l t a) (more-by (there (m .entry) t a) (lineAt ls t a) l m (there (l .entry) t a))
 
 -- a cell after a claim
-off-layer : (e : Entry) (t a : ℕ) → (layer e ≡ t → ⊥) → there e t a ≡ false
-off-layer e t a h = rw (ne-eqb (layer e) t h)
-
 module _ (e : Entry) (number : ℕ) (o : List ℕ) (long : length o ≡ cells) (i : ℕ) (h : i < cells) where
   abbrev word : ℕ → ℕ
   word p = takes (holds e (paragraphSize * p)) number (getD o (paragraphs * layer e + p) 0)
@@ -79,14 +71,11 @@ module _ (e : Entry) (number : ℕ) (o : List ℕ) (long : length o ≡ cells) (
       cases (eqb (layer e) (i / paragraphs))
       (λ q.
       let s : layer e ≡ i / paragraphs = eqb-true _ _ q in
-      let l : ltb (layer e) layers ≡ true = rw s (below) in
+      let l : ltb (layer e) layers ≡ true = lt-ltb (layer e) layers (omega arith) in
       rw (l, q) (on-layer s))
       (λ q.
       let s : layer e ≡ i / paragraphs → ⊥ = eqb-false _ _ q in
       rw q (cases (ltb (layer e) layers) (λ l. rw l (off s)) (λ l. rw l)))
-    where
-      below : ltb (i / paragraphs) layers ≡ true
-      below = cases (ltb (i / paragraphs) layers) (λ l. l) (λ l. absurd (omega (arith, ltb-false (i / paragraphs) layers l)))
 
 pub length-claimed : (e : Entry) (number : ℕ) (o : List ℕ) → length (claimed e number o) ≡ length o
 unfolding claimed

@@ -7,18 +7,17 @@ use mathlib.Core.Option.{Option, none, some}
 use native.Mathlib.Omega.{arith}
 use lib.ListN.{length, getD}
 use lib.Dec.{eqb, ltb}
-use borrow.Author.Tests.{ne-eqb, eqb-true, eqb-false}
+use borrow.Author.Tests.{ne-eqb}
 use Rattle.basics.specs.Options.{isSome}
-use Rattle.basics.specs.Counts.{count, nth}
+use Rattle.basics.specs.Counts.{count}
 use Rattle.basics.specs.Tables.{table}
-use Rattle.basics.specs.Lists.{laid}
 use Rattle.basics.specs.Laws.Counts.{count-most}
 use Rattle.basics.specs.Laws.Nth.{nth-below}
 use Rattle.basics.specs.Laws.Lists.{laid-same}
 use Rattle.basics.specs.Laws.Tables.{getD-table, table-same}
 use Rattle.basics.specs.Laws.Tests.{cases, not-cond}
 use Rattle.places.specs.Limits.{lineLimit, chapters, chapterParagraphs, chapterPages, flipEntries, paragraphs, paragraphSize, layers, slots, cells, pageParagraphs, locutusParagraphs}
-use Rattle.switches.specs.Flips.{flipMapping, flipPermissions}
+use Rattle.switches.specs.Flips.{flipMapping}
 use Rattle.lines.specs.declared.Line.{Line}
 use Rattle.lines.specs.declared.Entry.{Entry}
 use Rattle.lines.specs.declared.Entry.the-variants.{Rom, Paged, Ram}
@@ -54,10 +53,6 @@ kind-entry (Ram lo hi Eight) = refl
 kind-none : (o : Option Line) → not (isSome o) ≡ eqb (kindOf o) 0
 kind-none none = refl
 kind-none (some l) = sym (kind-entry (l .entry))
-
-flip-cond : (b : Bool) (x y : ℕ) → cond (not b) x y ≡ cond b y x
-flip-cond true x y = refl
-flip-cond false x y = refl
 
 module _ (all ls : List Line) (s : Survey) (v : Surveyed all ls s) where
   -- each table at its places
@@ -127,7 +122,7 @@ module _ (all ls : List Line) (s : Survey) (v : Surveyed all ls s) where
       (λ p h.
       rw (flippable-at p h, first-flip p h, kind-at p h, plain-page (p / chapterParagraphs) (omega arith), ← kind-none (lineIn ls 0 p))
       (ap (cond (flippable ls p) (flipMapping (flipEntry ls (p / chapterParagraphs) 0) (p % chapterParagraphs)))
-      (flip-cond (isSome (lineIn ls 0 p)) 0 (pageParagraphs * pageOf ls (p / chapterParagraphs) 0 + p % chapterParagraphs))))
+      (sym (not-cond (isSome (lineIn ls 0 p)) (pageParagraphs * pageOf ls (p / chapterParagraphs) 0 + p % chapterParagraphs) 0))))
 
   permissions-are : table paragraphs (permissionsIn (s .paged) (flipsBy s) (s .kinds)) ≡ permissionsTable ls
   unfolding permissionsAt

@@ -1,5 +1,5 @@
 -- Where the words of accepted lines are laid: each inside the pages, no two at one place, each in its paragraph's hunk.
-use Prim.Native.Nat.{ℕ, _/_, _≤_, _*_, _+_, _%_, _<_}
+use Prim.Native.Nat.{ℕ, _/_, _*_, _+_, _%_, _<_}
 use mathlib.Core.List.{List}
 use mathlib.Core.Path.{_≡_, _∙_}
 use mathlib.Core.Option.{some}

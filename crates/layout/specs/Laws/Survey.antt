@@ -1,5 +1,5 @@
 -- The tables of a survey are those of its lines.
-use Prim.Native.Nat.{ℕ, _+_, _*_, _/_, _%_, _<_, _≤_, suc, min}
+use Prim.Native.Nat.{ℕ, _+_, _*_, _/_, _%_, _<_, suc, min}
 use mathlib.Core.List.{List}
 use mathlib.Core.Path.{_≡_, sym, ap, _∙_}
 use mathlib.Core.Bool.{Bool, false, not, _||_}

@@ -8,7 +8,7 @@ use native.Mathlib.Omega.{arith}
 use lib.ListN.{getD}
 use Rattle.basics.specs.Laws.Tables.{getD-table}
 use Rattle.basics.specs.Laws.Tests.{cases}
-use Rattle.places.specs.Limits.{chapters, chapterParagraphs, chapterPages, flipEntries, paragraphs}
+use Rattle.places.specs.Limits.{chapterParagraphs, chapterPages, flipEntries, paragraphs}
 use Rattle.lines.specs.declared.Line.{Line}
 use Rattle.lines.specs.declared.Entry.{Entry}
 use Rattle.lines.specs.declared.Entry.the-variants.{Rom, Paged, Ram}

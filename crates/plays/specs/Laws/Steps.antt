@@ -27,10 +27,11 @@ use Rattle.cart.specs.Cartridges.{activeOf, readOf, writeOf, writeRamOf}
 use Rattle.lines.specs.declared.Line.{Line}
 use Rattle.lines.specs.declared.Width.the-variants.{Sixteen, Eight}
 use Rattle.lines.specs.Lines.{lineAt, layer, isRam}
+use Rattle.lines.specs.Kinds.{kindBy, kindOf}
 use Rattle.lines.specs.Laws.Lines.{ram-plain}
 use Rattle.rules.specs.Laws.Rules.{Good, paged-below, found-below, found-open, paged-above, not-ram}
 use Rattle.rules.specs.Chapters.{paged}
-use Rattle.layout.specs.Layout.{permissionsAt, permissionOf, flipEntry, permissionBy, mappingAt, needed}
+use Rattle.layout.specs.Layout.{permissionsAt, flipEntry, mappingAt, needed}
 use Rattle.layout.specs.Laws.Layout.{placeOf}
 use Rattle.layout.specs.Laws.Places.{place-below}
 use Rattle.layout.specs.Laws.Few.{needed-small}
@@ -46,9 +47,9 @@ module _ {lines : List Line} (g : Good lines) where
   permissions-past : (y p : ℕ) → paragraphs ≤ p → permissionsAt lines y p ≡ 0
   permissions-past y p s =
       let q : 256 * p / 256 ≡ p = omega arith in
-      let e : permissionsAt lines y (256 * p / 256) ≡ permissionOf (shownLine lines y (record { 0 = 256 * p })) =
+      let e : permissionsAt lines y (256 * p / 256) ≡ kindOf (shownLine lines y (record { 0 = 256 * p })) =
       shows g y (record { 0 = 256 * p }) .permissions in
-      rw q at e ∙ ap permissionOf (none-past g y (record { 0 = 256 * p }) (omega arith))
+      rw q at e ∙ ap kindOf (none-past g y (record { 0 = 256 * p }) (omega arith))
 
   unpaged-past : (x : ℕ) → chapters ≤ x → (b : Bool) → paged lines x ≡ b → paged lines x ≡ false
   unpaged-past x s true e = absurd (omega (arith, paged-below (g .fine) x e))
@@ -59,7 +60,7 @@ module _ {lines : List Line} (g : Good lines) where
   flip-past x y s = simp (unpaged-past x s (paged lines x) refl)
 
 -- every line's permissions let it be read; RAM's let it be written
-reads : (e : Entries.Entry) → READ (permissionBy e) ≡ true
+reads : (e : Entries.Entry) → READ (kindBy e) ≡ true
 reads (Kinds.Rom lo hi at) = refl
 reads (Kinds.Paged lo hi at y) = refl
 reads (Kinds.Ram lo hi Sixteen) = refl
@@ -90,7 +91,7 @@ module _ {bin : List ℕ} {lines : List Line} (g : Good lines) (c : Cartridge) (
   chapter : at .0 / 256 / 16 ≡ at .0 / 4096
   chapter = omega arith
 
-  permissions-there : getD (c .permissions) (paragraph at) 0 ≡ permissionOf shown
+  permissions-there : getD (c .permissions) (paragraph at) 0 ≡ kindOf shown
   permissions-there = permissions-at (at .0 / 256) ∙ rw chapter (shows g (number (at .0 / 4096)) at .permissions)
 
   module _ (l : Line) (e : shown ≡ some l) where
@@ -150,7 +151,7 @@ module _ {bin : List ℕ} {lines : List Line} (g : Good lines) (c : Cartridge) (
   Stores : ℕ → Type 0
   Stores v = Held bin lines (stored reached ram v) (ramAfter (lineAt lines 0 (at .0)) mem at v)
 
-  still : (v : ℕ) (o : Option Line) → shown ≡ o → ((l : Line) → o ≡ some l → isRam (l .entry) ≡ false) → WRITE (permissionOf o) ≡ false → Stores v
+  still : (v : ℕ) (o : Option Line) → shown ≡ o → ((l : Line) → o ≡ some l → isRam (l .entry) ≡ false) → WRITE (kindOf o) ≡ false → Stores v
   unfolding Stores stored
   still v o e f w = simp (permissions-there, kept v (λ l q. f l (sym e ∙ q)), e, w) h
 
@@ -158,9 +159,9 @@ module _ {bin : List ℕ} {lines : List Line} (g : Good lines) (c : Cartridge) (
     ram-there : lineAt lines 0 (at .0) ≡ some l
     ram-there = rw (ram-plain (l .entry) r) at (line-there l e)
 
-    ram-stored : WRITE (permissionBy (l .entry)) ≡ true →
+    ram-stored : WRITE (kindBy (l .entry)) ≡ true →
         stored reached ram v
-        ≡ set ram (placeOf lines 0 at .0) (storedWord (NARROW (permissionBy (l .entry))) (getD ram (placeOf lines 0 at .0) 0) v)
+        ≡ set ram (placeOf lines 0 at .0) (storedWord (NARROW (kindBy (l .entry))) (getD ram (placeOf lines 0 at .0) 0) v)
     unfolding stored
     ram-stored w = simp (permissions-there, place-there l e, e, w, ram-plain (l .entry) r, lies-there 0 l ram-there)
 

@@ -14,8 +14,8 @@ use Rattle.switches.specs.Laws.Flips.{turned-at, length-turned}
 use Rattle.cart.specs.declared.Cartridge.{Cartridge}
 use Rattle.cart.specs.Cartridges.{activeOf, withActive, resetOf}
 use Rattle.lines.specs.declared.Line.{Line}
-use Rattle.rules.specs.Chapters.{paged}
-use Rattle.layout.specs.Layout.{mappingTable, permissionsTable, flipTable, mappingAt, permissionsAt, flippable, flipEntry, plainMapping, plainPermissions, cartridgeOf}
+use Rattle.rules.specs.Chapters.{paged, kindAt}
+use Rattle.layout.specs.Layout.{mappingTable, permissionsTable, flipTable, mappingAt, permissionsAt, flippable, flipEntry, plainMapping, cartridgeOf}
 use Rattle.layout.specs.Laws.Tables.{flip-entry, mapping-entry, permissions-entry}
 use Rattle.plays.specs.Plain.{renumbered}
 
@@ -90,7 +90,7 @@ module _ {lines : List Line} {c : Cartridge} {number : ℕ → ℕ} (t : Tabled 
         mapping-length = length-turned (n / 16) _ (c .mapping) ∙ t .mapping-length;
         permissions-length = length-turned (n / 16) _ (c .permissions) ∙ t .permissions-length;
         mapping = λ p h. rw (flip-in n s) (turning lines flipMapping (plainMapping lines) number (n / 16) (n % 16) (c .mapping) (t .mapping-length) (t .mapping) e p h);
-        permissions = λ p h. rw (flip-in n s) (turning lines flipPermissions (plainPermissions lines) number (n / 16) (n % 16) (c .permissions) (t .permissions-length) (t .permissions) e p h);
+        permissions = λ p h. rw (flip-in n s) (turning lines flipPermissions (kindAt lines) number (n / 16) (n % 16) (c .permissions) (t .permissions-length) (t .permissions) e p h);
       }
 
   -- a request in a chapter with no PAGE lines
@@ -104,7 +104,7 @@ module _ {lines : List Line} {c : Cartridge} {number : ℕ → ℕ} (t : Tabled 
         mapping-length = t .mapping-length;
         permissions-length = t .permissions-length;
         mapping = unpaged lines flipMapping (plainMapping lines) number x y (c .mapping) (t .mapping-length) (t .mapping) e;
-        permissions = unpaged lines flipPermissions (plainPermissions lines) number x y (c .permissions) (t .permissions-length) (t .permissions) e;
+        permissions = unpaged lines flipPermissions (kindAt lines) number x y (c .permissions) (t .permissions-length) (t .permissions) e;
       }
 
   pub tabled-reset : Tabled lines (resetOf c) (λ x. 0)
