@@ -66,9 +66,7 @@ module _ (lines : List Line) where
 
   pub page-page : (x y : ℕ) → y < 16 → pageAt (planOf lines x) (base (planOf lines) x) y ≡ pageOf lines x (suc y)
   unfolding pageAt pageOf
-  page-page x y h =
-      let s : cond (hasPlain (planOf lines x)) 1 0 ≡ cond (uses lines x 0) 1 0 = rw (plain-is x) in
-      omega (arith, base-is x, count-in x y (omega arith))
+  page-page x y h = rw (base-is x, plain-is x) (omega (arith, count-in x y (omega arith)))
 
   -- the three tables
   flip-is : (x y : ℕ) → y < 16 → flipEntry lines x y ≡ chapterFlip x (planOf lines x) (base (planOf lines) x) y

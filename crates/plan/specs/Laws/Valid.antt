@@ -46,7 +46,7 @@ module _ {lines : List Line} (g : Good lines) (x : ℕ) where
       let u : Used lines x (suc (p .at)) = used-at (g .fine) x (suc (p .at)) (p .passes) in
       let f : Flips (u .at) = found-flips (g .fine) (p .at) (u .at) (u .line) (u .found) in
       let b : x ≡ 3 → ⊥ = λ q. f .not-three (u .chapter ∙ q) in
-      cases (eqb x 2) (λ q. or-left _ _ q) (λ q. or-right (eqb x 2) _ (le-leb _ _ (omega (arith, f .above, u .chapter, eqb-false x 2 q))))
+      cases (eqb x 2) (λ q. or-left _ _ q) (λ q. or-right (eqb x 2) _ (le-leb 4 x (omega (arith, f .above, u .chapter, eqb-false x 2 q))))
 
   bare-is : isBare x (planOf lines x) ≡ bare lines x
   unfolding rangeIs bare
