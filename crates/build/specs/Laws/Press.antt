@@ -19,6 +19,7 @@ use Rattle.basics.specs.Laws.Counts.{Place, any-at}
 use Rattle.basics.specs.Laws.Puts.{put-room}
 use Rattle.places.specs.Places.{console}
 use Rattle.places.specs.Limits.{locutusParagraphs, lent, imageLimit, pageLimit, pageSize, pageParagraphs, paragraphSize}
+use Rattle.tables.specs.Tables.{tables}
 use Rattle.save.specs.declared.Writing.{Writing}
 use Rattle.save.specs.Chosen.{imageFor}
 use Rattle.save.specs.Writing.{Content, content, paragraphOf, isMarked, marked, pastLent, imageBy, refusalOf, answerFor, writingOf, writtenOf}
@@ -124,3 +125,11 @@ module _ (bin : List ℕ) (lines : List Line) (accepted : Accepted bin lines) (r
         let b : after ≡ writtenOf out given = rw (ed, eu) at (ew .1) in
         let c : r ≡ answeredOf w (pages lines) = rw ed at er in
         record { answer = c ∙ ap (λ (x : Writing). answeredOf x (pages lines)) (a ∙ writing) ∙ answer (ltb (length out) (length image)); leaves = b ∙ written }
+
+-- the writer given a drawing and the flag bytes
+pub drawn-written :
+    (out after uid flags ram : List ℕ) (d : Drawing) (w : Writing) → flags ≡ flagBytes
+    → (w ≡ writingOf out (content flags uid (tables (d .mapping) (d .permissions) (d .flips)) ram (d .marks)))
+    × (after ≡ writtenOf out (content flags uid (tables (d .mapping) (d .permissions) (d .flips)) ram (d .marks)))
+    → (w ≡ writingOf out (drawnContent uid d ram)) × (after ≡ writtenOf out (drawnContent uid d ram))
+drawn-written out after uid flags ram d w e q = rw e at q
