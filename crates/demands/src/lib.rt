@@ -6,11 +6,11 @@ ghost use Rattle.tables.specs.Tables.{tables};
 ghost use Rattle.save.specs.Writing.{content};
 ghost use Rattle.demands.specs.Pressing.{Loads, Pressed, Made};
 use build::Building;
-use load::Loading;
 use header::FLAGS_SIZE;
+use header::UID_SIZE;
+use load::Loading;
 use places::LOCUTUS_PARAGRAPHS;
 use places::PARAGRAPHS;
-use header::UID_SIZE;
 use save::Writing;
 
 // The load of a buffer's first bytes, as many as are asked for and are there.
@@ -31,15 +31,15 @@ pub struct Title {
 
 pub fn press_and_load(bin: &[u8], cfg: &[u8], out: &mut [u8], ram: &mut [u16]) -> Title
     ensures { λ r. ⌜ Pressed (record {
-        bin = now (bin .entry);
-        cfg = now (cfg .entry);
-        out = now (out .entry);
-        ram = now (ram .entry);
-        building = r .building;
-        left = now (out .exit);
-        loading = r .loading;
-        stored = now (ram .exit);
-      }) ⌝ }
+      bin = now (bin .entry);
+      cfg = now (cfg .entry);
+      out = now (out .entry);
+      ram = now (ram .entry);
+      building = r .building;
+      left = now (out .exit);
+      loading = r .loading;
+      stored = now (ram .exit);
+    }) ⌝ }
 {
     let building = build::build(bin, cfg, out);
     let loading = load_front(out, building.length, ram);
@@ -64,14 +64,14 @@ pub fn write_and_load<'a>(
     ram: &mut [u16],
 ) -> Copy
     ensures { λ r. ⌜ Made (record {
-        content = content (now (flags .entry)) (now (uid .entry)) (tables (now (mapping .entry)) (now (permissions .entry)) (now (flips .entry))) (now (from .entry)) (now (marks .entry));
-        out = now (out .entry);
-        ram = now (ram .entry);
-        writing = r .writing;
-        left = now (out .exit);
-        loading = r .loading;
-        stored = now (ram .exit);
-      }) ⌝ }
+      content = content (now (flags .entry)) (now (uid .entry)) (tables (now (mapping .entry)) (now (permissions .entry)) (now (flips .entry))) (now (from .entry)) (now (marks .entry));
+      out = now (out .entry);
+      ram = now (ram .entry);
+      writing = r .writing;
+      left = now (out .exit);
+      loading = r .loading;
+      stored = now (ram .exit);
+    }) ⌝ }
 {
     let writing = save::write(out, flags, uid, mapping, permissions, flips, from, marks);
     let loading = load_front(out, writing.length, ram);

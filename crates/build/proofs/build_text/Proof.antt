@@ -1,6 +1,6 @@
 -- `build::build_text` meets its contract: each way out by its law.
 use borrow.Author.Needs.{needs}
-use Rattle.build.specs.Laws.Answers.{refused-cfg}
+use Rattle.build.specs.Laws.Answers.{refused-cfg, read-so}
 use Rattle.build.proofs.build_text.Statement.{statement}
 use Rattle.build.proofs.build_text.Tie as tie
 use Rattle.build.proofs.build_text.Reads as reads
@@ -16,10 +16,10 @@ refuse-requires : tie.Need-refuse-requires
 refuse-requires c κs = search needs
 
 returns : tie.Need-returns
-returns c = refused-cfg (c .before .before .before .before .before .before .before .before .args .bin .now) (c .before .before .before .before .before .before .before .before .args .cfg .now) (c .before .before .before .before .before .before .before .before .args .out .now) (c .before .before .before .before .before .before .before .before .pre) _ (c .before .before .before .before .read-cfg .ensures) (c .before .if1 .taken) _ (c .refuse .ensures)
+returns c = search (needs, refused-cfg)
 
 build-lines-requires : tie.Need-build-lines-requires
-build-lines-requires c κs = search needs
+build-lines-requires c κs = search (needs, read-so)
 
 same-length : tie.Need-same-length
 same-length c = search needs

@@ -1,5 +1,5 @@
 -- What the steps of a build are given and answer.
-use Prim.Native.Nat.{ℕ, _*_}
+use Prim.Native.Nat.{ℕ, _*_, _≤_}
 use mathlib.Core.Bool.{cond, false}
 use mathlib.Core.List.{List, _++_}
 use mathlib.Core.Path.{_≡_}
@@ -7,7 +7,7 @@ use lib.ListN.{length, drop}
 use lib.Dec.{ltb}
 use Rattle.basics.specs.declared.Refusal.{Refusal}
 use Rattle.basics.specs.Refusals.{refuse, noRefusal, passes}
-use Rattle.places.specs.Limits.{pageSize}
+use Rattle.places.specs.Limits.{pageSize, binLimit}
 use Rattle.tables.specs.Tables.{tables}
 use Rattle.save.specs.declared.Writing.{Writing}
 use Rattle.save.specs.Writing.{Content, content}
@@ -40,12 +40,14 @@ drawnContent uid d ram = content flagBytes uid (tables (d .mapping) (d .permissi
 -- a BIN that 21 passes, and a CFG that was read
 pub record Read (bin cfg : List ℕ) (r : Reading) : Type 0 where
   pub fine : wrongBin bin ≡ false
+  pub small : length bin ≤ binLimit
   pub reading : r ≡ readingOf cfg
   pub accepted : r .refusal .number ≡ 0
 
 -- a build's answer, and the buffer after it
-abbrev pub Answers : List ℕ → List ℕ → List ℕ → Building → List ℕ → Type 0
-Answers bin cfg out r after = (r ≡ buildingOf bin cfg out) × (after ≡ builtOf bin cfg out)
+pub record Answers (bin cfg out : List ℕ) (r : Building) (after : List ℕ) : Type 0 where
+  pub answer : r ≡ buildingOf bin cfg out
+  pub leaves : after ≡ builtOf bin cfg out
 
 -- what pressing lines that the rules accept answers, and what it leaves
 pub record Pressed (bin cfg : List ℕ) (lines : List Line) (out : List ℕ) (r : Building) (after : List ℕ) : Type 0 where

@@ -68,7 +68,7 @@ rules-below words ls =
 module _ (bin cfg out : List ℕ) where
   refuses : (r : Refusal) → refusalOf bin cfg out ≡ r → (r .number ≡ 0 → ⊥) → Answers bin cfg out (refused bin cfg r) out
   unfolding buildingOf builtOf
-  refuses r e h = (rw (e, ne-eqb (r .number) 0 h), rw (e, ne-eqb (r .number) 0 h))
+  refuses r e h = record { answer = rw (e, ne-eqb (r .number) 0 h); leaves = rw (e, ne-eqb (r .number) 0 h) }
 
   -- any refusal but 29 answers nothing else
   refuses-bare : (r : Refusal) → refusalOf bin cfg out ≡ r → (r .number ≡ 0 → ⊥) → (r .number ≡ 29 → ⊥) → Answers bin cfg out (bare r) out
@@ -144,11 +144,11 @@ module _ (bin cfg out : List ℕ) where
             (λ t.
             let v : refusalOf bin cfg out ≡ refuse 29 0 = left ∙ rw t in
             let u : ltb (length out) (length (imageOn bin cfg (take (r .count) (r .lines)))) ≡ true = rw image-is t in
-            (p .answer ∙ rw (u, image-is, v), p .leaves ∙ rw (u, v)))
+            record { answer = p .answer ∙ rw (u, image-is, v); leaves = p .leaves ∙ rw (u, v) })
             (λ t.
             let v : refusalOf bin cfg out ≡ noRefusal = left ∙ rw t in
             let u : ltb (length out) (length (imageOn bin cfg (take (r .count) (r .lines)))) ≡ false = rw image-is t in
-            (p .answer ∙ rw (u, image-is, lines-are, v), p .leaves ∙ rw (u, image-is, v)))
+            record { answer = p .answer ∙ rw (u, image-is, lines-are, v); leaves = p .leaves ∙ rw (u, image-is, v) })
 
 -- a BIN that 21 passes
 pub bin-small : (bin : List ℕ) → wrongBin bin ≡ false → length bin ≤ binLimit
@@ -156,3 +156,7 @@ unfolding wrongBin
 bin-small bin h =
     let z : ltb binLimit (length bin) ≡ false = or-false-right (eqb (length bin % 2) 1) _ (or-false-right (eqb (length bin) 0) _ h) in
     ltb-false binLimit (length bin) z
+
+-- a CFG that is read beside such a BIN
+pub read-so : (bin cfg : List ℕ) (r : Reading) → wrongBin bin ≡ false → r ≡ readingOf cfg → r .refusal .number ≡ 0 → Read bin cfg r
+read-so bin cfg r f e z = record { fine = f; small = bin-small bin f; reading = e; accepted = z }
