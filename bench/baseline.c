@@ -128,7 +128,8 @@ static size_t block_bytes(uint8_t start, size_t n) {
     return start < 0x40 ? 2 + n : start < 0xC0 ? 2 + (n + 2) / 4 + n : 1 + 2 * n;
 }
 
-/* The words of a hunk's payload; -1 where it is cut, reserved, or reaches past the RAM. */
+/* The words of a hunk's payload; -1 less the place of its first data block that is cut, reserved, or reaches past the RAM, or of its
+   first byte where it is cut before any. */
 static long check_hunk(const uint8_t *s, size_t n, size_t words) {
     if (n < 3)
         return -1;
@@ -136,7 +137,7 @@ static long check_hunk(const uint8_t *s, size_t n, size_t words) {
     for (size_t p = 3; p < n;) {
         size_t w = block_words(s[p]), b = block_bytes(s[p], w);
         if (w == 0 || b > n - p || address + count + w > words)
-            return -1;
+            return -1 - (long)p;
         count += w;
         p += b;
     }
@@ -227,7 +228,7 @@ Loading c_load(const uint8_t *s, size_t n, uint16_t *ram, size_t words) {
         if (s[p] == 2) {
             long w = check_hunk(payload, length, words);
             if (w < 0)
-                return refused_load(9, p);
+                return refused_load(9, p + 8 + (size_t)(-1 - w));
             stored += w;
         }
         blocks++;

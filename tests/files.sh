@@ -727,6 +727,11 @@ a_card_of_a_sound_title_of_five_pages() {
     status_is 1
     says '^code=9$'
     says "16,384 words"
+    # the byte that is named is that of the data block, behind the frame and the address of the first word that the card has not
+    at=$(sed -n 's/^at=//p' said)
+    says "byte $at: "
+    [ "$(od -An -tx1 -j $((at - 11)) -N 1 out | tr -d ' ')" = 02 ] || differs "no hunk's block starts 11 bytes before byte $at"
+    [ "$(od -An -tx1 -j $((at - 3)) -N 3 out | tr -d ' ')" = 004000 ] || differs "byte $at is not behind the address 16,384"
 }
 a_card_with_its_output_closed_or_full() {
     "$luigi" card "$work/new" >&- 2>told </dev/null

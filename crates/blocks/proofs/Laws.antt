@@ -1,11 +1,14 @@
 -- One law for each return of the functions on one block, its premises as the code's tests and calls give them.
-use Prim.Native.Nat.{ℕ, _<_, _≤_, _+_, _*_, _-_, min}
+use Prim.Native.Nat.{ℕ, _<_, _≤_, _+_, _*_, _-_, _^_, min}
 use mathlib.Core.List.{List}
 use mathlib.Core.Path.{_≡_, refl, ap, sym, _∙_}
 use mathlib.Core.Bool.{Bool, true, false, not, _||_}
 use native.Mathlib.Omega.{arith}
+use native.Mathlib.Nat.{zero-add}
 use lib.ListN.{length, getD, drop, length-drop}
 use lib.Dec.{eqb}
+use mir.Val.{Fits}
+use mir.Syntax.{w64}
 use borrow.Author.Tests.{lt-ltb, le-ltb, ne-eqb, eq-eqb, le-leb, lt-leb}
 use Rattle.basics.specs.Lists.{part, putFront}
 use Rattle.basics.specs.Laws.Lists.{part-rest, drop-min}
@@ -16,7 +19,7 @@ use Rattle.sums.specs.Crc.{dowcrcOf}
 use Rattle.hunk.specs.declared.Checked.{Checked}
 use Rattle.hunk.specs.declared.Checked.the-variants.{Whole, Broken}
 use Rattle.hunk.specs.Hunk.{checkHunk}
-use Rattle.hunk.specs.Laws.Refusals.{whole-words}
+use Rattle.hunk.specs.Laws.Refusals.{whole-words, break-within}
 use Rattle.blocks.specs.declared.Frame.{Frame}
 use Rattle.blocks.specs.declared.Frame.the-variants.{Over, Cut, Framed}
 use Rattle.blocks.specs.Frames.{cutAt, frameAt}
@@ -89,15 +92,22 @@ module _ (t n : ℕ) (earlier : Bool) where
 pub ruleset tables-asked = (tables-other, tables-size, tables-earlier)
 
 -- 9, by the hunk's check
-module _ (x : List ℕ) (m p a : ℕ) (ea : a ≡ min 8 (length x)) (h : Checked) (eh : h ≡ checkHunk (part x a (length x)) m) where
+module _ (x : List ℕ) (m a : ℕ) (ea : a ≡ min 8 (length x)) (h : Checked) (eh : h ≡ checkHunk (part x a (length x)) m) where
   payload-lent : part x a (length x) ≡ payloadIn x
   payload-lent = part-rest x a ∙ drop-min a 8 x ea
 
-  pub hunk-whole : (n : ℕ) → h ≡ Whole n → (r : Judged) → r ≡ goodOf n → r ≡ checkedOf p (checkHunk (payloadIn x) m)
+  pub hunk-whole : (n : ℕ) → h ≡ Whole n → (r : Judged) → r ≡ goodOf n → r ≡ checkedOf (checkHunk (payloadIn x) m)
   hunk-whole n e r er = er ∙ rw (← payload-lent, ← eh, e)
 
-  pub hunk-breaks : (n : ℕ) → h ≡ Broken n → (r : Judged) → r ≡ badOf 9 p → r ≡ checkedOf p (checkHunk (payloadIn x) m)
-  hunk-breaks n e r er = er ∙ rw (← payload-lent, ← eh, e)
+  module _ (k : ℕ) (e : h ≡ Broken k) where
+    pub hunk-breaks : (r : Judged) → r ≡ badOf 9 (8 + k) → r ≡ checkedOf (checkHunk (payloadIn x) m)
+    hunk-breaks r er = er ∙ rw (← payload-lent, ← eh, e)
+
+    pub break-fits : length x < 2 ^ 64 → Fits w64 (8 + k)
+    break-fits l =
+        let c : checkHunk (payloadIn x) m ≡ Broken k = ap (λ (y : List ℕ). checkHunk y m) (sym payload-lent) ∙ sym eh ∙ e in
+        let i : k ≤ length (payloadIn x) = rw c at (break-within (payloadIn x) m) in
+        omega (arith, i, length-drop 8 x)
 
 -- the frame put in place
 module _ (out : List ℕ) (t sum : ℕ) where
@@ -119,12 +129,12 @@ module _ (out : List ℕ) (t sum : ℕ) where
 pub ruleset put-frames = (frame-none, frame-past, frame-put)
 
 -- one block: each row's test by the code's
-module _ (x : List ℕ) (t : ℕ) (et : t ≡ typeOf x) (p sum m : ℕ) (earlier : Bool) where
-  refused-by : (n : ℕ) → (n ≡ 0 → ⊥) → firstRefusal (judgeRows m earlier p sum x) ≡ refuse n p → (r : Judged) → r ≡ badOf n p → r ≡ judgedOf m earlier p sum x
+module _ (x : List ℕ) (t : ℕ) (et : t ≡ typeOf x) (sum m : ℕ) (earlier : Bool) where
+  refused-by : (n : ℕ) → (n ≡ 0 → ⊥) → firstRefusal (judgeRows m earlier 0 sum x) ≡ refuse n 0 → (r : Judged) → r ≡ badOf n 0 → r ≡ judgedOf m earlier 0 sum x
   unfolding judgedOf
   refused-by n h e r er = er ∙ rw (e, ne-eqb _ _ h)
 
-  pub judge-7 : t ≡ 0 → (r : Judged) → r ≡ badOf 7 p → r ≡ judgedOf m earlier p sum x
+  pub judge-7 : t ≡ 0 → (r : Judged) → r ≡ badOf 7 0 → r ≡ judgedOf m earlier 0 sum x
   unfolding judgeRows
   judge-7 h r er = let e : typeOf x ≡ 0 = sym et ∙ h in refused-by 7 (λ z. omega arith) (rw e) r er
 
@@ -136,7 +146,7 @@ module _ (x : List ℕ) (t : ℕ) (et : t ≡ typeOf x) (p sum m : ℕ) (earlier
     unfolding sumBy
     same-6 = eb ∙ rw et
 
-    pub judge-6 : b ≡ true → (r : Judged) → r ≡ badOf 6 p → r ≡ judgedOf m earlier p sum x
+    pub judge-6 : b ≡ true → (r : Judged) → r ≡ badOf 6 0 → r ≡ judgedOf m earlier 0 sum x
     unfolding judgeRows
     judge-6 h r er = let k : wrongSum sum x ≡ true = sym same-6 ∙ h in refused-by 6 (λ z. omega arith) (rw (not-7, k)) r er
 
@@ -148,7 +158,7 @@ module _ (x : List ℕ) (t : ℕ) (et : t ≡ typeOf x) (p sum m : ℕ) (earlier
       unfolding tablesBy
       same-8 = ec ∙ rw (et, en)
 
-      pub judge-8 : c ≡ true → (r : Judged) → r ≡ badOf 8 p → r ≡ judgedOf m earlier p sum x
+      pub judge-8 : c ≡ true → (r : Judged) → r ≡ badOf 8 0 → r ≡ judgedOf m earlier 0 sum x
       unfolding judgeRows
       judge-8 h r er = let k : wrongTables earlier x ≡ true = sym same-8 ∙ h in refused-by 8 (λ z. omega arith) (rw (not-7, good-6, k)) r er
 
@@ -156,18 +166,18 @@ module _ (x : List ℕ) (t : ℕ) (et : t ≡ typeOf x) (p sum m : ℕ) (earlier
         good-8 : wrongTables earlier x ≡ false
         good-8 = sym same-8 ∙ h
 
-        pub judge-none : (t ≡ 2 → ⊥) → (r : Judged) → r ≡ goodOf 0 → r ≡ judgedOf m earlier p sum x
+        pub judge-none : (t ≡ 2 → ⊥) → (r : Judged) → r ≡ goodOf 0 → r ≡ judgedOf m earlier 0 sum x
         unfolding judgeRows judgedOf
         judge-none d r er =
             let j : eqb (typeOf x) 2 ≡ false = ne-eqb _ _ (λ e. d (et ∙ e)) in
             er ∙ rw (not-7, good-6, good-8, j)
 
-        by-check : isHunk x ≡ true → (k : Checked) → checkHunk (payloadIn x) m ≡ k → checkedOf p k ≡ judgedOf m earlier p sum x
+        by-check : isHunk x ≡ true → (k : Checked) → checkHunk (payloadIn x) m ≡ k → checkedOf k ≡ judgedOf m earlier 0 sum x
         unfolding judgeRows judgedOf
         by-check h (Whole n) ek = rw (ek, not-7, good-6, good-8, h, ← whole-words (payloadIn x) m n ek .count)
-        by-check h (Broken n) ek = rw (ek, not-7, good-6, good-8, h)
+        by-check h (Broken n) ek = rw (ek, not-7, good-6, good-8, h, zero-add)
 
-        pub judge-9 : t ≡ 2 → (r : Judged) → r ≡ checkedOf p (checkHunk (payloadIn x) m) → r ≡ judgedOf m earlier p sum x
+        pub judge-9 : t ≡ 2 → (r : Judged) → r ≡ checkedOf (checkHunk (payloadIn x) m) → r ≡ judgedOf m earlier 0 sum x
         judge-9 d r e = e ∙ by-check (eq-eqb _ _ (sym et ∙ d)) (checkHunk (payloadIn x) m) refl
 
 pub ruleset judges = (judge-7, judge-6, judge-8, judge-none, judge-9)

@@ -1,5 +1,5 @@
 -- What is asked of one block, where it stands at p of an image and its payload has this checksum: 7, 6, 8, 9, in that order (01, Load order).
-use Prim.Native.Nat.{ℕ}
+use Prim.Native.Nat.{ℕ, _+_}
 use mathlib.Core.List.{List, [], _∷_}
 use mathlib.Core.Bool.{Bool, cond, not, _&&_, _||_}
 use lib.ListN.{length}
@@ -7,10 +7,10 @@ use lib.Dec.{eqb}
 use Rattle.basics.specs.declared.Refusal.{Refusal}
 use Rattle.basics.specs.Rows.{Row}
 use Rattle.basics.specs.Refusals.{refuse, firstRefusal, passes}
-use Rattle.hunk.specs.Hunk.{checkHunk, broken, wordsOf}
+use Rattle.hunk.specs.Hunk.{checkHunk, broken, breakOf, wordsOf}
 use Rattle.tables.specs.Tables.{tablesSize}
 use Rattle.blocks.specs.declared.Judged.{Judged}
-use Rattle.blocks.specs.Blocks.{typeOf, sizeSaid, sumSaid, payloadIn, encryptedType, isTables, isHunk}
+use Rattle.blocks.specs.Blocks.{frameSize, typeOf, sizeSaid, sumSaid, payloadIn, encryptedType, isTables, isHunk}
 
 -- 7: block type 0x00
 abbrev pub isEncrypted : List ℕ → Bool
@@ -28,12 +28,17 @@ wrongTables earlier x = isTables x && (not (eqb (sizeSaid x) tablesSize) || earl
 abbrev pub wrongHunk : ℕ → List ℕ → Bool
 wrongHunk m x = isHunk x && broken (checkHunk (payloadIn x) m)
 
+-- where, from the block's first byte on: at the first byte of the data block that is cut, reserved, or holds the first word outside, or at the
+-- payload's first byte where the hunk is cut before any data block (02, W-205)
+abbrev pub breakIn : ℕ → List ℕ → ℕ
+breakIn m x = frameSize + breakOf (checkHunk (payloadIn x) m)
+
 unfoldable pub judgeRows : ℕ → Bool → ℕ → ℕ → List ℕ → List (Row Refusal)
 judgeRows m earlier p sum x =
     (isEncrypted x, refuse 7 p)
     ∷ (wrongSum sum x, refuse 6 p)
     ∷ (wrongTables earlier x, refuse 8 p)
-    ∷ (wrongHunk m x, refuse 9 p)
+    ∷ (wrongHunk m x, refuse 9 (p + breakIn m x))
     ∷ []
 
 -- the refusal, and where there is none the number of words that the block stores

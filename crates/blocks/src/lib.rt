@@ -123,36 +123,37 @@ fn good(words: usize) -> Judged
     }
 }
 
-// Refusal 9, of a hunk's block at p.
-fn judge_hunk(x: &[u8], p: usize, m: usize) -> Judged
-    ensures { λ r. ⌜ r ≡ checkedOf p (checkHunk (payloadIn (now (x .entry))) m) ⌝ }
+// Refusal 9, of a hunk's block, at the byte where it breaks.
+fn judge_hunk(x: &[u8], m: usize) -> Judged
+    ensures { λ r. ⌜ r ≡ checkedOf (checkHunk (payloadIn (now (x .entry))) m) ⌝ }
 {
     let a = basics::least(FRAME_SIZE, x.len());
     let h = hunk::check(&x[a..], m);
     match h {
         hunk::Checked::Whole(n) => good(n),
-        hunk::Checked::Broken(_) => bad(9, p),
+        hunk::Checked::Broken(k) => bad(9, FRAME_SIZE + k),
     }
 }
 
-// The judgement of one block at p, whose payload has this checksum: 7, 6, 8, 9. `earlier` says that a tables block stands before it.
-pub fn judge(x: &[u8], sum: u32, p: usize, m: usize, earlier: bool) -> Judged
-    ensures { λ r. ⌜ r ≡ judgedOf m earlier p sum (now (x .entry)) ⌝ }
+// The judgement of one block, whose payload has this checksum: 7, 6, 8, 9. `earlier` says that a tables block stands before it. A place
+// counts from the block's first byte, as if it stood at the front of a file.
+pub fn judge(x: &[u8], sum: u32, m: usize, earlier: bool) -> Judged
+    ensures { λ r. ⌜ r ≡ judgedOf m earlier 0 sum (now (x .entry)) ⌝ }
 {
     let t = byte_at(x, 0);
     if t == ENCRYPTED_TYPE {
-        return bad(7, p);
+        return bad(7, 0);
     }
     if is_wrong_sum(x, t, sum) {
-        return bad(6, p);
+        return bad(6, 0);
     }
     if is_wrong_tables(t, word_at(x, 1), earlier) {
-        return bad(8, p);
+        return bad(8, 0);
     }
     if t != HUNK_TYPE {
         return good(0);
     }
-    judge_hunk(x, p, m)
+    judge_hunk(x, m)
 }
 
 // The eight bytes of a frame: of a payload of n bytes with this checksum.

@@ -83,6 +83,11 @@ abbrev pub broken : Checked → Bool
 broken (Whole n) = false
 broken (Broken k) = true
 
+-- the byte where it breaks, from the payload's first on (02, W-205); 0 where it is whole
+abbrev pub breakOf : Checked → ℕ
+breakOf (Whole n) = 0
+breakOf (Broken k) = k
+
 -- the RAM with a hunk's words laid from its address on; as it was where the check does not pass for the words lent
 unfoldable pub storeHunk : List ℕ → List ℕ → List ℕ
 storeHunk s ram = cond (broken (checkHunk s (lent ram))) ram (lay (address s .0) (wordsOf s) ram)

@@ -1,15 +1,17 @@
 -- One law for each return of the functions on one block, and of the load.
-use Prim.Native.Nat.{ℕ, _+_, _-_, _<_, _≤_, min}
+use Prim.Native.Nat.{ℕ, _+_, _-_, _^_, _<_, _≤_, min}
 use mathlib.Core.Path.{_≡_, refl, sym, ap, _∙_}
 use mathlib.Core.List.{List}
-use mathlib.Core.Bool.{Bool, true, false, not}
+use mathlib.Core.Bool.{Bool, true, false, cond, not}
 use native.Mathlib.Omega.{arith}
 use borrow.Author.Tests.{eq-eqb, ne-eqb}
 use lib.ListN.{length}
+use mir.Val.{Fits}
+use mir.Syntax.{w64}
 use lib.Dec.{eqb}
 use Rattle.basics.specs.declared.Refusal.{Refusal}
 use Rattle.basics.specs.Lists.{part}
-use Rattle.basics.specs.Refusals.{refuse, noRefusal}
+use Rattle.basics.specs.Refusals.{refuse, noRefusal, passes}
 use Rattle.basics.specs.Laws.Lists.{part-rest, drop-min, length-part}
 use Rattle.basics.specs.Laws.Octets.{Bytes, bytes-drop}
 use Rattle.sums.specs.Crc.{c324Poly, crc324Of}
@@ -29,10 +31,11 @@ use Rattle.blocks.specs.Frames.{frameAt}
 use Rattle.blocks.specs.Images.{blocksIn}
 use Rattle.blocks.specs.Judged.{judgedOf}
 use Rattle.blocks.specs.Laws.Frames.{FrameIs, frame-held}
+use Rattle.blocks.specs.Laws.Judged.{standing, judged-standing, judged-within}
 use Rattle.load.specs.declared.Verdict.the-variants.{Refused, Loads}
 use Rattle.load.specs.declared.Loading.{Loading}
 use Rattle.load.specs.declared.Step.the-variants.{Ends, No, Next}
-use Rattle.load.specs.Code.Passes.{judgementOf, tablesAfter, stepOf, endedAt, tablesAt, finishedOf, blockStored, eachStored, finishedRamOf}
+use Rattle.load.specs.Code.Passes.{judgementOf, tablesAfter, onJudged, stepOf, endedAt, tablesAt, finishedOf, blockStored, eachStored, finishedRamOf}
 use Rattle.load.specs.Load.{refused}
 
 -- what a block's payload is lent as
@@ -54,6 +57,23 @@ module _ (s : List ℕ) (p : ℕ) (f : Frame) (ef : f ≡ frameAt s p) (t q : �
   pub frame-inside : q ≤ length s
   frame-inside = frame .ends
 
+-- a block judged by itself, where it stands at p
+module _ (j : Judged) (p q tables : ℕ) where
+  abbrev moved : Judged
+  moved = record { refusal = refuse (j .refusal .number) (p + j .refusal .place); words = j .words }
+
+  on-bad : (j .refusal .number ≡ 0 → ⊥) → onJudged (standing p j) q tables ≡ No (moved .refusal)
+  on-bad n =
+      let e : passes (j .refusal) ≡ false = ne-eqb _ _ n in
+      let k : cond (passes (j .refusal)) (Next q tables (j .words)) (No (moved .refusal)) ≡ No (moved .refusal) = rw e in
+      ap (λ (b : Bool). onJudged (cond b j moved) q tables) e ∙ k
+
+  on-good : j .refusal .number ≡ 0 → onJudged (standing p j) q tables ≡ Next q tables (j .words)
+  on-good n =
+      let e : passes (j .refusal) ≡ true = eq-eqb _ _ n in
+      let k : cond (passes (j .refusal)) (Next q tables (j .words)) (No (j .refusal)) ≡ Next q tables (j .words) = rw e in
+      ap (λ (b : Bool). onJudged (cond b j moved) q tables) e ∙ k
+
 -- one step
 module _ (s : List ℕ) (m tables p : ℕ) (f : Frame) (ef : f ≡ frameAt s p) where
   pub step-over : f ≡ Over → Ends ≡ stepOf s m tables p
@@ -64,14 +84,25 @@ module _ (s : List ℕ) (m tables p : ℕ) (f : Frame) (ef : f ≡ frameAt s p) 
   unfolding stepOf
   step-cut e r er = rw (← ef, e, er)
 
-  module _ (t q : ℕ) (e : f ≡ Framed t q) (j : Judged) (ej : j ≡ judgementOf m (not (eqb tables 0)) p (part s p q)) where
-    pub step-bad : (j .refusal .number ≡ 0 → ⊥) → No (j .refusal) ≡ stepOf s m tables p
+  module _ (t q : ℕ) (e : f ≡ Framed t q) (j : Judged) (ej : j ≡ judgementOf m (not (eqb tables 0)) 0 (part s p q)) where
+    -- the block's judgement where it stands, by its judgement by itself
+    at-p : judgementOf m (not (eqb tables 0)) p (part s p q) ≡ standing p j
+    at-p = judged-standing m (not (eqb tables 0)) p _ (part s p q) ∙ ap (standing p) (sym ej)
+
+    pub step-bad : (j .refusal .number ≡ 0 → ⊥) → (r : Refusal) → r ≡ refuse (j .refusal .number) (p + j .refusal .place) → No r ≡ stepOf s m tables p
     unfolding stepOf
-    step-bad n = rw (← ef, e, ← ej, ne-eqb _ _ n)
+    step-bad n r er = rw (← ef, e, at-p, er) (sym (on-bad j p q (tablesAfter tables p t) n))
 
     pub step-good : (u : ℕ) → j .refusal .number ≡ 0 → u ≡ tablesAfter tables p t → Next q u (j .words) ≡ stepOf s m tables p
     unfolding stepOf
-    step-good u n k = rw (← ef, e, ← ej, eq-eqb _ _ n, k)
+    step-good u n k = rw (← ef, e, at-p, k) (sym (on-good j p q (tablesAfter tables p t) n))
+
+    pub place-fits : length s < 2 ^ 64 → Fits w64 (p + j .refusal .place)
+    place-fits l =
+        let i : FrameIs s p t q = frame s p f ef t q e in
+        let x : length (part s p q) ≡ q - p = length-part s p q (i .ends) in
+        let w : j .refusal .place ≤ length (part s p q) = rw (← ej) at (judged-within m (not (eqb tables 0)) (crc324Of (payloadIn (part s p q))) (part s p q) (omega (arith, i .starts))) in
+        omega (arith, w, x, i .starts, i .ends)
 
 pub ruleset steps = (step-over, step-cut, step-bad, step-good)
 
@@ -127,5 +158,5 @@ module _ (s : List ℕ) (t blocks words : ℕ) (c : Cartridge) (ec : c ≡ cartr
     unfolding finishedRamOf
     loaded-ram ram after ea = ea ∙ rw (← ten-is, h)
 
-pub judge-own : (m : ℕ) (earlier : Bool) (p n : ℕ) (x : List ℕ) (r : Judged) → r ≡ judgedOf m earlier p n x → n ≡ crc324Of (payloadIn x) → r ≡ judgementOf m earlier p x
-judge-own m earlier p n x r e k = e ∙ rw k
+pub judge-own : (m : ℕ) (earlier : Bool) (n : ℕ) (x : List ℕ) (r : Judged) → r ≡ judgedOf m earlier 0 n x → n ≡ crc324Of (payloadIn x) → r ≡ judgementOf m earlier 0 x
+judge-own m earlier n x r e k = e ∙ rw k

@@ -2,3 +2,4 @@
 pub mod Refusals
 pub mod Ram
 pub mod Passes
+pub mod Breaks

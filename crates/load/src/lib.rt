@@ -51,12 +51,12 @@ fn payload_sum(c324: &[u32; 2048], x: &[u8]) -> u32
     sums::sum_by(c324, 0, &x[a..])
 }
 
-// The judgement of the block x at p.
-fn judge(x: &[u8], c324: &[u32; 2048], p: usize, m: usize, earlier: bool) -> Judged
+// The judgement of the block x by itself: a place counts from its first byte.
+fn judge(x: &[u8], c324: &[u32; 2048], m: usize, earlier: bool) -> Judged
     requires { ⌜ now c324 ≡ tablesOf c324Poly ⌝ }
-    ensures { λ r. ⌜ r ≡ judgementOf m earlier p (now (x .entry)) ⌝ }
+    ensures { λ r. ⌜ r ≡ judgementOf m earlier 0 (now (x .entry)) ⌝ }
 {
-    blocks::judge(x, payload_sum(c324, x), p, m, earlier)
+    blocks::judge(x, payload_sum(c324, x), m, earlier)
 }
 
 // The place of the tables block after a block of type t at p.
@@ -76,10 +76,10 @@ fn step_at(s: &[u8], c324: &[u32; 2048], m: usize, tables: usize, p: usize) -> S
         Frame::Over => Step::Ends,
         Frame::Cut => Step::No(basics::refuse(5, p)),
         Frame::Framed(t, q) => {
-            let j = judge(&s[p..q], c324, p, m, tables != 0);
+            let j = judge(&s[p..q], c324, m, tables != 0);
             let r = j.refusal;
             if r.number != 0 {
-                return Step::No(r);
+                return Step::No(basics::refuse(r.number, p + r.place));
             }
             Step::Next(q, tables_after(tables, p, t), j.words)
         }

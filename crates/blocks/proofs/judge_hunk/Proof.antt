@@ -1,5 +1,5 @@
 -- `blocks::judge_hunk` meets its contract: by the cases of the hunk's check.
-use Rattle.blocks.proofs.Laws.{hunk-whole, hunk-breaks}
+use Rattle.blocks.proofs.Laws.{hunk-whole, hunk-breaks, break-fits}
 use borrow.Author.Needs.{needs}
 use Rattle.blocks.proofs.judge_hunk.Statement.{statement}
 use Rattle.blocks.proofs.judge_hunk.Tie as tie
@@ -22,6 +22,7 @@ judge-hunk-spec =
     (λ c. search needs)
     (λ c κs. search needs)
     (λ c. search needs)
+    (λ c. search (needs, break-fits))
     (λ c κs. search needs)
     returns
     returns-2)

@@ -13,7 +13,7 @@ use Rattle.tables.specs.Tables.{tablesSize}
 use Rattle.blocks.specs.declared.Frame.{Frame}
 use Rattle.blocks.specs.declared.Frame.the-variants.{Cut, Framed}
 use Rattle.blocks.specs.declared.Judged.{Judged}
-use Rattle.blocks.specs.Blocks.{startSize, sumSaid, tablesType, hunkType}
+use Rattle.blocks.specs.Blocks.{frameSize, startSize, sumSaid, tablesType, hunkType}
 use Rattle.blocks.specs.Frames.{nextOf}
 
 -- a block of type t whose frame lies in the image
@@ -37,6 +37,6 @@ abbrev pub goodOf : ℕ → Judged
 goodOf words = record { refusal = noRefusal; words = words }
 
 -- a hunk, by its check
-abbrev pub checkedOf : ℕ → Checked → Judged
-checkedOf p (Whole n) = goodOf n
-checkedOf p (Broken k) = badOf 9 p
+abbrev pub checkedOf : Checked → Judged
+checkedOf (Whole n) = goodOf n
+checkedOf (Broken k) = badOf 9 (frameSize + k)

@@ -16,9 +16,10 @@ use Rattle.basics.specs.Laws.Lay.{Inside}
 use Rattle.places.specs.Limits.{lent}
 use Rattle.hunk.specs.declared.Form.{Form}
 use Rattle.hunk.specs.declared.Form.the-variants.{Bytes, Decles, Words, Reserved}
+use Rattle.hunk.specs.declared.Checked.{Checked}
 use Rattle.hunk.specs.declared.Checked.the-variants.{Whole, Broken}
 use Rattle.hunk.specs.Forms.{isReserved}
-use Rattle.hunk.specs.Hunk.{address, formAt, countAt, sizeAt, wordsAt, wholeAt, dataStarts, endOf, wordsOf, checkBlocks, checkHunk, storeHunk}
+use Rattle.hunk.specs.Hunk.{address, formAt, countAt, sizeAt, wordsAt, wholeAt, dataStarts, endOf, wordsOf, checkBlocks, checkHunk, breakOf, storeHunk}
 use Rattle.hunk.specs.Laws.Walk.{Intact, intact, past-end, Run, none, also, wordsIn, length-words, run-in, run-more, data-run, data-stop, data-all, data-end, More, data-split}
 
 -- what a check that passes says: the payload has an address, its data blocks fill it to its end, and their n words lie in m words of RAM
@@ -232,6 +233,18 @@ breaks-broken s m k (inr b) =
 
 pub breaks-exactly : (s : List ℕ) (m k : ℕ) → (checkHunk s m ≡ Broken k) ↔ (((length s < 3) × (k ≡ 0)) ⊎ BreaksAt s m k)
 breaks-exactly s m k = (broken-breaks s m k, breaks-broken s m k)
+
+-- that place lies in the payload, or is its end where it is empty
+pub break-within : (s : List ℕ) (m : ℕ) → breakOf (checkHunk s m) ≤ length s
+break-within s m = by (checkHunk s m) refl
+  where
+    named : {k : ℕ} → ((length s < 3) × (k ≡ 0)) ⊎ BreaksAt s m k → k ≤ length s
+    named (inl h) = omega (arith, h .1)
+    named (inr b) = omega (arith, b .here)
+
+    by : (c : Checked) → checkHunk s m ≡ c → breakOf c ≤ length s
+    by (Whole n) e = omega arith
+    by (Broken k) e = named (broken-breaks s m k e)
 
 -- what a store leaves
 module _ (s ram : List ℕ) where

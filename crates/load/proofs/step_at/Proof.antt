@@ -1,5 +1,5 @@
 -- `load::step_at` meets its contract: one law for each way out.
-use Rattle.load.proofs.Laws.{steps, frame-later, frame-inside}
+use Rattle.load.proofs.Laws.{steps, place-fits, frame-later, frame-inside}
 use borrow.Author.Needs.{needs}
 use Rattle.load.proofs.step_at.Statement.{statement}
 use Rattle.load.proofs.step_at.Tie as tie
@@ -12,6 +12,9 @@ part-judge-start c = search (needs, frame-later)
 
 part-judge-end : tie.Need-part-judge-end
 part-judge-end c = search (needs, frame-inside)
+
+add-refuse : tie.Need-add-refuse
+add-refuse c = search (needs, place-fits)
 
 returns : tie.Need-returns
 returns c = search (needs, steps)
@@ -37,6 +40,8 @@ step-at-spec =
     sub-judge
     part-judge-start
     part-judge-end
+    (λ c κs. search needs)
+    add-refuse
     (λ c κs. search needs)
     returns
     (λ c κs. search needs)

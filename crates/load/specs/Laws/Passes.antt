@@ -55,7 +55,7 @@ pub record Found (s : List ℕ) (t : ℕ) (x : List ℕ) : Type 0 where
   pub tabled : Tabled s t
   pub payload : tablesAt s t ≡ x
 
-payload-stands : (s : List ℕ) (p : ℕ) (x r : List ℕ) → drop p s ≡ x ++ r → Block x → drop (p + 8) s ≡ payloadIn x ++ r
+pub payload-stands : (s : List ℕ) (p : ℕ) (x r : List ℕ) → drop p s ≡ x ++ r → Block x → drop (p + 8) s ≡ payloadIn x ++ r
 payload-stands s p x r st b = sym (drop-drop 8 p s) ∙ ap (drop 8) st ∙ drop-append-le 8 x r (omega (arith, b .long))
 
 size-right : (a b c : Bool) → a ≡ true → a && (not b || c) ≡ false → b ≡ true
