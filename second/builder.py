@@ -1,7 +1,9 @@
 """The builder from BIN and CFG (01, How an image is laid out by the builder)."""
 
 from dataclasses import dataclass
-from typing import Optional
+from functools import lru_cache
+from struct import unpack
+from typing import Optional, Sequence
 
 from cfg import Entry, read_cfg
 from checksums import crc32
@@ -67,7 +69,7 @@ def shares(entry: Entry, earlier: Entry) -> bool:
     return paged and entry.chapter == earlier.chapter
 
 
-def check_shared(entries: list[Entry]) -> None:
+def check_shared(entries: Sequence[Entry]) -> None:
     """Ask 27 of the lines in order (01, refusal 27; READINGS C16)."""
     for which, entry in enumerate(entries):
         if any(shares(entry, earlier) for earlier in entries[:which]):
@@ -79,12 +81,12 @@ def paragraphs_of(entry: Entry) -> range:
     return range(entry.address >> 8, (entry.address + entry.count) >> 8)
 
 
-def plain_kinds(entries: list[Entry]) -> dict[int, str]:
+def plain_kinds(entries: Sequence[Entry]) -> dict[int, str]:
     """Give the kind of each paragraph that a plain line fills (01, What a CFG may say)."""
     return {p: entry.kind for entry in entries if entry.page is None for p in paragraphs_of(entry)}
 
 
-def paged_chapters(entries: list[Entry]) -> list[int]:
+def paged_chapters(entries: Sequence[Entry]) -> list[int]:
     """Give the chapters with PAGE lines, rising (01, What a CFG may say)."""
     return sorted({entry.chapter for entry in entries if entry.page is not None})
 
@@ -94,7 +96,7 @@ def flippable(chapter: int) -> range:
     return range(16 * chapter + (8 if chapter == 4 else 0), 16 * chapter + 16)
 
 
-def check_paged_chapters(entries: list[Entry]) -> None:
+def check_paged_chapters(entries: Sequence[Entry]) -> None:
     """Ask 28 of the chapters in order (01, refusal 28; READINGS C17)."""
     kinds = plain_kinds(entries)
     for chapter in paged_chapters(entries):
@@ -103,7 +105,7 @@ def check_paged_chapters(entries: list[Entry]) -> None:
             raise Refused(28, chapter)
 
 
-def lay_out(entries: list[Entry]) -> Layout:
+def lay_out(entries: Sequence[Entry]) -> Layout:
     """Number the Locutus pages; page none stands for plain lines (01, How an image is laid out)."""
     plain = {(paragraph >> 4, -1) for paragraph in plain_kinds(entries)}
     paged = {(entry.chapter, entry.page) for entry in entries if entry.page is not None}
@@ -120,7 +122,7 @@ def flip_entry(chapter: int, page: int, layout: Layout, kinds: dict[int, str]) -
     return PFE if number is None else 16 * number + PFE + READ
 
 
-def make_tables(entries: list[Entry], layout: Layout) -> Tables:
+def make_tables(entries: Sequence[Entry], layout: Layout) -> Tables:
     """Fill the three tables (01, Permissions; READINGS B2)."""
     tables, kinds = Tables(), plain_kinds(entries)
     for paragraph, kind in kinds.items():
@@ -136,9 +138,9 @@ def make_tables(entries: list[Entry], layout: Layout) -> Tables:
     return tables
 
 
-def bin_word(bin_file: bytes, offset: int) -> int:
-    """Read a BIN word, high byte first (01, File layout)."""
-    return bin_file[2 * offset] << 8 | bin_file[2 * offset + 1]
+def bin_words(bin_file: bytes, first: int, count: int) -> list[int]:
+    """Read BIN words, high byte first (01, File layout)."""
+    return list(unpack(f">{count}H", bin_file[2 * first:2 * (first + count)]))
 
 
 def entry_hunks(entry: Entry, layout: Layout, bin_file: bytes) -> list[tuple[int, list[int]]]:
@@ -148,12 +150,12 @@ def entry_hunks(entry: Entry, layout: Layout, bin_file: bytes) -> list[tuple[int
         first = entry.lo + 256 * which
         words = [0] * 256
         if entry.kind == "rom":
-            words = [bin_word(bin_file, offset) for offset in range(first, first + 256)]
+            words = bin_words(bin_file, first, 256)
         hunks.append((16 * layout[(paragraph >> 4, entry.page)] + paragraph % 16, words))
     return hunks
 
 
-def checked_entries(bin_file: bytes, cfg: bytes) -> list[Entry]:
+def checked_entries(bin_file: bytes, cfg: bytes) -> tuple[Entry, ...]:
     """Give the entries of a title that 21 to 28 let through (01, Build order; READINGS C13)."""
     check_bin(bin_file)
     entries = read_cfg(cfg)
@@ -162,11 +164,12 @@ def checked_entries(bin_file: bytes, cfg: bytes) -> list[Entry]:
         check_shape(entry)
     check_shared(entries)
     check_paged_chapters(entries)
-    return entries
+    return tuple(entries)
 
 
-def make_image(bin_file: bytes, cfg: bytes, entries: list[Entry]) -> bytes:
-    """Compose the image of checked entries (01, Header; READINGS B3, B6)."""
+@lru_cache(maxsize=2)
+def make_image(bin_file: bytes, cfg: bytes, entries: tuple[Entry, ...]) -> bytes:
+    """Compose the image of checked entries (01, Header; READINGS B3, B6); kept, for the length is asked first."""
     layout = lay_out(entries)
     uid = crc32(bin_file).to_bytes(4, "little") + crc32(cfg).to_bytes(4, "little")
     hunks = [hunk for entry in entries for hunk in entry_hunks(entry, layout, bin_file)]

@@ -1,4 +1,4 @@
-"""Reads the vector files back and makes every record again: python3 check_vectors.py DIRECTORY."""
+"""Reads the vector files back and makes every record again: python3 check_vectors.py DIRECTORY [FAMILY..]."""
 
 import sys
 from pathlib import Path
@@ -77,6 +77,6 @@ def check_family(name: str, data: bytes) -> int:
 
 
 if __name__ == "__main__":
-    for family in AGAIN:
+    for family in sys.argv[2:] or AGAIN:
         file = Path(sys.argv[1]) / f"{family}.vec"
         print(f"{family}: {check_family(family, file.read_bytes())} records agree")

@@ -1,6 +1,7 @@
 """DOWCRC, CRC32/4 and the IEEE CRC32, all right shifting (01, File layout)."""
 
 from functools import lru_cache
+from struct import unpack
 
 DOWCRC = 0x98
 CRC32_4 = 0x82F63B78
@@ -24,17 +25,19 @@ def bit_by_bit(polynomial: int, start: int, data: bytes) -> int:
 
 
 @lru_cache(maxsize=None)
-def bytes_shifted(polynomial: int) -> tuple[int, ...]:
-    """List the eight shifts of each byte value; they serve speed alone."""
-    return tuple(eight_shifts(polynomial, byte) for byte in range(256))
+def pairs_shifted(polynomial: int) -> tuple[int, ...]:
+    """List the sixteen shifts of each pair of bytes; they serve speed alone."""
+    once = [eight_shifts(polynomial, byte) for byte in range(256)]
+    return tuple(once[(pair >> 8) ^ once[pair & 0xFF] & 0xFF] ^ once[pair & 0xFF] >> 8
+                 for pair in range(65536))
 
 
 def run(polynomial: int, start: int, data: bytes) -> int:
-    """Give what bit_by_bit gives, a byte at a time; the self-test compares the two."""
-    shifted, state = bytes_shifted(polynomial), start
-    for byte in data:
-        state = (state >> 8) ^ shifted[(state ^ byte) & 0xFF]
-    return state
+    """Give what bit_by_bit gives, two bytes at a time; the self-test compares the two."""
+    shifted, state, pairs = pairs_shifted(polynomial), start, len(data) // 2
+    for pair in unpack(f"<{pairs}H", data[:2 * pairs]):
+        state = (state >> 16) ^ shifted[(state ^ pair) & 0xFFFF]
+    return bit_by_bit(polynomial, state, data[2 * pairs:])
 
 
 def dowcrc(data: bytes) -> int:

@@ -1,7 +1,10 @@
 """The one generator behind every fill and every choice: 32-bit xorshift (README.md, Fills)."""
 
+from array import array
 from functools import lru_cache
 from typing import Sequence, TypeVar
+
+from hunk import le16
 
 ONES = 0xFFFFFFFF
 T = TypeVar("T")
@@ -46,19 +49,39 @@ class Generator:
         return order
 
 
-@lru_cache(maxsize=32)
+class Stream:
+    """The low 16 bits of a seed's states, as far as they were asked for; kept, for speed alone."""
+
+    def __init__(self, seed: int) -> None:
+        self.generator = Generator(seed)
+        self.words = array("H")
+
+    def first(self, count: int) -> array:
+        """Give the first so many words."""
+        state, words = self.generator.state, self.words
+        for _ in range(count - len(words)):
+            state ^= state << 13 & ONES
+            state ^= state >> 17
+            state ^= state << 5 & ONES
+            words.append(state & 0xFFFF)
+        self.generator.state = state
+        return words[:count]
+
+
+@lru_cache(maxsize=64)
+def stream(seed: int) -> Stream:
+    """Give the one stream of a seed."""
+    return Stream(seed)
+
+
+@lru_cache(maxsize=8)
 def fill_bytes(length: int, base: int, seed: int) -> bytes:
     """Give so many bytes: the low 8 bits of each state, XOR the base."""
-    generator = Generator(seed)
-    if seed == 0:
-        return bytes([base]) * length
-    return bytes(generator.step() & 0xFF ^ base for _ in range(length))
+    low = le16(stream(seed).first(length))[::2] if seed else bytes(length)
+    return low.translate(bytes(byte ^ base for byte in range(256)))
 
 
-@lru_cache(maxsize=32)
+@lru_cache(maxsize=8)
 def fill_words(length: int, seed: int) -> tuple[int, ...]:
     """Give so many words: the low 16 bits of each state."""
-    generator = Generator(seed)
-    if seed == 0:
-        return (0,) * length
-    return tuple(generator.step() & 0xFFFF for _ in range(length))
+    return tuple(stream(seed).first(length)) if seed else (0,) * length

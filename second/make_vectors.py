@@ -1,4 +1,4 @@
-"""Makes the vector files: python3 make_vectors.py DIRECTORY (README.md, Records)."""
+"""Makes the vector files, all or those named: python3 make_vectors.py DIRECTORY [FAMILY..] (README.md, Records)."""
 
 import sys
 from collections import Counter
@@ -38,11 +38,21 @@ def make_family(name: str, directory: Path) -> list[str]:
     return index
 
 
+def kept_index(directory: Path, families: list[str]) -> list[str]:
+    """Give the index's lines of the families that are not made again."""
+    file = directory / "index.txt"
+    lines = file.read_text().splitlines() if file.exists() else []
+    return [line for line in lines if line.split()[0] not in families]
+
+
 def main() -> None:
-    """Write every family and the index of labels into the directory."""
-    directory = Path(sys.argv[1])
+    """Write the families and the index of labels into the directory."""
+    directory, families = Path(sys.argv[1]), sys.argv[2:] or list(FAMILIES)
     directory.mkdir(parents=True, exist_ok=True)
-    index = [line for name in FAMILIES for line in make_family(name, directory)]
+    index = kept_index(directory, families) if sys.argv[2:] else []
+    index += [line for name in families for line in make_family(name, directory)]
+    order = list(FAMILIES)
+    index.sort(key=lambda line: order.index(line.split()[0]))
     (directory / "index.txt").write_text("\n".join(index) + "\n")
 
 

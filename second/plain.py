@@ -1,6 +1,6 @@
 """The plain cartridge: what a BIN and CFG mean to the console (01, The plain cartridge)."""
 
-from typing import Optional
+from typing import Optional, Sequence
 
 from cfg import Entry
 
@@ -8,7 +8,7 @@ from cfg import Entry
 class PlainCartridge:
     """Sixteen page numbers, the CFG's lines and the words of its RAM (01, The plain cartridge)."""
 
-    def __init__(self, bin_file: bytes, entries: list[Entry]) -> None:
+    def __init__(self, bin_file: bytes, entries: Sequence[Entry]) -> None:
         self.bin_file = bin_file
         self.entries = entries
         self.ram: dict[int, int] = {}

@@ -1,5 +1,6 @@
 """The record form of the vector files (README.md, Records)."""
 
+from typing import Sequence
 from zlib import crc32 as digest
 
 from generator import fill_bytes
@@ -66,6 +67,6 @@ class Record:
         return len(self.fields).to_bytes(4, "little") + bytes(self.fields)
 
 
-def digest_words(words: list[int]) -> int:
+def digest_words(words: Sequence[int]) -> int:
     """Digest words as their little-endian bytes (README.md, Records)."""
     return digest(le16(words))
