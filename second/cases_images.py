@@ -91,6 +91,49 @@ def block_edges() -> Iterator[Image]:
     yield "L19 none of 8 before 10", Draft([word], flags=b"\xFF" * 16).encoded(), 10, 3
 
 
+def broken_hunks() -> Iterator[tuple[str, bytes, int]]:
+    """Give what is wrong, the payload and the lent words of hunks with two good data blocks before the bad one."""
+    forms = {"8-bit": hunk.block_8([1, 2, 3]), "10-bit": hunk.block_10([4, 5, 6, 7, 8, 9]), "16-bit": hunk.block_16([10, 11])}
+    counts = {"8-bit": 3, "10-bit": 6, "16-bit": 2}
+    for first, second in (("8-bit", "10-bit"), ("10-bit", "16-bit"), ("16-bit", "8-bit")):
+        start, words = bytes([1, 0, 0]) + forms[first] + forms[second], 1 + counts[first] + counts[second]
+        for third, data in forms.items():
+            for size in range(1, len(data)):
+                yield f"W205-4 {third} block cut to {size} after two", start + data[:size], 100
+            for lent in range(words - counts[second], words + counts[third] + 1):
+                yield f"W205-4 {first}, {second}, {third} blocks, {lent} words lent", start + data, lent
+            for reserved in (0x00, 0xFE, 0xFF):
+                bad = bytes([reserved])
+                yield f"W205-3 reserved after {third}", start + data + bad, 100
+                yield f"W205-3 reserved before {third}", start + bad + data, 100
+                for lent in (words - 1, words, words + 1, words + counts[third]):
+                    yield f"W205-3 outside or reserved, {lent} words lent", start + data + bad, lent
+                    yield f"W205-3 outside or cut, {lent} words lent", start + data + data[:-1], lent
+
+
+def hunk_edges() -> Iterator[Image]:
+    """Give the place that 9 names (02, W-205; READINGS W205-1 to W205-4)."""
+    other, word = DraftBlock(0x42, b"abc", spoil_payload=1), hunk_block(1, hunk.block_16([7, 8]))
+    for label, payload, lent in broken_hunks():
+        yield label, simple(other, DraftBlock(2, payload)), lent, 3
+    for size in range(4):
+        for lent in (0, 3):
+            label = f"W205-2 payload of {size} bytes, {lent} words lent"
+            yield label, simple(word, DraftBlock(2, b"\xFE" * size)), lent, 3
+            yield label + ", first in the file", Draft([DraftBlock(2, b"\xFE" * size), word]).encoded(), lent, 3
+    twice = hunk.block_8([1]) + hunk.block_16([2, 3])
+    for address in (0x7FFFC, 0x7FFFD, 0x7FFFE, 0x7FFFF, 0x80000, 0xFFFFFF):
+        for lent in (524_287, 524_288, 524_300):
+            yield f"W205-3 two blocks at {address:#x}, {lent} words lent", simple(hunk_block(address, twice)), lent, 3
+    bad, far = hunk_block(1, hunk.block_16([7]) + b"\xFF"), hunk_block(9, hunk.block_16([1, 2]))
+    yield "W205-3 two broken hunks", simple(word, bad, far), 10, 3
+    yield "W205-3 two broken hunks", simple(word, far, bad), 10, 3
+    yield "W205 6 before 9", simple(DraftBlock(2, bad.payload, spoil_payload=1)), 10, 3
+    yield "W205 9 before 8 of a later block", simple(bad, tables_block(Tables())), 10, 3
+    yield "W205 8 before 9 of a later block", simple(tables_block(Tables()), bad), 10, 3
+    yield "W205 9 before none of 8 and 10", Draft([bad], flags=b"\xFF" * 16).encoded(), 10, 3
+
+
 def large_edges() -> Iterator[Image]:
     """Give the readings on limits and large RAMs (READINGS L1, L11, L12)."""
     small = simple(hunk_block(1, hunk.block_16([7, 8])))
@@ -119,7 +162,7 @@ def random_image(g: Generator, ram_length: int) -> tuple[str, bytes]:
 
 def load_cases(g: Generator) -> Iterator[Case]:
     """Give the edges, then random images (01, File layout)."""
-    for edges in (data_edges(), bit_edges(), block_edges(), large_edges()):
+    for edges in (data_edges(), bit_edges(), block_edges(), hunk_edges(), large_edges()):
         for label, image, ram_length, ram_seed in edges:
             yield (label, *load_record(image, (ram_length, ram_seed)))
     for _ in range(1000):
@@ -135,6 +178,10 @@ def card_cases(g: Generator) -> Iterator[Case]:
     images = [("empty", b""), ("K1 last word", small), ("K1 past RAM", past)]
     images += [(f"K1 {size} bytes", small + bytes(size - len(small))) for size in (24_575, 24_576, 24_577)]
     images += [(f"K1 {size} zero bytes", bytes(size)) for size in (24_576, 24_577, 1_048_577)]
+    two = hunk.block_8([1]) + hunk.block_16([2, 3])
+    images += [(f"W205-4 two blocks at {first}", simple(hunk_block(first, two))) for first in range(16_380, 16_385)]
+    images += [(f"W205-2 {size} bytes", simple(DraftBlock(2, two[:size]))) for size in range(4)]
+    images += [("W205-3 reserved", simple(hunk_block(0, two + b"\x00" + two)))]
     images += [random_image(g, 16_384) for _ in range(150)]
     for label, image in images:
         yield (label, *card_record(image))

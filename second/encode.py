@@ -111,14 +111,20 @@ def random_draft(g: Generator, ram_words: int) -> Draft:
 
 
 def bad_hunk(g: Generator, words_lent: int) -> DraftBlock:
-    """Make a hunk that is cut, reserved or outside the lent RAM (01, refusal 9)."""
+    """Make a hunk that is cut, reserved or outside the lent RAM, good data before it or not (01, refusal 9)."""
+    before, first = b"", 0
+    for _ in range(g.below(4)):
+        data, count = random_data(g, 20)
+        before, first = before + data, first + count
     data, count = random_data(g, 20)
+    short = data[:g.between(1, len(data) - 1)]
+    after = g.pick([b"", b"", b"\x00", data])
     return g.pick([
         DraftBlock(DATA_HUNK, bytes(g.below(3))),
-        hunk_block(0, data[:-1]),
-        hunk_block(0, data + g.pick([b"\x00", b"\xFE", b"\xFF"])),
-        hunk_block(max(words_lent + 1 - count, 0), data),
-        hunk_block(g.pick([0x80000, 0x80001, 0x100000, 0xFFFFFF]), data),
+        hunk_block(0, before + short),
+        hunk_block(0, before + data + g.pick([b"\x00", b"\xFE", b"\xFF"])),
+        hunk_block(max(words_lent + g.between(1, count) - first - count, 0), before + data + after),
+        hunk_block(g.pick([0x80000, 0x80001, 0x100000, 0xFFFFFF]), before + data),
     ])
 
 

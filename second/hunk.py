@@ -1,6 +1,7 @@
 """Data hunks: a 24-bit word address and packed data blocks (001, Block Type 0x02)."""
 
-from typing import Optional
+from struct import pack, unpack
+from typing import Iterator, Optional, Sequence
 
 MOST_8, MOST_10, MOST_16 = 0x3F, 0xBF - 0x3F, 0xFD - 0xBF
 
@@ -36,31 +37,56 @@ def decode_block(block: bytes) -> list[int]:
     """Give the words of one whole data block (001, Data Hunk)."""
     start, body = block[0], block[1:]
     if start >= 0xC0:
-        return [word_at(body, place) for place in range(0, len(body), 2)]
+        return list(unpack(f"<{len(body) // 2}H", body))
     narrow = body[:-2]
     words = list(narrow) if start < 0x40 else decles(narrow)
     return words + [word_at(body, len(body) - 2)]
+
+
+def data_blocks(payload: bytes) -> Iterator[tuple[int, Optional[list[int]]]]:
+    """Give place and words of each data block; a cut or reserved one has none and is the last (001, Data Hunk)."""
+    place = 3
+    while place < len(payload):
+        size = block_size(payload[place])
+        if size is None or place + size > len(payload):
+            yield place, None
+            return
+        yield place, decode_block(payload[place:place + size])
+        place += size
+
+
+def address_of(payload: bytes) -> int:
+    """Read a hunk's word address (001, Data Hunk)."""
+    return int.from_bytes(payload[0:3], "little")
 
 
 def decode(payload: bytes) -> Optional[tuple[int, list[int]]]:
     """Give address and words, or none if cut or reserved (01, refusal 9; READINGS L10)."""
     if len(payload) < 3:
         return None
-    address = payload[0] | payload[1] << 8 | payload[2] << 16
     words: list[int] = []
-    place = 3
-    while place < len(payload):
-        size = block_size(payload[place])
-        if size is None or place + size > len(payload):
+    for _, more in data_blocks(payload):
+        if more is None:
             return None
-        words += decode_block(payload[place:place + size])
-        place += size
-    return address, words
+        words += more
+    return address_of(payload), words
 
 
-def le16(words: list[int]) -> bytes:
+def fault(payload: bytes, words_lent: int) -> Optional[int]:
+    """Give the place in the payload that 9 names, or none (02, W-205; READINGS W205-1 to W205-4)."""
+    if len(payload) < 3:
+        return 0
+    end = address_of(payload)
+    for place, words in data_blocks(payload):
+        if words is None or end + len(words) > words_lent:
+            return place
+        end += len(words)
+    return None
+
+
+def le16(words: Sequence[int]) -> bytes:
     """Write words low byte first (01, File layout)."""
-    return b"".join(word.to_bytes(2, "little") for word in words)
+    return pack(f"<{len(words)}H", *words)
 
 
 def block_8(words: list[int]) -> bytes:

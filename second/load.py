@@ -8,7 +8,7 @@ from checksums import crc32_4, dowcrc
 from refusal import Refused
 from tables import TABLES_SIZE, Tables, read_tables, unsupported
 
-HEADER = 32
+HEADER, BLOCK_HEADER = 32, 8
 IMAGE_LIMIT = 1_048_576
 LOCUTUS_WORDS = 524_288
 MAGIC = b"\x4C\x54\x4F"
@@ -58,13 +58,13 @@ def blocks_of(image: bytes) -> Iterator[Block]:
     """Step over the blocks up to 0xFF or the end, asking 5 of each (01, refusal 5)."""
     start = HEADER
     while start < len(image) and image[start] != ENDED:
-        if len(image) - start < 8 or dowcrc(image[start:start + 3]) != image[start + 3]:
+        if len(image) - start < BLOCK_HEADER or dowcrc(image[start:start + 3]) != image[start + 3]:
             raise Refused(5, start)
-        end = start + 8 + hunk.word_at(image, start + 1)
+        end = start + BLOCK_HEADER + hunk.word_at(image, start + 1)
         if end > len(image):
             raise Refused(5, start)
         checksum = int.from_bytes(image[start + 4:start + 8], "little")
-        yield Block(start, image[start], checksum, image[start + 8:end])
+        yield Block(start, image[start], checksum, image[start + BLOCK_HEADER:end])
         start = end
 
 
@@ -77,14 +77,11 @@ def check_payload(block: Block) -> None:
 
 
 def decode_hunk(block: Block, words_lent: int) -> tuple[int, list[int]]:
-    """Give a hunk's address and words, each inside the lent RAM (01, refusal 9)."""
-    decoded = hunk.decode(block.payload)
-    if decoded is None:
-        raise Refused(9, block.start)
-    address, words = decoded
-    if words and address + len(words) > words_lent:
-        raise Refused(9, block.start)
-    return address, words
+    """Give a hunk's address and words, each inside the lent RAM (01, refusal 9; 02, W-205)."""
+    broken = hunk.fault(block.payload, words_lent)
+    if broken is not None:
+        raise Refused(9, block.start + BLOCK_HEADER + broken)
+    return hunk.decode(block.payload) or (0, [])
 
 
 def compatibility(flags: bytes) -> tuple[int, ...]:

@@ -7,7 +7,7 @@ import hunk
 from builder import build, checked_entries, make_image
 from card import card
 from checksums import CRC32, CRC32_4, DOWCRC, ONES, bit_by_bit, crc32, crc32_4, dowcrc, run
-from encode import random_draft
+from encode import bad_hunk, random_draft, random_hunk
 from generator import Generator, fill_bytes, fill_words
 from load import load
 from machine import Machine, asked_entry, flipped, stored
@@ -55,6 +55,22 @@ def check_hunks() -> Iterator[Check]:
         ten, eight = [n * 37 % 1024 for n in range(count)], list(range(count))
         yield "10-bit", hunk.decode(bytes(3) + hunk.block_10(ten, 0xFF)) == (0, ten)
         yield "8-bit", count > 63 or hunk.decode(bytes(3) + hunk.block_8(eight)) == (0, eight)
+
+
+def good_hunk(payload: bytes, words_lent: int) -> bool:
+    """Tell whether a payload is whole and its words lie in the RAM (01, refusal 9)."""
+    decoded = hunk.decode(payload)
+    return decoded is not None and (not decoded[1] or decoded[0] + len(decoded[1]) <= words_lent)
+
+
+def check_faults(g: Generator, rounds: int) -> Iterator[Check]:
+    """Find 9's place as the end of the longest beginning that is a good hunk (02, W-205)."""
+    for _ in range(rounds):
+        lent = g.pick([0, 1, 20, 40, 80])
+        payload = g.pick([bad_hunk, random_hunk])(g, lent).payload
+        good = [size for size in range(len(payload) + 1) if good_hunk(payload[:size], lent)]
+        expected = None if len(payload) in good else (good or [0])[-1]
+        yield "fault's place", hunk.fault(payload, lent) == expected
 
 
 def built(bin_length: int, text: str) -> tuple:
@@ -131,7 +147,8 @@ def main() -> None:
     """Run every check, and say how many there were (01, Bench cases)."""
     g, ran = Generator(2019), 0
     for checks in (check_sums(), check_hunks(), check_cases_1_to_5(), check_cases_6_to_8(),
-                   check_titles(g, 200), check_round_trips(g, 500)):
+                   check_faults(g, 1000), check_titles(g, 200),
+                   check_round_trips(g, 500)):
         for name, passed in checks:
             ran += 1
             if not passed:

@@ -98,7 +98,7 @@ def random_title(g: Generator, chapters: int) -> Title:
             last = 256 * (first + count) - 1
             plan.append(Entry(0, kind, 256 * first, last, 256 * first))
     plan += [page_line(g, chapter, page, words) for chapter, page in g.shuffled(paged)[:64 - len(lines)]]
-    title = Title(2 * words, g.between(1, 1000), g.shuffled(plan))
+    title = Title(2 * words, g.between(1, 12), g.shuffled(plan))
     title.cfg = spell(g, title.plan)
     return title
 
