@@ -53,13 +53,31 @@ pub enum Taker {
     Ram(Cell),
 }
 
+// One row: what its three digits allow.
+fn allowing(narrow: bool, write: bool, read: bool) -> Rights
+    ensures { λ r. ⌜ r ≡ record { read = read; write = write; narrow = narrow } ⌝ }
+{
+    Rights {
+        read,
+        write,
+        narrow,
+    }
+}
+
+// The permission decision as the manual has it: a row for each setting of NARROW, WRITE and READ, bits 2 to 0. No other bit chooses a row.
 pub fn rights_of(permission: u8) -> Rights
     ensures { λ r. ⌜ r ≡ rightsOf permission ⌝ }
 {
-    Rights {
-        read: permission % 2 == 1,
-        write: permission / 2 % 2 == 1,
-        narrow: permission / 4 % 2 == 1,
+    // the last row is 0b111
+    match permission % 8 {
+        0b000 => allowing(false, false, false),
+        0b001 => allowing(false, false, true),
+        0b010 => allowing(false, true, false),
+        0b011 => allowing(false, true, true),
+        0b100 => allowing(true, false, false),
+        0b101 => allowing(true, false, true),
+        0b110 => allowing(true, true, false),
+        _ => allowing(true, true, true),
     }
 }
 
