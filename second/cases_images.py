@@ -187,6 +187,21 @@ def card_cases(g: Generator) -> Iterator[Case]:
         yield (label, *card_record(image))
 
 
+def row_edges() -> Iterator[Case]:
+    """Give each setting of READ, WRITE and NARROW with some reserved bits (02, W-203; READINGS W203-1)."""
+    for row in range(8):
+        for reserved in (0x00, 0x08, 0x50, 0xF8):
+            tables, accesses = Tables(), []
+            for paragraph in (0x02, 0x05, 0x13, 0x31, 0x51):
+                tables.mapping[paragraph] = tables.mapping[0x60 + paragraph] = paragraph % 8
+                tables.permissions[paragraph], tables.permissions[0x60 + paragraph] = row | reserved, 1
+                for value in (0xABCD, 0x0100):
+                    accesses += [(0, 256 * paragraph + 7, 0), (1, 256 * paragraph + 7, value), (0, 256 * paragraph + 7, 0)]
+                    accesses.append((0, 256 * (0x60 + paragraph) + 7, 0))
+            image = compose(bytes(16), bytes(8), tables, [])
+            yield (f"W203-1 row {row:03b}, reserved {reserved:#04x}", *machine_record(image, (2048, 3), accesses))
+
+
 def machine_case(g: Generator, which: int) -> Case:
     """Load tables of any kind, and run accesses on the machine (01, The machine; M1 to M6)."""
     tables = random_tables(g, g.pick([20, 200, 1500]))
@@ -202,7 +217,8 @@ def machine_case(g: Generator, which: int) -> Case:
 
 
 def machine_cases(g: Generator) -> Iterator[Case]:
-    """Give random tables and accesses (01, The machine)."""
+    """Give the edges, then random tables and accesses (01, The machine)."""
+    yield from row_edges()
     for which in range(300):
         yield machine_case(g, which)
 

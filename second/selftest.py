@@ -13,6 +13,7 @@ from load import load
 from machine import Machine, asked_entry, flipped, stored
 from plain import PlainCartridge
 from play import play_machine, play_plain
+from tables import Tables
 from titles import random_accesses, random_title
 from writer import write
 
@@ -71,6 +72,25 @@ def check_faults(g: Generator, rounds: int) -> Iterator[Check]:
         good = [size for size in range(len(payload) + 1) if good_hunk(payload[:size], lent)]
         expected = None if len(payload) in good else (good or [0])[-1]
         yield "fault's place", hunk.fault(payload, lent) == expected
+
+
+ROWS = {
+    # READ, WRITE, NARROW: is a word heard, what a write of 0xABCD over 0x12FF leaves (001, Permissions Table)
+    (0, 0, 0): (False, 0x12FF), (1, 0, 0): (True, 0x12FF), (0, 1, 0): (False, 0xABCD), (1, 1, 0): (True, 0xABCD),
+    (0, 0, 1): (False, 0x12FF), (1, 0, 1): (True, 0x12FF), (0, 1, 1): (False, 0x12CD), (1, 1, 1): (True, 0x12CD),
+}
+
+
+def check_rows() -> Iterator[Check]:
+    """Run the eight rows as a table says them (02, W-203)."""
+    for (read, write_bit, narrow), (heard, left) in ROWS.items():
+        for reserved in range(0, 256, 8):
+            tables, ram = Tables(), [0x12FF]
+            tables.permissions[0x51] = read | write_bit << 1 | narrow << 2 | reserved
+            machine = Machine(tables)
+            yield "row is heard", machine.read(ram, 0x5100) == (0x12FF if heard else None)
+            machine.write(ram, 0x5100, 0xABCD)
+            yield "row stores", ram == [left]
 
 
 def built(bin_length: int, text: str) -> tuple:
@@ -147,7 +167,7 @@ def main() -> None:
     """Run every check, and say how many there were (01, Bench cases)."""
     g, ran = Generator(2019), 0
     for checks in (check_sums(), check_hunks(), check_cases_1_to_5(), check_cases_6_to_8(),
-                   check_faults(g, 1000), check_titles(g, 200),
+                   check_faults(g, 1000), check_rows(), check_titles(g, 200),
                    check_round_trips(g, 500)):
         for name, passed in checks:
             ran += 1
