@@ -188,11 +188,15 @@ static bool not_had(const uint8_t *flags, const Cartridge *c) {
     return flags[2] & 3 || flags[4] & 1 || switched || flipped;
 }
 
+/* TutorVision's number where an image states nothing of it. */
+enum { NOT_STATED = 4 };
+
 static Loading refused_load(uint32_t number, size_t place) {
     Loading r;
     memset(&r, 0, sizeof r);
     r.number = number;
     r.place = place;
+    r.compat[4] = NOT_STATED;
     return r;
 }
 
@@ -242,6 +246,8 @@ Loading c_load(const uint8_t *s, size_t n, uint16_t *ram, size_t words) {
     static const int field[5] = {0, 2, 4, 6, 10};
     for (int i = 0; i < 5; i++)
         r.compat[i] = s[4 + field[i] / 8] >> field[i] % 8 & 3;
+    if ((s[5] & 3) == 0)
+        r.compat[4] = NOT_STATED;
     for (p = 32; p < n && s[p] != 0xFF; p += 8 + get16(s + p + 1))
         if (s[p] == 2)
             store_hunk(s + p + 8, get16(s + p + 1), ram);

@@ -13,7 +13,7 @@ uint32_t luigi_crc32(const uint8_t *s, size_t n);
 typedef struct {
     uint32_t number;
     size_t place, blocks, words;
-    uint8_t compat[5];
+    uint8_t compat[5]; /* 0 to 3; compat[4], TutorVision, is 4 where nothing is stated: version 0, or a refusal */
     uint16_t mapping[256];
     uint8_t permissions[256];
     uint16_t flips[256];

@@ -2,12 +2,13 @@
 use Prim.Native.Nat.{ℕ}
 use mathlib.Core.List.{List, _∷_, []}
 use Rattle.header.specs.declared.Compat.{Compat}
+use Rattle.header.specs.Flags.{numberOf}
 use Rattle.load.specs.declared.Loading.{Loading}
 use Rattle.exports.specs.declared.Loaded.{Loaded}
 
--- the compatibility fields in 01's order
+-- the compatibility fields in 01's order; C has numbers only, and 4 is TutorVision's "not stated"
 abbrev pub fieldsOf : Compat → List ℕ
-fieldsOf c = c .intellivoice ∷ c .ecs ∷ c .intellivision2 ∷ c .keyboard ∷ c .tutorvision ∷ []
+fieldsOf c = c .intellivoice ∷ c .ecs ∷ c .intellivision2 ∷ c .keyboard ∷ numberOf (c .tutorvision) ∷ []
 
 abbrev pub loadedOf : Loading → Loaded
 loadedOf l =

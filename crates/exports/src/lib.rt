@@ -39,7 +39,7 @@ pub extern "C" fn luigi_crc32(s: &[u8]) -> u32
     sums::crc32(s)
 }
 
-// What a load answers, laid out as C's; the compatibility fields in 01's order.
+// What a load answers, laid out as C's; the compatibility fields in 01's order, the last of them 4 where nothing is stated.
 #[repr(C)]
 pub struct Loaded {
     pub number: u32,
@@ -55,12 +55,14 @@ pub struct Loaded {
 fn compat_of(c: Compat) -> [u8; 5]
     ensures { λ r. ⌜ r ≡ fieldsOf c ⌝ }
 {
+    let stated = c.tutorvision;
+    let tutorvision = header::number_of(stated);
     [
         c.intellivoice,
         c.ecs,
         c.intellivision2,
         c.keyboard,
-        c.tutorvision,
+        tutorvision,
     ]
 }
 

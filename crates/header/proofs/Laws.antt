@@ -19,14 +19,26 @@ use Rattle.basics.specs.Laws.Wrote.{Wrote, wrote-none, wrote-set}
 use Rattle.basics.specs.Laws.Puts.{put-short, put-wrote, wrote-put}
 use Rattle.sums.specs.Crc.{dowcrcOf}
 use Rattle.header.specs.Header.{magic, version, reserved, versionAt, flagsAt, uidAt, reservedAt, sumAt, headerSize, flagsSize, uidSize, headOf, headerOf, wrongLength, wrongMagic, wrongVersion, wrongHeaderSum, headerRows, headerRefusal}
-use Rattle.header.specs.Flags.{compatOf}
+use Rattle.header.specs.declared.TutorVision.{TutorVision}
+use Rattle.header.specs.declared.TutorVision.the-variants.{NotStated}
+use Rattle.header.specs.Flags.{settingOf, statedAt, compatOf}
 use Rattle.header.specs.Laws.Header.{length-head, length-header}
 
 -- the compatibility fields, from two bytes
-pub compat-bytes : (flags : List ℕ) (x y : ℕ) → x ≡ getD flags 0 0 → y ≡ getD flags 1 0
-    → record { intellivoice = x % 4; ecs = x / 4 % 4; intellivision2 = x / 16 % 4; keyboard = x / 64 % 4; tutorvision = y / 4 % 4 } ≡ compatOf flags
+pub compat-bytes : (flags : List ℕ) (x y : ℕ) → x ≡ getD flags 0 0 → y ≡ getD flags 1 0 → (t : TutorVision) → t ≡ statedAt (y % 4) (y / 4 % 4)
+    → record { intellivoice = x % 4; ecs = x / 4 % 4; intellivision2 = x / 16 % 4; keyboard = x / 64 % 4; tutorvision = t } ≡ compatOf flags
 unfolding compatOf
-compat-bytes flags x y e f = simp (← e, ← f, div-one)
+compat-bytes flags x y e f t g = simp (← e, ← f, div-one, g)
+
+-- not stated at version 0, and a setting at any other
+module _ (version bits : ℕ) where
+  pub stated-none : version ≡ 0 → NotStated ≡ statedAt version bits
+  unfolding statedAt
+  stated-none e = rw (eq-eqb _ _ e)
+
+  pub stated-some : (version ≡ 0 → ⊥) → (t : TutorVision) → t ≡ settingOf bits → t ≡ statedAt version bits
+  unfolding statedAt
+  stated-some n t e = e ∙ rw (ne-eqb _ _ n)
 
 -- a byte that differs from the magic number's, and one more that agrees
 pub differs : (s : List ℕ) (i x : ℕ) → i < versionAt → x ≡ getD s i 0 → (x ≡ getD magic i 0 → ⊥) → true ≡ wrongMagic s

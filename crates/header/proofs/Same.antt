@@ -7,6 +7,7 @@ use Rattle.header.proofs.size.Reads as size
 use Rattle.header.proofs.write.Reads as write
 use Rattle.header.proofs.compat_of.Reads as compat-of
 use Rattle.header.proofs.no_compat.Reads as no-compat
+use Rattle.header.proofs.number_of.Reads as number-of
 
 pub one-check : OneAnswer check.Learnt
 one-check κs a y z e f = same
@@ -22,3 +23,6 @@ one-compat-of κs a y z e f = same
 
 pub one-no-compat : OneAnswer no-compat.Learnt
 one-no-compat κs a y z e f = same
+
+pub one-number-of : OneAnswer number-of.Learnt
+one-number-of κs a y z e f = same

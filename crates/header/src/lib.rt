@@ -4,7 +4,7 @@ ghost use mathlib.Core.Path.{_≡_};
 ghost use lib.ListN.{length};
 ghost use Rattle.basics.specs.Lists.{putFront};
 ghost use Rattle.header.specs.Header.{headerSize, flagsSize, uidSize, headerOf, wrongLength, wrongMagic, wrongVersion, wrongHeaderSum, headerRefusal};
-ghost use Rattle.header.specs.Flags.{compatOf, noCompat};
+ghost use Rattle.header.specs.Flags.{settingOf, statedAt, numberOf, compatOf, noCompat};
 use basics::Refusal;
 use basics::byte_at;
 use basics::put_bytes;
@@ -35,13 +35,61 @@ pub const FLAGS_SIZE: usize = UID_AT - FLAGS_AT;
 
 pub const UID_SIZE: usize = RESERVED_AT - UID_AT;
 
-// The compatibility fields, two bits each.
+// What an image says of the TutorVision: one of the four settings of a compatibility field, or nothing.
+pub enum TutorVision {
+    Incompatible,
+    Tolerates,
+    Enhanced,
+    Requires,
+    NotStated,
+}
+
+// The compatibility fields, two bits each; and what the last of them says.
 pub struct Compat {
     pub intellivoice: u8,
     pub ecs: u8,
     pub intellivision2: u8,
     pub keyboard: u8,
-    pub tutorvision: u8,
+    pub tutorvision: TutorVision,
+}
+
+// The setting that two bits name.
+fn setting_of(bits: u8) -> TutorVision
+    ensures { λ r. ⌜ r ≡ settingOf bits ⌝ }
+{
+    if bits == 0 {
+        return TutorVision::Incompatible;
+    }
+    if bits == 1 {
+        return TutorVision::Tolerates;
+    }
+    if bits == 2 {
+        return TutorVision::Enhanced;
+    }
+    TutorVision::Requires
+}
+
+// What two bits say of the TutorVision at a version of the compatibility fields.
+fn stated_at(version: u8, bits: u8) -> TutorVision
+    ensures { λ r. ⌜ r ≡ statedAt version bits ⌝ }
+{
+    if version == 0 {
+        return TutorVision::NotStated;
+    }
+    setting_of(bits)
+}
+
+// Each answer as a number, for those who cannot be given an enum.
+pub fn number_of(t: TutorVision) -> u8
+    ensures { λ r. ⌜ r ≡ numberOf t ⌝ }
+{
+    match t {
+        TutorVision::Incompatible => 0,
+        TutorVision::Tolerates => 1,
+        TutorVision::Enhanced => 2,
+        TutorVision::Requires => 3,
+        TutorVision::NotStated => 4,
+    }
 }
 
 pub fn compat_of(flags: &[u8]) -> Compat
@@ -54,7 +102,7 @@ pub fn compat_of(flags: &[u8]) -> Compat
         ecs: x / 4 % 4,
         intellivision2: x / 16 % 4,
         keyboard: x / 64 % 4,
-        tutorvision: y / 4 % 4,
+        tutorvision: stated_at(y % 4, y / 4 % 4),
     }
 }
 
@@ -67,7 +115,7 @@ pub fn no_compat() -> Compat
         ecs: 0,
         intellivision2: 0,
         keyboard: 0,
-        tutorvision: 0,
+        tutorvision: TutorVision::NotStated,
     }
 }
 

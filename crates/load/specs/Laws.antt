@@ -3,3 +3,4 @@ pub mod Refusals
 pub mod Ram
 pub mod Passes
 pub mod Breaks
+pub mod Stated

@@ -35,7 +35,7 @@ refusalOf s m = firstRefusal (refusalRows s m)
 abbrev pub loads : List ℕ → ℕ → Bool
 loads s m = passes (refusalOf s m)
 
--- the answer of a load with these flags and blocks; and of a refused one: number and place, and zero in all else
+-- the answer of a load with these flags and blocks; and of a refused one: number and place, zero in all else, and nothing said of the TutorVision
 abbrev pub loadedOf : List ℕ → List (List ℕ) → Loading
 loadedOf flags xs =
     record {

@@ -156,7 +156,7 @@ fn store_blocks(s: &[u8], ram: &mut [u16])
     }
 }
 
-// A refused load: its refusal, and zero in all else.
+// A refused load: its refusal, zero in all else, and nothing said of the TutorVision.
 fn refuse(r: Refusal) -> Loading
     ensures { λ l. ⌜ l ≡ refused r ⌝ }
 {

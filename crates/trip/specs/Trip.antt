@@ -13,7 +13,7 @@ use Rattle.tables.specs.Tables.{Tables, cartridgeWith}
 use Rattle.load.specs.declared.Loading.{Loading}
 use Rattle.save.specs.Writing.{Content, isMarked}
 
--- the answer of a load: these tables, the flags' compatibility fields, so many blocks and words
+-- the answer of a load: these tables, what the flags say of each device and, of the TutorVision, may leave unsaid, so many blocks and words
 abbrev pub answerOf : List ℕ → Tables → ℕ → ℕ → Loading
 answerOf flags t blocks words =
     record { refusal = noRefusal; cartridge = cartridgeWith t; compat = compatOf flags; blocks = blocks; words = words }

@@ -22,7 +22,8 @@ fn same_compat(rec: &[u8], at: usize, c: Compat) -> bool {
     let ecs = has8(rec, at, 1, c.ecs as usize);
     let two = has8(rec, at, 2, c.intellivision2 as usize);
     let keyboard = has8(rec, at, 3, c.keyboard as usize);
-    let tutor = has8(rec, at, 4, c.tutorvision as usize);
+    let stated = c.tutorvision;
+    let tutor = has8(rec, at, 4, header::number_of(stated) as usize);
     both(both(voice, ecs), both(two, both(keyboard, tutor)))
 }
 

@@ -8,4 +8,4 @@ returns : tie.Need-returns
 returns c = search (needs, compat-bytes)
 
 pub compat-of-spec : {M : Type 1} → statement M
-compat-of-spec = tie.close (tie.spec (λ c κs. search needs) (λ c κs. search needs) returns)
+compat-of-spec = tie.close (tie.spec (λ c κs. search needs) (λ c κs. search needs) (λ c κs. search needs) returns)

@@ -8,7 +8,8 @@ use Rattle.basics.specs.Counts.{any}
 use Rattle.basics.specs.Refusals.{refuse, noRefusal}
 use Rattle.sums.specs.Crc.{crcFrom, crcByte, crcBits, crcBit}
 use Rattle.header.specs.Header.{headOf, headerOf, headerRows, headerRefusal}
-use Rattle.header.specs.Flags.{flag, field, compatOf}
+use Rattle.header.specs.declared.TutorVision.the-variants.{Incompatible, Tolerates, Enhanced, Requires, NotStated}
+use Rattle.header.specs.Flags.{flag, field, settingOf, statedAt, compatOf}
 
 -- the builder's flags, and a header with them and no UID
 abbrev built : List ℕ
@@ -45,9 +46,18 @@ unfolding headerRows any crcFrom crcByte crcBits crcBit
 reserved-changed = refl
 
 -- the builder's flags say that a program tolerates each device; flags 16-17 are in byte 2, and flag 32 is in byte 4
-pub tolerates : compatOf built ≡ record { intellivoice = 1; ecs = 1; intellivision2 = 1; keyboard = 1; tutorvision = 1 }
-unfolding compatOf
+pub tolerates : compatOf built ≡ record { intellivoice = 1; ecs = 1; intellivision2 = 1; keyboard = 1; tutorvision = Tolerates }
+unfolding compatOf statedAt settingOf
 tolerates = refl
+
+-- bits 10 and 11 at version 0, which are ignored, and at versions 1 to 3
+pub version-none : compatOf (0x00 ∷ 0x0C ∷ []) .tutorvision ≡ NotStated
+unfolding compatOf statedAt
+version-none = refl
+
+pub versions : compatOf (0x00 ∷ 0x01 ∷ []) .tutorvision ∷ compatOf (0x00 ∷ 0x0A ∷ []) .tutorvision ∷ compatOf (0x00 ∷ 0x0F ∷ []) .tutorvision ∷ [] ≡ Incompatible ∷ Enhanced ∷ Requires ∷ []
+unfolding compatOf statedAt settingOf
+versions = refl
 
 pub jlp-field : field (0 ∷ 0 ∷ 3 ∷ []) 16 ≡ 3
 jlp-field = refl

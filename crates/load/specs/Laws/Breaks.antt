@@ -10,7 +10,7 @@ use borrow.Author.Tests.{eq-eqb, eqb-true}
 use lib.ListN.{length, getD, drop, length-append}
 use lib.Dec.{eqb}
 use Rattle.basics.specs.declared.Refusal.{Refusal}
-use Rattle.basics.specs.Lists.{flat, joined, Each, none as no-blocks, also as and-block}
+use Rattle.basics.specs.Lists.{flat, joined, Each, also as and-block}
 use Rattle.basics.specs.Rows.{Gives, here, later, Silent, none}
 use Rattle.basics.specs.Refusals.{refuse}
 use Rattle.basics.specs.Laws.Tests.{and-left, and-right, not-false, true-is-not-false, or-assoc, or-none}
