@@ -134,6 +134,25 @@ def hunk_edges() -> Iterator[Image]:
     yield "W205 9 before none of 8 and 10", Draft([bad], flags=b"\xFF" * 16).encoded(), 10, 3
 
 
+def field_edges() -> Iterator[Image]:
+    """Give each value of flag bits 8 to 15, and each refusal of an image that states all (02, W-201)."""
+    for byte in range(256):
+        yield f"W201-1 flags byte 5 is {byte:#04x}", simple(bits=byte << 8 | byte * 37 % 256), 10, 0
+    stated, tables, pfe = b"\xFF\xFF" + bytes(14), tables_block(Tables()), Tables()
+    pfe.flips[16] = 8
+    yield "W201-2 loads", Draft([tables], flags=stated).encoded(), 10, 0
+    yield "W201-2 refusal 1", Draft([tables], flags=stated).encoded()[:31], 10, 0
+    yield "W201-2 refusal 2", Draft([tables], flags=stated, magic=b"LTo").encoded(), 10, 0
+    yield "W201-2 refusal 3", Draft([tables], flags=stated, version=2).encoded(), 10, 0
+    yield "W201-2 refusal 4", Draft([tables], flags=stated, spoil_header=1).encoded(), 10, 0
+    yield "W201-2 refusal 5", Draft([tables], flags=stated, tail=b"\x03").encoded(), 10, 0
+    yield "W201-2 refusal 6", Draft([DraftBlock(1, bytes(1280), spoil_payload=1)], flags=stated).encoded(), 10, 0
+    yield "W201-2 refusal 7", Draft([tables, DraftBlock(0, b"")], flags=stated).encoded(), 10, 0
+    yield "W201-2 refusal 8", Draft([], flags=stated).encoded(), 10, 0
+    yield "W201-2 refusal 9", Draft([tables, DraftBlock(2, b"")], flags=stated).encoded(), 10, 0
+    yield "W201-2 refusal 10", Draft([tables_block(pfe)], flags=stated).encoded(), 10, 0
+
+
 def large_edges() -> Iterator[Image]:
     """Give the readings on limits and large RAMs (READINGS L1, L11, L12)."""
     small = simple(hunk_block(1, hunk.block_16([7, 8])))
@@ -162,7 +181,7 @@ def random_image(g: Generator, ram_length: int) -> tuple[str, bytes]:
 
 def load_cases(g: Generator) -> Iterator[Case]:
     """Give the edges, then random images (01, File layout)."""
-    for edges in (data_edges(), bit_edges(), block_edges(), hunk_edges(), large_edges()):
+    for edges in (data_edges(), bit_edges(), block_edges(), hunk_edges(), field_edges(), large_edges()):
         for label, image, ram_length, ram_seed in edges:
             yield (label, *load_record(image, (ram_length, ram_seed)))
     for _ in range(1000):

@@ -12,18 +12,19 @@ HEADER, BLOCK_HEADER = 32, 8
 IMAGE_LIMIT = 1_048_576
 LOCUTUS_WORDS = 524_288
 MAGIC = b"\x4C\x54\x4F"
+NOT_STATED = 4
 ENDED, ENCRYPTED, TABLES, DATA_HUNK = 0xFF, 0x00, 0x01, 0x02
 
 
 @dataclass
 class Loaded:
-    """What a load answers; a refusal leaves all but number and place at zero (01)."""
+    """What a load answers; a refusal has all else zero, and TutorVision not stated (01; 02, W-201)."""
 
     number: int = 0
     place: int = 0
     blocks: int = 0
     words: int = 0
-    fields: tuple[int, ...] = (0, 0, 0, 0, 0)
+    fields: tuple[int, ...] = (0, 0, 0, 0, NOT_STATED)
     tables: Tables = field(default_factory=Tables)
 
 
@@ -85,9 +86,10 @@ def decode_hunk(block: Block, words_lent: int) -> tuple[int, list[int]]:
 
 
 def compatibility(flags: bytes) -> tuple[int, ...]:
-    """Give the five two-bit fields (01, File layout; READINGS S4)."""
+    """Give the five fields; TutorVision counts from version 1 on (01, File layout; 02, W-201)."""
     bits = int.from_bytes(flags, "little")
-    return tuple(bits >> first & 3 for first in (0, 2, 4, 6, 10))
+    tutorvision = bits >> 10 & 3 if bits >> 8 & 3 else NOT_STATED
+    return (*(bits >> first & 3 for first in (0, 2, 4, 6)), tutorvision)
 
 
 def accept(image: bytes, ram: MutableSequence[int]) -> Loaded:

@@ -9,7 +9,7 @@ from card import card
 from checksums import CRC32, CRC32_4, DOWCRC, ONES, bit_by_bit, crc32, crc32_4, dowcrc, run
 from encode import bad_hunk, random_draft, random_hunk
 from generator import Generator, fill_bytes, fill_words
-from load import load
+from load import NOT_STATED, compatibility, load
 from machine import Machine, asked_entry, flipped, stored
 from plain import PlainCartridge
 from play import play_machine, play_plain
@@ -72,6 +72,16 @@ def check_faults(g: Generator, rounds: int) -> Iterator[Check]:
         good = [size for size in range(len(payload) + 1) if good_hunk(payload[:size], lent)]
         expected = None if len(payload) in good else (good or [0])[-1]
         yield "fault's place", hunk.fault(payload, lent) == expected
+
+
+def check_fields() -> Iterator[Check]:
+    """Take TutorVision from flag bytes by division, for every version and value (02, W-201)."""
+    for byte in range(256):
+        version, value = byte % 4, byte // 4 % 4
+        for low in (0x00, 0x55, 0xE4):
+            fields = compatibility(bytes([low, byte]) + bytes(14))
+            yield "TutorVision", fields[4] == (NOT_STATED if version == 0 else value)
+            yield "other fields", fields[:4] == (low % 4, low // 4 % 4, low // 16 % 4, low // 64)
 
 
 ROWS = {
@@ -140,6 +150,7 @@ def check_titles(g: Generator, rounds: int) -> Iterator[Check]:
         ram = list(fill_words(524_288, 9))
         loaded = load(image, ram)
         yield "title loads", loaded.number == 0 and loaded.words == 256 * (loaded.blocks - 1)
+        yield "title tolerates", loaded.fields == (1, 1, 1, 1, 1)
         accesses = random_accesses(g, [entry.chapter for entry in entries], 400)
         expected = play_plain(PlainCartridge(title.bin_file(), entries), accesses)
         yield "title plays", play_machine(Machine(loaded.tables), ram, accesses) == expected
@@ -167,7 +178,7 @@ def main() -> None:
     """Run every check, and say how many there were (01, Bench cases)."""
     g, ran = Generator(2019), 0
     for checks in (check_sums(), check_hunks(), check_cases_1_to_5(), check_cases_6_to_8(),
-                   check_faults(g, 1000), check_rows(), check_titles(g, 200),
+                   check_faults(g, 1000), check_fields(), check_rows(), check_titles(g, 200),
                    check_round_trips(g, 500)):
         for name, passed in checks:
             ran += 1
