@@ -77,8 +77,21 @@ static void flip(Cartridge *c, int n) {
     }
 }
 
+/* Half-page h of eight paragraphs takes the value's low byte and the seven numbers after it, going round. */
+static void bankswitch(Cartridge *c, int h, uint8_t first) {
+    for (int j = 0; j < 8; j++)
+        c->mapping[8 * h + j] = (uint8_t)(first + j);
+}
+
 static void write_word(Cartridge *c, uint16_t *ram, size_t words, uint16_t at, uint16_t value) {
     int x = at / 4096;
+    if (at / 32 == 2) {
+        int h = at % 16 * 2 + at / 16 % 2;
+        if (c->permissions[8 * h] & BANKSW) {
+            bankswitch(c, h, value);
+            return;
+        }
+    }
     if (at % 4096 == 0xFFF && value / 4096 == x && value / 16 % 256 == 0xA5 && x >= 2) {
         int n = 16 * x + value % 16;
         if (c->flips[n] & PFE) {
@@ -180,12 +193,10 @@ static Cartridge cartridge_of(const uint8_t *s) {
 }
 
 static bool not_had(const uint8_t *flags, const Cartridge *c) {
-    bool switched = false, flipped = false;
-    for (int p = 0; p < 256; p += 8)
-        switched = switched || c->permissions[p] & BANKSW;
+    bool flipped = false;
     for (int i = 16; i < 32; i++)
         flipped = flipped || c->flips[i] & PFE;
-    return flags[2] & 3 || flags[4] & 1 || switched || flipped;
+    return flags[2] & 3 || flags[4] & 1 || flipped;
 }
 
 /* TutorVision's number where an image states nothing of it. */

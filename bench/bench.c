@@ -17,6 +17,7 @@ static size_t cfg_length;
 static uint8_t image[ROOM], packed[ROOM];
 static size_t image_length, packed_length;
 static uint16_t read_at[SCRIPT], write_at[SCRIPT], value[SCRIPT];
+static uint16_t switch_at[SCRIPT], switch_value[SCRIPT];
 
 static uint32_t random_bits(void) {
     static uint32_t x = 12345;
@@ -39,9 +40,14 @@ static void make_cfg(void) {
     cfg_length = s - (char *)cfg;
 }
 
-/* Reads anywhere; writes anywhere, and every sixteenth asks for a page. */
+/* Reads anywhere; writes anywhere, and every sixteenth asks for a page; the same, where every sixteenth switches a half-page
+   of chapters 8 to 10. */
 static void make_scripts(void) {
     for (int i = 0; i < SCRIPT; i++) {
+        switch_at[i] = random_bits();
+        switch_value[i] = random_bits();
+        if (i % 16 == 0)
+            switch_at[i] = 0x40 + random_bits() % 2 * 0x10 + 8 + random_bits() % 3;
         read_at[i] = random_bits();
         write_at[i] = random_bits();
         value[i] = random_bits();
@@ -109,7 +115,7 @@ static Built built;
 static Building building;
 static uint8_t made[2][ROOM];
 static uint16_t ram[2][WORDS];
-static Cartridge cartridge[2];
+static Cartridge cartridge[2], banked[2];
 static uint32_t heard[2][SCRIPT];
 
 static void proved_dowcrc(void) { sum[0] = luigi_dowcrc(bytes, MIB); }
@@ -185,6 +191,21 @@ static bool same_worlds(void) {
     return !memcmp(&cartridge[0], &cartridge[1], sizeof cartridge[0]) && !memcmp(ram[0], ram[1], sizeof ram[0]);
 }
 
+static void proved_switches(void) {
+    Cartridge *c = &banked[0];
+    for (int i = 0; i < TIMES; i++)
+        luigi_writes(c->mapping, c->permissions, c->flips, ram[0], WORDS, switch_at, SCRIPT, switch_value, SCRIPT);
+}
+
+static void plain_switches(void) {
+    for (int i = 0; i < TIMES; i++)
+        c_writes(&banked[1], ram[1], WORDS, switch_at, switch_value, SCRIPT);
+}
+
+static bool same_banked(void) {
+    return !memcmp(&banked[0], &banked[1], sizeof banked[0]) && !memcmp(ram[0], ram[1], sizeof ram[0]);
+}
+
 /* ---- measuring ---- */
 
 typedef struct {
@@ -204,6 +225,7 @@ static const Row rows[] = {
     {"building from a BIN of 512 KB", 25, proved_build, plain_build, same_build, 0},
     {"10 million bus reads", 9, proved_reads, plain_reads, same_heard, 1e7},
     {"10 million bus writes, every 16th a flip", 9, proved_writes, plain_writes, same_worlds, 1e7},
+    {"10 million writes with switches, every 16th a bankswitch", 9, proved_switches, plain_switches, same_banked, 1e7},
     {"10 million bus reads, the cartridge by value", 3, proved_reads_by_value, plain_reads, same_heard, 1e7},
     {"10 million bus writes, the cartridge by value", 3, proved_writes_by_value, plain_writes, same_worlds, 1e7},
 };
@@ -247,6 +269,9 @@ int main(void) {
     Loading l = c_load(image, image_length, ram[1], WORDS);
     memcpy(ram[0], ram[1], sizeof ram[0]);
     cartridge[0] = cartridge[1] = l.cartridge;
+    for (int p = 16 * 8; p < 16 * 11; p += 8)
+        l.cartridge.permissions[p] |= 8; /* BANKSW */
+    banked[0] = banked[1] = l.cartridge;
     printf("| what | Rattle / C | C | Rattle's rate |\n|---|---|---|---|\n");
     bool fine = true;
     for (size_t i = 0; i < sizeof rows / sizeof rows[0]; i++)

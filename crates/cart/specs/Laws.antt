@@ -1,4 +1,5 @@
 -- Theorems over the definitions.
 pub mod Reads
 pub mod Writes
+pub mod Banks
 pub mod Run

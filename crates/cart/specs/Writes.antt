@@ -1,16 +1,24 @@
--- A write: who takes it, then what it leaves of the active tables and of the RAM (01, The machine).
+-- A write: who takes it, then what it leaves of the active tables and of the RAM (01, The machine; 02, W-202).
 use Prim.Native.Nat.{ℕ, _+_, _*_, _/_, _%_}
 use mathlib.Core.Bool.{Bool, cond, _&&_}
 use mathlib.Core.List.{List}
 use lib.ListN.{getD, set}
 use Rattle.places.specs.declared.Console.{Console}
+use Rattle.switches.specs.declared.Register.{Register}
+use Rattle.switches.specs.declared.Register.the-variants.{HalfPage, Elsewhere}
 use Rattle.switches.specs.declared.Request.{Request}
 use Rattle.switches.specs.declared.Request.the-variants.{Entry, Nothing}
 use Rattle.switches.specs.Flips.{Active, asks, acts, flipped}
+use Rattle.switches.specs.Banks.{registerAt, banked, bankswitched}
 use Rattle.cart.specs.declared.Cell.{Cell}
 use Rattle.cart.specs.declared.Taker.{Taker}
-use Rattle.cart.specs.declared.Taker.the-variants.{Flip, Ram}
+use Rattle.cart.specs.declared.Taker.the-variants.{Bank, Flip, Ram}
 use Rattle.cart.specs.Cells.{cellAt, lies}
+
+-- a write to the register of a half-page that may be switched is that half-page's, by the value's low 8 bits; any other is the next taker's
+abbrev pub bankTaker : List ℕ → Register → ℕ → Taker → Taker
+bankTaker permissions (HalfPage p) v next = cond (banked permissions p) (Bank p (v % 256)) next
+bankTaker permissions Elsewhere v next = next
 
 -- a request that acts is its flip entry's; any other write is the next taker's
 abbrev pub flipTaker : List ℕ → Request → Taker → Taker
@@ -19,7 +27,7 @@ flipTaker flips Nothing next = next
 
 -- who takes a write, by the active tables and the flip table: the first that it asks, else the word that the address reaches
 abbrev pub takerOf : Active → List ℕ → Console → ℕ → Taker
-takerOf a flips at v = flipTaker flips (asks at v) (Ram (cellAt a at))
+takerOf a flips at v = bankTaker (a .permissions) (registerAt at) v (flipTaker flips (asks at v) (Ram (cellAt a at)))
 
 -- the word that a store leaves: NARROW replaces the low 8 bits only
 abbrev pub storedWord : Bool → ℕ → ℕ → ℕ
@@ -32,12 +40,14 @@ stored c ram v =
     (set ram (c .location .0) (storedWord (c .rights .narrow) (getD ram (c .location .0) 0) v))
     ram
 
--- what each taker leaves of the active tables, by the flip table, and of the RAM
+-- what each taker leaves of the active tables, by the flip table, and of the RAM: a write that switches or flips stores nothing
 abbrev pub leftBy : Taker → Active → List ℕ → Active
+leftBy (Bank p first) a flips = bankswitched p first a
 leftBy (Flip n) a flips = flipped flips n a
 leftBy (Ram c) a flips = a
 
 abbrev pub ramBy : Taker → List ℕ → ℕ → List ℕ
+ramBy (Bank p first) ram v = ram
 ramBy (Flip n) ram v = ram
 ramBy (Ram c) ram v = stored c ram v
 

@@ -3,7 +3,7 @@ ghost use mathlib.Core.Path.{_≡_};
 ghost use Rattle.switches.specs.Flips.{active};
 ghost use Rattle.cart.specs.Cells.{locate, rightsOf, cellAt};
 ghost use Rattle.cart.specs.Reads.{fetched, sourceOf, readBy};
-ghost use Rattle.cart.specs.Writes.{storedWord, stored, flipTaker, takerOf, leaves, leavesRam};
+ghost use Rattle.cart.specs.Writes.{storedWord, stored, bankTaker, flipTaker, takerOf, leaves, leavesRam};
 ghost use Rattle.cart.specs.Cartridges.{assembled, fresh, withActive, readOf, writeOf, writeRamOf, resetOf};
 use places::Console;
 use places::FLIP_ENTRIES;
@@ -11,6 +11,7 @@ use places::LENT_LIMIT;
 use places::Locutus;
 use places::PARAGRAPH_SIZE;
 use places::PARAGRAPHS;
+use switches::Register;
 use switches::Request;
 
 // The tables as loaded, the tables as they act now, and the flip table.
@@ -47,8 +48,10 @@ pub enum Answer {
     Silence,
 }
 
-// Who takes a write: the flip entry of this number, or a word of the RAM.
+// Who takes a write: the half-page with this first paragraph, which is switched to this paragraph number; the flip entry of this
+// number; or a word of the RAM.
 pub enum Taker {
+    Bank(u8, u8),
     Flip(u8),
     Ram(Cell),
 }
@@ -160,6 +163,21 @@ pub fn read(c: Cartridge, ram: &[u16], at: Console) -> Answer
     read_by(&c.mapping, &c.permissions, ram, at)
 }
 
+// A write to the register of a half-page that may be switched is that half-page's; any other is the next taker's.
+fn bank_asked(permissions: &[u8; PARAGRAPHS], r: Register, value: u16, next: Taker) -> Taker
+    ensures { λ t. ⌜ t ≡ bankTaker (now (permissions .entry)) r value next ⌝ }
+{
+    match r {
+        Register::HalfPage(p) => {
+            if switches::banked(permissions, p) {
+                return Taker::Bank(p, (value % 256) as u8);
+            }
+            next
+        }
+        Register::Elsewhere => next,
+    }
+}
+
 // A request that acts is its flip entry's; any other write is the next taker's.
 fn flip_asked(flips: &[u16; FLIP_ENTRIES], r: Request, next: Taker) -> Taker
     ensures { λ t. ⌜ t ≡ flipTaker (now (flips .entry)) r next ⌝ }
@@ -185,10 +203,15 @@ fn taker_of<'a>(
 ) -> Taker
     ensures { λ t. ⌜ t ≡ takerOf (active (now (mapping .entry)) (now (permissions .entry))) (now (flips .entry)) at value ⌝ }
 {
-    flip_asked(
-        flips,
-        switches::asked(at, value),
-        Taker::Ram(cell_at(mapping, permissions, at)),
+    bank_asked(
+        permissions,
+        switches::register_at(at),
+        value,
+        flip_asked(
+            flips,
+            switches::asked(at, value),
+            Taker::Ram(cell_at(mapping, permissions, at)),
+        ),
     )
 }
 
@@ -230,6 +253,7 @@ pub fn write_by<'a>(
         × (now (ram .exit) ≡ leavesRam (active (now (mapping .entry)) (now (permissions .entry))) (now (flips .entry)) (now (ram .entry)) at value) ⌝ }
 {
     match taker_of(mapping, permissions, flips, at, value) {
+        Taker::Bank(p, first) => switches::bankswitch(mapping, p, first),
         Taker::Flip(n) => switches::flip(mapping, permissions, flips, n),
         Taker::Ram(cell) => store(cell, ram, value),
     }

@@ -135,8 +135,8 @@ module _ (size tables blocks words : ℕ) where
   some-ended e = rw (ne-eqb _ _ e)
 
 -- behind the passes
-module _ (s : List ℕ) (t blocks words : ℕ) (c : Cartridge) (ec : c ≡ cartridgeOf (tablesAt s t)) (b : Bool) (eb : b ≡ unsupported (flagsOf s) (c .permissions) (c .flips)) where
-  ten-is : b ≡ unsupported (flagsOf s) (cartridgeOf (tablesAt s t) .permissions) (cartridgeOf (tablesAt s t) .flips)
+module _ (s : List ℕ) (t blocks words : ℕ) (c : Cartridge) (ec : c ≡ cartridgeOf (tablesAt s t)) (b : Bool) (eb : b ≡ unsupported (flagsOf s) (c .flips)) where
+  ten-is : b ≡ unsupported (flagsOf s) (cartridgeOf (tablesAt s t) .flips)
   ten-is = eb ∙ rw ec
 
   module _ (h : b ≡ true) where

@@ -179,7 +179,7 @@ fn finish(s: &[u8], t: usize, blocks: usize, words: usize, ram: &mut [u16]) -> L
     let cartridge = tables::cartridge_of(&s[a..e]);
     let from = header::FLAGS_AT;
     let to = header::UID_AT;
-    if tables::refused(&s[from..to], &cartridge.permissions, &cartridge.flips) {
+    if tables::refused(&s[from..to], &cartridge.flips) {
         return refuse(basics::refuse(10, 0));
     }
     store_blocks(s, ram);

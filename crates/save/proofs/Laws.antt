@@ -96,27 +96,27 @@ module _ (marks : List Bool) (n p : ℕ) where
   past-not e = rw (is-off e)
 
 -- the refusals: a row that holds with none before it
-module _ (room : ℕ) (flags permissions flips : List ℕ) (words : ℕ) (marks : List Bool) (long : ℕ) (r : Refusal) (b : Bool) (eb : b ≡ unsupported flags permissions flips) where
-  pub judge-10 : b ≡ true → r ≡ refuse 10 0 → r ≡ judgedBy room flags permissions flips words marks long
+module _ (room : ℕ) (flags flips : List ℕ) (words : ℕ) (marks : List Bool) (long : ℕ) (r : Refusal) (b : Bool) (eb : b ≡ unsupported flags flips) where
+  pub judge-10 : b ≡ true → r ≡ refuse 10 0 → r ≡ judgedBy room flags flips words marks long
   unfolding judgedBy
   judge-10 h e = rw (← eb, h) e
 
   module _ (h : b ≡ false) (first : ℕ) (ef : first ≡ lowest locutusParagraphs (past marks words)) where
-    pub judge-9 : first < locutusParagraphs → r ≡ refuse 9 first → r ≡ judgedBy room flags permissions flips words marks long
+    pub judge-9 : first < locutusParagraphs → r ≡ refuse 9 first → r ≡ judgedBy room flags flips words marks long
     unfolding judgedBy
     judge-9 l e = rw (← eb, h, any-low locutusParagraphs (past marks words) first ef l, ← ef) e
 
     module _ (l : locutusParagraphs ≤ first) where
-      pub judge-1 : imageLimit < long → r ≡ refuse 1 0 → r ≡ judgedBy room flags permissions flips words marks long
+      pub judge-1 : imageLimit < long → r ≡ refuse 1 0 → r ≡ judgedBy room flags flips words marks long
       unfolding judgedBy
       judge-1 k e = rw (← eb, h, any-not locutusParagraphs (past marks words) first ef l, lt-ltb _ _ k) e
 
       module _ (k : long ≤ imageLimit) where
-        pub judge-29 : room < long → r ≡ refuse 29 0 → r ≡ judgedBy room flags permissions flips words marks long
+        pub judge-29 : room < long → r ≡ refuse 29 0 → r ≡ judgedBy room flags flips words marks long
         unfolding judgedBy
         judge-29 j e = rw (← eb, h, any-not locutusParagraphs (past marks words) first ef l, le-ltb _ _ k, lt-ltb _ _ j) e
 
-        pub judge-none : long ≤ room → r ≡ noRefusal → r ≡ judgedBy room flags permissions flips words marks long
+        pub judge-none : long ≤ room → r ≡ noRefusal → r ≡ judgedBy room flags flips words marks long
         unfolding judgedBy
         judge-none j e = rw (← eb, h, any-not locutusParagraphs (past marks words) first ef l, le-ltb _ _ k, le-ltb _ _ j) e
 
@@ -150,7 +150,7 @@ module _ (out flags uid : List ℕ) (t : Tables) (ram : List ℕ) (marks : List 
       wrote-part out _ f a (long - a) y₂ g w₁ (omega arith) (omega arith) (omega arith) e₂ in
       put-wrote out _ (imageBy c) (rw (image-parts flags uid t (marked ram marks)) w₂)
 
-  module _ (words : ℕ) (ew : words ≡ lent ram) (r : Refusal) (er : r ≡ judgedBy (length out) flags (t .permissions) (t .flips) words marks long) where
+  module _ (words : ℕ) (ew : words ≡ lent ram) (r : Refusal) (er : r ≡ judgedBy (length out) flags (t .flips) words marks long) where
     same-refusal : r ≡ refusalOf out c
     unfolding judgedBy refusalOf
     same-refusal = er ∙ rw (ew, image-long)

@@ -50,7 +50,7 @@ pastLent c p = past (c .marks) (lent (c .ram)) p
 -- the refusals in their order: 10 where loading would; 9 for the lowest such paragraph; 1; 29
 abbrev pub refusalRows : List ℕ → Content → List (Row Refusal)
 refusalRows out c =
-    (unsupported (c .flags) (c .tables .permissions) (c .tables .flips), refuse 10 0)
+    (unsupported (c .flags) (c .tables .flips), refuse 10 0)
     ∷ (any locutusParagraphs (pastLent c), refuse 9 (lowest locutusParagraphs (pastLent c)))
     ∷ (ltb imageLimit (length (imageBy c)), refuse 1 0)
     ∷ (ltb (length out) (length (imageBy c)), refuse 29 0)

@@ -230,18 +230,17 @@ fn lowest_past(marks: &[bool; LOCUTUS_PARAGRAPHS], n: usize) -> usize
 }
 
 // The refusals of a writing whose image has so many bytes, in their order: 10, 9, 1, 29.
-fn judge<'a>(
+fn judge(
     room: usize,
     flags: &[u8; FLAGS_SIZE],
-    permissions: &'a [u8; PARAGRAPHS],
-    flips: &'a [u16; PARAGRAPHS],
+    flips: &[u16; PARAGRAPHS],
     words: usize,
     marks: &[bool; LOCUTUS_PARAGRAPHS],
     long: usize,
 ) -> Refusal
-    ensures { λ r. ⌜ r ≡ judgedBy room (now (flags .entry)) (now (permissions .entry)) (now (flips .entry)) words (now (marks .entry)) long ⌝ }
+    ensures { λ r. ⌜ r ≡ judgedBy room (now (flags .entry)) (now (flips .entry)) words (now (marks .entry)) long ⌝ }
 {
-    if tables::refused(flags, permissions, flips) {
+    if tables::refused(flags, flips) {
         return basics::refuse(10, 0);
     }
     let first = lowest_past(marks, words);
@@ -291,7 +290,6 @@ pub fn write<'a>(
     let r = judge(
         out.len(),
         flags,
-        permissions,
         flips,
         places::lent_words(ram),
         marks,

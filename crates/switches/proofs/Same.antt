@@ -6,6 +6,9 @@ use Rattle.switches.proofs.asked.Reads as asked
 use Rattle.switches.proofs.acts.Reads as acts
 use Rattle.switches.proofs.first_k.Reads as first-k
 use Rattle.switches.proofs.flip.Reads as flip
+use Rattle.switches.proofs.register_at.Reads as register-at
+use Rattle.switches.proofs.banked.Reads as banked
+use Rattle.switches.proofs.bankswitch.Reads as bankswitch
 
 pub one-asked : OneAnswer asked.Learnt
 one-asked κs a y z e f = same
@@ -21,3 +24,12 @@ one-flip-mapping κs a y z e f p q = same (p .0) (q .0)
 
 pub one-flip-permissions : OneLent flip.Learnt (λ κs e. now (e .1 .0))
 one-flip-permissions κs a y z e f p q = same (p .1) (q .1)
+
+pub one-register-at : OneAnswer register-at.Learnt
+one-register-at κs a y z e f = same
+
+pub one-banked : OneAnswer banked.Learnt
+one-banked κs a y z e f = same
+
+pub one-bankswitch : OneLent bankswitch.Learnt (λ κs e. now (e .0))
+one-bankswitch κs a y z e f = same

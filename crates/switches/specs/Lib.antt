@@ -1,3 +1,4 @@
--- Page flips.
+-- Page flips and bankswitches.
 pub mod Flips
+pub mod Banks
 pub mod Laws

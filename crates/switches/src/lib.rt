@@ -1,13 +1,17 @@
-// What a write asks of a cartridge's tables, and what they become: page flips (01, "The machine"). No word of the cartridge.
+// What a write asks of a cartridge's tables, and what they become: page flips (01, "The machine") and bankswitches (02, W-202). No word of the cartridge.
 ghost use Prim.Native.Nat.{_/_, _≤_};
 ghost use mathlib.Core.Path.{_≡_};
 ghost use Rattle.places.specs.Limits.{chapterPages};
 ghost use Rattle.switches.specs.Flips.{active, asks, acts, firstK, flipMapping, flipPermissions, turned, flipped};
+ghost use Rattle.switches.specs.Banks.{halfPageParagraphs, registerAt, banked, numberFrom, switched};
 use places::CHAPTER_PAGES;
 use places::CHAPTER_PARAGRAPHS;
 use places::Console;
 use places::FLIP_ENTRIES;
 use places::PARAGRAPHS;
+
+// The paragraphs of a half-page.
+pub const HALF_PAGE_PARAGRAPHS: usize = 8;
 
 // What a write asks of the flip table: an entry, by its number, or nothing.
 pub enum Request {
@@ -84,4 +88,49 @@ pub fn flip(
     let entry = flips[i];
     flip_mapping(mapping, n, entry);
     flip_permissions(permissions, n, entry);
+}
+
+// The bankswitch register at an address: that of the half-page with this first paragraph, or none.
+pub enum Register {
+    HalfPage(u8),
+    Elsewhere,
+}
+
+// $0040-$004F is the register of half-page $x000-$x7FF and $0050-$005F that of $x800-$xFFF, x being the low digit.
+pub fn register_at(at: Console) -> Register
+    ensures { λ r. ⌜ r ≡ registerAt at ⌝ }
+{
+    let a = at.0 as usize;
+    if a / 0x10 == 4 {
+        return Register::HalfPage((CHAPTER_PARAGRAPHS * (a % 0x10)) as u8);
+    }
+    if a / 0x10 == 5 {
+        return Register::HalfPage((CHAPTER_PARAGRAPHS * (a % 0x10) + HALF_PAGE_PARAGRAPHS) as u8);
+    }
+    Register::Elsewhere
+}
+
+// A half-page may be switched by the BANKSW bit of its first paragraph p.
+pub fn banked(permissions: &[u8; PARAGRAPHS], p: u8) -> bool
+    ensures { λ r. ⌜ r ≡ banked (now (permissions .entry)) p ⌝ }
+{
+    let i = p as usize;
+    permissions[i] / 8 % 2 == 1
+}
+
+// Paragraph j behind number v, going round from 255 to 0.
+fn number_from(v: u8, j: u8) -> u16
+    ensures { λ r. ⌜ r ≡ numberFrom v j ⌝ }
+{
+    std::num::wrapping_add_u8(v, j) as u16
+}
+
+// The eight paragraphs of paragraph p's half-page take number v and the seven after it.
+pub fn bankswitch(mapping: &mut [u16; PARAGRAPHS], p: u8, v: u8)
+    ensures { λ _. ⌜ now (mapping .exit) ≡ switched (p / halfPageParagraphs) v (now (mapping .entry)) ⌝ }
+{
+    let h = p as usize / HALF_PAGE_PARAGRAPHS;
+    for j in 0..HALF_PAGE_PARAGRAPHS {
+        mapping[HALF_PAGE_PARAGRAPHS * h + j] = number_from(v, j as u8);
+    }
 }

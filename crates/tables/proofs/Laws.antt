@@ -1,6 +1,6 @@
 -- One law for each return, its premises as the code's tests and calls give them.
 use Prim.Native.Nat.{ℕ, _%_, _<_, _≤_, _-_}
-use mathlib.Core.Bool.{Bool, false, true}
+use mathlib.Core.Bool.{Bool, true}
 use mathlib.Core.Path.{_≡_, refl, sym}
 use mathlib.Core.List.{List, _++_, [], append-assoc}
 use native.Mathlib.Nat.{div-one}
@@ -14,30 +14,25 @@ use Rattle.basics.specs.Laws.Bytes.{length-bytes16}
 use Rattle.basics.specs.Laws.Wrote.{Wrote, wrote-none}
 use Rattle.basics.specs.Laws.Puts.{put-short, put-wrote, wrote-put}
 use Rattle.places.specs.Limits.{paragraphs}
-use Rattle.tables.specs.Tables.{tables, permissionsAt, flipsAt, tablesSize, tablesPayload, unsupported, switches, flipsOne}
+use Rattle.tables.specs.Tables.{tables, permissionsAt, flipsAt, tablesSize, tablesPayload, unsupported, flipsOne}
 use Rattle.tables.specs.Laws.Tables.{length-tables}
 
 -- refusal 10: a test that holds with none before it, and the last
-module _ (flags permissions flips : List ℕ) (x : ℕ) (ex : x ≡ getD flags 2 0) where
-  pub jlp-set : (x % 4 ≡ 0 → ⊥) → true ≡ unsupported flags permissions flips
+module _ (flags flips : List ℕ) (x : ℕ) (ex : x ≡ getD flags 2 0) where
+  pub jlp-set : (x % 4 ≡ 0 → ⊥) → true ≡ unsupported flags flips
   unfolding unsupported
   jlp-set h = simp (← ex, div-one, ne-eqb _ _ h)
 
   module _ (no-jlp : x % 4 ≡ 0) (y : ℕ) (ey : y ≡ getD flags 4 0) where
-    pub mapper-set : y % 2 ≡ 1 → true ≡ unsupported flags permissions flips
+    pub mapper-set : y % 2 ≡ 1 → true ≡ unsupported flags flips
     unfolding unsupported
     mapper-set h = simp (← ex, ← ey, div-one, eq-eqb _ _ no-jlp, eq-eqb _ _ h)
 
-    module _ (no-mapper : y % 2 ≡ 1 → ⊥) where
-      pub switch-set : (b : Bool) → b ≡ switches permissions → b ≡ true → true ≡ unsupported flags permissions flips
-      unfolding unsupported
-      switch-set b eb h = simp (← ex, ← ey, div-one, eq-eqb _ _ no-jlp, ne-eqb _ _ no-mapper, ← eb, h)
+    pub flips-decide : (c : Bool) → (y % 2 ≡ 1 → ⊥) → c ≡ flipsOne flips → c ≡ unsupported flags flips
+    unfolding unsupported
+    flips-decide c no-mapper ec = simp (← ex, ← ey, div-one, eq-eqb _ _ no-jlp, ne-eqb _ _ no-mapper, ec)
 
-      pub flips-decide : (b c : Bool) → b ≡ switches permissions → b ≡ false → c ≡ flipsOne flips → c ≡ unsupported flags permissions flips
-      unfolding unsupported
-      flips-decide b c eb h ec = simp (← ex, ← ey, div-one, eq-eqb _ _ no-jlp, ne-eqb _ _ no-mapper, ← eb, h, ec)
-
-pub ruleset tens = (jlp-set, mapper-set, switch-set, flips-decide)
+pub ruleset tens = (jlp-set, mapper-set, flips-decide)
 
 -- a buffer without room for the tables, and one with: each in its part
 module _ (out m p f : List ℕ) (em : length m ≡ paragraphs) (ep : length p ≡ paragraphs) (ef : length f ≡ paragraphs) where

@@ -1,6 +1,6 @@
 -- The three tables in the payload of a tables block: as they are written, as they are read, the cartridge that they make, and what is
 -- refused of them (01, File layout, Numbers that come back; 001, Block Type 0x01).
-use Prim.Native.Nat.{ℕ, _+_, _*_, _/_, _%_}
+use Prim.Native.Nat.{ℕ, _+_, _*_}
 use mathlib.Core.List.{List, _++_, _∷_, []}
 use mathlib.Core.Bool.{Bool, not, _||_}
 use lib.ListN.{getD}
@@ -57,34 +57,18 @@ cartridgeWith t = fresh (t .mapping) (t .permissions) (t .flips)
 unfoldable pub cartridgeOf : List ℕ → Cartridge
 cartridgeOf payload = cartridgeWith (tablesIn payload)
 
--- BANKSW is bit 3 of a permission; a paragraph has it, and a flip entry has PFE (001, Permissions Table, Page Flipping Table)
-abbrev pub BANKSW : ℕ → Bool
-BANKSW x = eqb (x / 8 % 2) 1
-
-abbrev pub hasBANKSW : List ℕ → ℕ → Bool
-hasBANKSW permissions p = BANKSW (getD permissions p 0)
-
+-- a flip entry has PFE (001, Page Flipping Table)
 abbrev pub hasPFE : List ℕ → ℕ → Bool
 hasPFE flips n = PFE (getD flips n 0)
 
--- a half-page is 8 paragraphs (001, LUIGI Memory Organization Terminology)
-abbrev pub halfPageParagraphs : ℕ
-halfPageParagraphs = 8
-
-abbrev pub halfPages : ℕ
-halfPages = paragraphs / halfPageParagraphs
-
--- BANKSW on a paragraph divisible by 8; PFE in chapter 1
-abbrev pub switches : List ℕ → Bool
-switches permissions = any halfPages (λ h. hasBANKSW permissions (halfPageParagraphs * h))
-
+-- PFE in chapter 1
 abbrev pub flipsOne : List ℕ → Bool
 flipsOne flips = any chapterPages (λ y. hasPFE flips (chapterPages + y))
 
--- 10: JLP field (flags 16-17) not 0, flag 32 set, or one of these
-unfoldable pub unsupported : List ℕ → List ℕ → List ℕ → Bool
-unsupported flags permissions flips = not (eqb (field flags 16) 0) || (flag flags 32 || (switches permissions || flipsOne flips))
+-- 10: JLP field (flags 16-17) not 0, flag 32 set, or PFE in chapter 1; of BANKSW it no longer speaks (02, W-202)
+unfoldable pub unsupported : List ℕ → List ℕ → Bool
+unsupported flags flips = not (eqb (field flags 16) 0) || (flag flags 32 || flipsOne flips)
 
 -- what is refused of a header's flags and of the tables, in 01's order
 unfoldable pub tablesRows : List ℕ → Tables → List (Row Refusal)
-tablesRows flags t = (unsupported flags (t .permissions) (t .flips), refuse 10 0) ∷ []
+tablesRows flags t = (unsupported flags (t .flips), refuse 10 0) ∷ []

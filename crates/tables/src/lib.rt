@@ -5,7 +5,7 @@ ghost use lib.ListN.{length};
 ghost use Rattle.basics.specs.Lists.{putFront};
 ghost use Rattle.places.specs.Limits.{paragraphs};
 ghost use Rattle.cart.specs.Cartridges.{noCartridge};
-ghost use Rattle.tables.specs.Tables.{tables, tablesPayload, tablesSize, wordsAt, bytesAt, cartridgeOf, switches, flipsOne, unsupported};
+ghost use Rattle.tables.specs.Tables.{tables, tablesPayload, tablesSize, wordsAt, bytesAt, cartridgeOf, flipsOne, unsupported};
 use basics::byte_at;
 use basics::put_bytes;
 use basics::put_words;
@@ -20,11 +20,6 @@ pub const PERMISSIONS_AT: usize = 2 * PARAGRAPHS;
 pub const FLIPS_AT: usize = PERMISSIONS_AT + PARAGRAPHS;
 
 pub const TABLES_SIZE: usize = FLIPS_AT + 2 * PARAGRAPHS;
-
-// The paragraphs of a half-page, and the half-pages.
-pub const HALF_PAGE_PARAGRAPHS: usize = 8;
-
-pub const HALF_PAGES: usize = PARAGRAPHS / HALF_PAGE_PARAGRAPHS;
 
 // A table of words, and of bytes, that stands at a place of the payload.
 fn words_at(t: &[u8], at: usize) -> [u16; PARAGRAPHS]
@@ -110,18 +105,6 @@ pub fn write<'a>(
     put_tables(out, mapping, permissions, flips)
 }
 
-// BANKSW on a paragraph divisible by 8.
-fn has_switch(permissions: &[u8; PARAGRAPHS]) -> bool
-    ensures { λ r. ⌜ r ≡ switches (now (permissions .entry)) ⌝ }
-{
-    for h in 0..HALF_PAGES {
-        if permissions[HALF_PAGE_PARAGRAPHS * h] / 8 % 2 == 1 {
-            return true;
-        }
-    }
-    false
-}
-
 // PFE in chapter 1.
 fn has_flip(flips: &[u16; PARAGRAPHS]) -> bool
     ensures { λ r. ⌜ r ≡ flipsOne (now (flips .entry)) ⌝ }
@@ -135,20 +118,13 @@ fn has_flip(flips: &[u16; PARAGRAPHS]) -> bool
 }
 
 // Refusal 10.
-pub fn refused<'a>(
-    flags: &[u8],
-    permissions: &'a [u8; PARAGRAPHS],
-    flips: &'a [u16; PARAGRAPHS],
-) -> bool
-    ensures { λ r. ⌜ r ≡ unsupported (now (flags .entry)) (now (permissions .entry)) (now (flips .entry)) ⌝ }
+pub fn refused(flags: &[u8], flips: &[u16; PARAGRAPHS]) -> bool
+    ensures { λ r. ⌜ r ≡ unsupported (now (flags .entry)) (now (flips .entry)) ⌝ }
 {
     if byte_at(flags, 2) % 4 != 0 {
         return true;
     }
     if byte_at(flags, 4) % 2 == 1 {
-        return true;
-    }
-    if has_switch(permissions) {
         return true;
     }
     has_flip(flips)

@@ -6,24 +6,23 @@ use mathlib.Core.Path.{refl, _≡_}
 use mathlib.Core.Bool.{true, false}
 use native.Mathlib.Omega.{arith}
 use lib.ListN.{length, getD, length-append}
-use borrow.Author.Tests.{ne-eqb}
 use Rattle.basics.specs.Laws.Tables.{length-table}
 use Rattle.basics.specs.Lists.{joined, Each, none, also}
 use Rattle.basics.specs.Counts.{count}
 use Rattle.basics.specs.Laws.Counts.{count-below, any-nothing}
 use Rattle.places.specs.Limits.{locutusParagraphs, imageLimit}
 use Rattle.switches.specs.Flips.{PFE}
-use Rattle.tables.specs.Tables.{BANKSW, unsupported, switches, flipsOne}
+use Rattle.tables.specs.Tables.{unsupported, flipsOne}
 use Rattle.hunk.specs.Hunk.{Hunk}
 use Rattle.save.specs.Chosen.{chosen, paragraphHunk, hunkBlock, imageFor, Sized}
 use Rattle.save.specs.Laws.Chosen.{Lies, chosen-each, length-chosen, hunk-block-most, length-sized}
 use Rattle.lines.specs.declared.Line.{Line}
 use Rattle.rules.specs.Accepted.{Accepted}
 use Rattle.rules.specs.Laws.Rules.{good}
-use Rattle.layout.specs.Layout.{mappingAt, permissionsAt, flipEntry, needed, covered, paragraphWords, pages, permissionsTable, flipTable}
+use Rattle.layout.specs.Layout.{mappingAt, permissionsAt, flipEntry, needed, covered, paragraphWords, pages, flipTable}
 use Rattle.layout.specs.Laws.Uses.{length-words, covered-inside, covered-below}
 use Rattle.plan.specs.Laws.Pages.{pages-most}
-use Rattle.layout.specs.Laws.Tables.{permissions-entry, permissions-below, unflipped, flip-entry}
+use Rattle.layout.specs.Laws.Tables.{unflipped, flip-entry}
 use Rattle.build.specs.Building.{flagBytes, uidOf, tablesFor, hunksFor}
 
 -- a paragraph's hunk is a block of at most 779 bytes
@@ -66,20 +65,14 @@ module _ (bin cfg : List ℕ) (lines : List Line) where
           hunks-few,
         )
 
-    -- no BANKSW and no PFE in chapter 1
-    unswitched : (h : ℕ) → h < 32 → BANKSW (getD (permissionsTable lines) (8 * h) 0) ≡ false
-    unswitched h b =
-        rw (permissions-entry lines (8 * h) (omega arith))
-        (ne-eqb (permissionsAt lines 0 (8 * h) / 8 % 2) 1 (λ e. omega (arith, permissions-below lines 0 (8 * h))))
-
+    -- no PFE in chapter 1
     unset : (y : ℕ) → y < 16 → PFE (getD (flipTable lines) (16 + y) 0) ≡ false
     unset y b =
         let e : flipEntry lines ((16 + y) / 16) ((16 + y) % 16) ≡ 0 = unflipped (good accepted) ((16 + y) / 16) ((16 + y) % 16) (omega arith) in
         rw (flip-entry lines (16 + y) (omega arith), e)
 
-    pub supported : unsupported flagBytes (permissionsTable lines) (flipTable lines) ≡ false
+    pub supported : unsupported flagBytes (flipTable lines) ≡ false
     unfolding unsupported
     supported =
-        let s : switches (permissionsTable lines) ≡ false = any-nothing 32 _ unswitched in
         let f : flipsOne (flipTable lines) ≡ false = any-nothing 16 _ unset in
-        rw (s, f)
+        rw f

@@ -10,6 +10,9 @@ returns c = search writes
 returns-2 : tie.Need-returns-2
 returns-2 c = search writes
 
+returns-3 : tie.Need-returns-3
+returns-3 c = search writes
+
 pub write-by-spec : {M : Type 1} → statement M
 write-by-spec =
     tie.close
@@ -19,6 +22,9 @@ write-by-spec =
     (λ c κs. search needs)
     (λ c. search needs)
     (λ c κs. search needs)
-    returns
     (λ c. search needs)
-    returns-2)
+    (λ c κs. search needs)
+    returns
+    returns-2
+    (λ c. search needs)
+    returns-3)

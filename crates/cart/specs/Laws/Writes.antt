@@ -1,5 +1,5 @@
 -- Laws of writes: a cell and a request as the code comes to them, and what a write leaves by the taker that the code has found.
-use Prim.Native.Nat.{ℕ, _≤_, _<_}
+use Prim.Native.Nat.{ℕ, _≤_, _<_, _%_}
 use mathlib.Core.List.{List}
 use mathlib.Core.Path.{_≡_}
 use mathlib.Core.Bool.{Bool, not, true, false}
@@ -7,13 +7,16 @@ use lib.ListN.{getD, set}
 use borrow.Author.Tests.{lt-ltb, le-ltb, not-true, not-false}
 use Rattle.places.specs.declared.Console.{Console}
 use Rattle.places.specs.Limits.{lent}
+use Rattle.switches.specs.declared.Register.{Register}
+use Rattle.switches.specs.declared.Register.the-variants.{HalfPage, Elsewhere}
 use Rattle.switches.specs.declared.Request.{Request}
 use Rattle.switches.specs.declared.Request.the-variants.{Entry}
 use Rattle.switches.specs.Flips.{Active, acts}
+use Rattle.switches.specs.Banks.{banked}
 use Rattle.cart.specs.declared.Cell.{Cell}
 use Rattle.cart.specs.declared.Taker.{Taker}
-use Rattle.cart.specs.declared.Taker.the-variants.{Flip}
-use Rattle.cart.specs.Writes.{storedWord, stored, flipTaker, takerOf, leftBy, ramBy, leaves, leavesRam}
+use Rattle.cart.specs.declared.Taker.the-variants.{Bank, Flip}
+use Rattle.cart.specs.Writes.{storedWord, stored, bankTaker, flipTaker, takerOf, leftBy, ramBy, leaves, leavesRam}
 
 -- shut by its rights; past the n words that are lent; open, to the word w
 module _ (c : Cell) (ram : List ℕ) (v : ℕ) where
@@ -31,6 +34,14 @@ module _ (c : Cell) (ram : List ℕ) (v : ℕ) where
     store-open w l e = rw (not-false (c .rights .write) r, ← h, lt-ltb _ _ l, e)
 
 pub ruleset stores = (store-shut, store-past, store-open)
+
+-- a register whose half-page may be switched, or may not
+module _ (permissions : List ℕ) (r : Register) (h v : ℕ) (next : Taker) (b : Bool) (e : r ≡ HalfPage h) (q : b ≡ banked permissions h) where
+  pub bank-takes : b ≡ true → Bank h (v % 256) ≡ bankTaker permissions r v next
+  bank-takes p = rw (e, ← q, p)
+
+  pub bank-passes : b ≡ false → next ≡ bankTaker permissions r v next
+  bank-passes p = rw (e, ← q, p)
 
 -- a request whose entry acts, or does not
 module _ (flips : List ℕ) (r : Request) (n : ℕ) (next : Taker) (b : Bool) (e : r ≡ Entry n) (h : b ≡ acts flips n) where

@@ -6,9 +6,11 @@ use mathlib.Core.Option.{Option, none, some}
 use mathlib.Core.Bool.{Bool, cond, true, false}
 use native.Mathlib.Omega.{arith}
 use lib.ListN.{getD}
+use borrow.Author.Tests.{ne-eqb}
 use Rattle.basics.specs.Laws.Tables.{getD-table}
 use Rattle.basics.specs.Laws.Tests.{cases}
 use Rattle.places.specs.Limits.{chapterParagraphs, chapterPages, flipEntries, paragraphs}
+use Rattle.switches.specs.Banks.{BANKSW}
 use Rattle.lines.specs.declared.Line.{Line}
 use Rattle.lines.specs.declared.Entry.{Entry}
 use Rattle.lines.specs.declared.Entry.the-variants.{Rom, Paged, Ram}
@@ -28,7 +30,7 @@ module _ (lines : List Line) where
   pub flip-entry : (n : ℕ) → n < flipEntries → getD (flipTable lines) n 0 ≡ flipEntry lines (n / chapterPages) (n % chapterPages)
   flip-entry n h = getD-table 0 flipEntries (λ i. flipEntry lines (i / chapterPages) (i % chapterPages)) n h
 
--- no permissions have BANKSW
+-- no permissions have BANKSW, on whatever page
 entry-below : (e : Entry) → kindBy e < 8
 entry-below (Rom lo hi at) = omega arith
 entry-below (Paged lo hi at y) = omega arith
@@ -46,6 +48,9 @@ below-by false n o = line-below o
 pub permissions-below : (lines : List Line) (y p : ℕ) → permissionsAt lines y p < 8
 unfolding permissionsAt
 permissions-below lines y p = below-by (flippable lines p) (flipEntry lines (p / chapterParagraphs) y) (lineIn lines 0 p)
+
+pub unbanked : (lines : List Line) (y p : ℕ) → BANKSW (permissionsAt lines y p) ≡ false
+unbanked lines y p = ne-eqb (permissionsAt lines y p / 8 % 2) 1 (λ e. omega (arith, permissions-below lines y p))
 
 -- no entry of chapters 0 and 1 is set
 pub unflipped : {lines : List Line} → Good lines → (x y : ℕ) → x < 2 → flipEntry lines x y ≡ 0

@@ -69,7 +69,7 @@ loadedBy s t blocks words =
     record { refusal = noRefusal; cartridge = cartridgeOf (tablesAt s t); compat = compatOf (flagsOf s); blocks = blocks; words = words }
 
 unfoldable pub finishedOf : List ℕ → ℕ → ℕ → ℕ → Loading
-finishedOf s t blocks words = cond (unsupported (flagsOf s) (cartridgeOf (tablesAt s t) .permissions) (cartridgeOf (tablesAt s t) .flips)) (refused (refuse 10 0)) (loadedBy s t blocks words)
+finishedOf s t blocks words = cond (unsupported (flagsOf s) (cartridgeOf (tablesAt s t) .flips)) (refused (refuse 10 0)) (loadedBy s t blocks words)
 
 -- the hunk of a block of type t, stored; each hunk stored, one block after the other
 unfoldable pub blockStored : List ℕ → ℕ → List ℕ → List ℕ
@@ -80,4 +80,4 @@ eachStored [] ram = ram
 eachStored (x ∷ xs) ram = eachStored xs (blockStored x (typeOf x) ram)
 
 unfoldable pub finishedRamOf : List ℕ → ℕ → List ℕ → List ℕ
-finishedRamOf s t ram = cond (unsupported (flagsOf s) (cartridgeOf (tablesAt s t) .permissions) (cartridgeOf (tablesAt s t) .flips)) ram (eachStored (blocksIn s) ram)
+finishedRamOf s t ram = cond (unsupported (flagsOf s) (cartridgeOf (tablesAt s t) .flips)) ram (eachStored (blocksIn s) ram)

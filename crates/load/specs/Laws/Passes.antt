@@ -191,7 +191,7 @@ module _ (s : List ℕ) (m : ℕ) where
       loads-tabled = here .tabled
 
       abbrev ten : Bool
-      ten = unsupported (flagsOf s) (tablesIn (payloadOfTables (blocksIn s)) .permissions) (tablesIn (payloadOfTables (blocksIn s)) .flips)
+      ten = unsupported (flagsOf s) (tablesIn (payloadOfTables (blocksIn s)) .flips)
 
       refusal-ten : refusalOf s m ≡ cond ten (refuse 10 0) noRefusal
       unfolding tablesRows

@@ -2,15 +2,18 @@
 use Prim.Native.Nat.{ℕ}
 use mathlib.Core.List.{List, _∷_, []}
 use mathlib.Core.Path.{_≡_, ap, refl}
+use mathlib.Core.Bool.{false}
+use lib.ListN.{getD}
+use Rattle.switches.specs.Banks.{BANKSW}
 use Rattle.cart.specs.declared.Answer.{Answer}
-use Rattle.cart.specs.Run.{World, Access, step, Read, Write, Reset, said, answers}
+use Rattle.cart.specs.Run.{World, Access, step, Read, Write, Reset, said, after, answers}
 use Rattle.lines.specs.declared.Line.{Line}
 use Rattle.rules.specs.Laws.Rules.{Good, good}
 use Rattle.rules.specs.Accepted.{Accepted}
 use Rattle.plays.specs.Plain.{Plain, plainStep, plainSaid, plainAnswers, fresh}
 use Rattle.plays.specs.Laws.Tabled.{Tabled, tabled-reset, tabled-start}
 use Rattle.plays.specs.Laws.Held.{Held, held-start}
-use Rattle.plays.specs.Laws.Steps.{tables-after, ram-after, read-alike}
+use Rattle.plays.specs.Laws.Steps.{tabled-unbanked, tables-after, ram-after, read-alike}
 use Rattle.plays.specs.Loaded.{Loaded, loaded}
 
 -- the tables are those of the page numbers, and each word of a line is at its place
@@ -27,6 +30,10 @@ module _ {bin : List ℕ} {lines : List Line} (g : Good lines) where
         held = ram-after g (w .cartridge) (w .ram) (c .number) (c .ram) (t .tabled) (t .held) a v;
       }
   step-tied w c Reset t = record { tabled = tabled-reset (t .tabled); held = t .held }
+
+  unbanked-after : (w : World) (c : Plain) (xs : List Access) → Tied bin lines w c → (p : ℕ) → BANKSW (getD (after w xs .cartridge .permissions) p 0) ≡ false
+  unbanked-after w c [] t p = tabled-unbanked g (w .cartridge) (c .number) (t .tabled) p
+  unbanked-after w c (x ∷ xs) t p = unbanked-after (step w x) (plainStep lines c x) xs (step-tied w c x t) p
 
   said-alike : (w : World) (c : Plain) (x : Access) → Tied bin lines w c → said w x ≡ plainSaid bin lines c x
   said-alike w c (Read a) t =
@@ -46,3 +53,8 @@ module _ {bin : List ℕ} {lines : List Line} (g : Good lines) where
 pub plays : {bin : List ℕ} {lines : List Line} → Accepted bin lines → (ram : List ℕ) → Loaded bin lines ram → (xs : List Access) →
     answers (loaded lines ram) xs ≡ plainAnswers bin lines fresh xs
 plays {bin} {lines} a ram h xs = answers-alike (good a) (loaded lines ram) fresh xs (start-tied (good a) ram h)
+
+-- and no access sets BANKSW in it, so a write to a bankswitch register is an ordinary write
+pub never-banked : {bin : List ℕ} {lines : List Line} → Accepted bin lines → (ram : List ℕ) → Loaded bin lines ram → (xs : List Access) (p : ℕ) →
+    BANKSW (getD (after (loaded lines ram) xs .cartridge .permissions) p 0) ≡ false
+never-banked {bin} {lines} a ram h xs p = unbanked-after (good a) (loaded lines ram) fresh xs (start-tied (good a) ram h) p

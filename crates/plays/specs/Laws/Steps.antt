@@ -15,6 +15,7 @@ use Rattle.places.specs.declared.Console.{Console}
 use Rattle.places.specs.Limits.{lentLimit, lent, paragraphs, chapters, flipEntries}
 use Rattle.switches.specs.declared.Request.the-variants.{Entry}
 use Rattle.switches.specs.Flips.{firstK, asks}
+use Rattle.switches.specs.Banks.{BANKSW}
 use Rattle.switches.specs.Laws.Flips.{first-small}
 use Rattle.cart.specs.declared.Cartridge.{Cartridge}
 use Rattle.cart.specs.declared.Cell.{Cell}
@@ -22,8 +23,9 @@ use Rattle.cart.specs.declared.Taker.{Taker}
 use Rattle.cart.specs.declared.Taker.the-variants.{Ram, Flip}
 use Rattle.cart.specs.Cells.{READ, WRITE, NARROW, paragraph, locate, cellAt, lies}
 use Rattle.cart.specs.Reads.{silent, fetched, readBy}
-use Rattle.cart.specs.Writes.{takerOf, storedWord, stored, leaves, leavesRam}
+use Rattle.cart.specs.Writes.{flipTaker, takerOf, storedWord, stored, leaves, leavesRam}
 use Rattle.cart.specs.Cartridges.{activeOf, readOf, writeOf, writeRamOf}
+use Rattle.cart.specs.Laws.Banks.{ordinary}
 use Rattle.lines.specs.declared.Line.{Line}
 use Rattle.lines.specs.declared.Width.the-variants.{Sixteen, Eight}
 use Rattle.lines.specs.Lines.{lineAt, layer, isRam}
@@ -36,6 +38,7 @@ use Rattle.layout.specs.Laws.Layout.{placeOf}
 use Rattle.layout.specs.Laws.Places.{place-below}
 use Rattle.plan.specs.Laws.Pages.{needed-small}
 use Rattle.layout.specs.Laws.Shows.{pfe-is}
+use Rattle.layout.specs.Laws.Tables.{unbanked}
 use Rattle.plays.specs.Plain.{shownLine, answerBy, plainRead, ramBy, ramAfter, isRequest, numberAfter}
 use Rattle.plays.specs.Laws.Shown.{shows, none-past, shown-line, ram-shown}
 use Rattle.plays.specs.Laws.Tabled.{Tabled, flips-length, flip-in, tabled-flip, tabled-idle}
@@ -59,6 +62,16 @@ module _ {lines : List Line} (g : Good lines) where
   unfolding flipEntry
   flip-past x y s = simp (unpaged-past x s (paged lines x) refl)
 
+-- the permissions of every paragraph: past the table they are 0; none has BANKSW
+module _ {lines : List Line} (g : Good lines) (c : Cartridge) (number : ℕ → ℕ) (t : Tabled lines c number) where
+  tabled-permissions : (p : ℕ) → getD (c .permissions) p 0 ≡ permissionsAt lines (number (p / 16)) p
+  tabled-permissions =
+      past-table (c .permissions) (λ p. permissionsAt lines (number (p / 16)) p) (t .permissions-length) (t .permissions)
+      (λ p s. permissions-past g (number (p / 16)) p s)
+
+  pub tabled-unbanked : (p : ℕ) → BANKSW (getD (c .permissions) p 0) ≡ false
+  tabled-unbanked p = rw (tabled-permissions p) (unbanked lines (number (p / 16)) p)
+
 -- every line's permissions let it be read; RAM's let it be written
 reads : (e : Entries.Entry) → READ (kindBy e) ≡ true
 reads (Kinds.Rom lo hi at) = refl
@@ -76,12 +89,7 @@ module _ {bin : List ℕ} {lines : List Line} (g : Good lines) (c : Cartridge) (
   abbrev reached : Cell
   reached = cellAt (activeOf c) at
 
-  -- the permissions of every paragraph, and every flip entry: past the tables both are 0
-  permissions-at : (p : ℕ) → getD (c .permissions) p 0 ≡ permissionsAt lines (number (p / 16)) p
-  permissions-at =
-      past-table (c .permissions) (λ p. permissionsAt lines (number (p / 16)) p) (t .permissions-length) (t .permissions)
-      (λ p s. permissions-past g (number (p / 16)) p s)
-
+  -- every flip entry: past the table it is 0
   flip-at : (n : ℕ) → getD (c .flips) n 0 ≡ flipEntry lines (n / 16) (n % 16)
   flip-at =
       past-table (c .flips) (λ n. flipEntry lines (n / 16) (n % 16)) (flips-length t) (flip-in t)
@@ -92,7 +100,7 @@ module _ {bin : List ℕ} {lines : List Line} (g : Good lines) (c : Cartridge) (
   chapter = omega arith
 
   permissions-there : getD (c .permissions) (paragraph at) 0 ≡ kindOf shown
-  permissions-there = permissions-at (at .0 / 256) ∙ rw chapter (shows g (number (at .0 / 4096)) at .permissions)
+  permissions-there = tabled-permissions g c number t (at .0 / 256) ∙ rw chapter (shows g (number (at .0 / 4096)) at .permissions)
 
   module _ (l : Line) (e : shown ≡ some l) where
     line-there : lineAt lines (layer (l .entry)) (at .0) ≡ some l
@@ -193,9 +201,13 @@ module _ {bin : List ℕ} {lines : List Line} (g : Good lines) (c : Cartridge) (
     abbrev taker : Taker
     taker = takerOf (activeOf c) (c .flips) at v
 
+    -- no bit BANKSW is set, so a bankswitch register is an ordinary address
+    not-switched : taker ≡ flipTaker (c .flips) (asks at v) (Ram reached)
+    not-switched = ordinary (activeOf c) (c .flips) at v (tabled-unbanked g c number t)
+
     takes-nothing : isRequest at v ≡ false → taker ≡ Ram reached
     unfolding asks
-    takes-nothing e = simp e
+    takes-nothing e = not-switched ∙ simp e
 
     entry : ℕ
     entry = at .0 / 4096 * 16 + v % 16
@@ -219,7 +231,7 @@ module _ {bin : List ℕ} {lines : List Line} (g : Good lines) (c : Cartridge) (
     entry-page = omega arith
 
     takes-by : isRequest at v ≡ true → taker ≡ cond (paged lines (at .0 / 4096) && leb 2 (at .0 / 4096)) (Flip entry) (Ram reached)
-    takes-by e = simp (asks-entry e, flip-at entry, entry-chapter, pfe-is)
+    takes-by e = not-switched ∙ simp (asks-entry e, flip-at entry, entry-chapter, pfe-is)
 
     takes-flip : isRequest at v ≡ true → paged lines (at .0 / 4096) ≡ true → taker ≡ Flip entry
     takes-flip e p = takes-by e ∙ simp (p, le-leb _ _ (paged-above (g .fine) (at .0 / 4096) p))

@@ -34,10 +34,10 @@ abbrev pub imageSize : Content → ℕ
 imageSize c = frontSize (c .flags) (c .uid) (c .tables) + length (hunkBytes (c .ram) (c .marks)) + 1
 
 -- the refusals of a buffer of so much room, a RAM of so many words lent, and an image so long
-unfoldable pub judgedBy : ℕ → List ℕ → List ℕ → List ℕ → ℕ → List Bool → ℕ → Refusal
-judgedBy room flags permissions flips words marks long =
+unfoldable pub judgedBy : ℕ → List ℕ → List ℕ → ℕ → List Bool → ℕ → Refusal
+judgedBy room flags flips words marks long =
     firstRefusal
-    ((unsupported flags permissions flips, refuse 10 0)
+    ((unsupported flags flips, refuse 10 0)
     ∷ (any locutusParagraphs (past marks words), refuse 9 (lowest locutusParagraphs (past marks words)))
     ∷ (ltb imageLimit long, refuse 1 0)
     ∷ (ltb room long, refuse 29 0)

@@ -41,7 +41,7 @@ pub record Answers (out : List ℕ) (c : Content) : Type 0 where
 
 -- what a writing without refusal says
 pub record Accepted (out : List ℕ) (c : Content) : Type 0 where
-  pub supported : unsupported (c .flags) (c .tables .permissions) (c .tables .flips) ≡ false
+  pub supported : unsupported (c .flags) (c .tables .flips) ≡ false
   pub inside : (p : ℕ) → p < locutusParagraphs → isMarked (c .marks) p ≡ true → paragraphSize * p + paragraphSize ≤ lent (c .ram)
   pub short : length (imageBy c) ≤ imageLimit
   pub room : length (imageBy c) ≤ length out

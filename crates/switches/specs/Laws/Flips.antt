@@ -64,18 +64,18 @@ module _ (x : ℕ) (f : ℕ → ℕ) (m : List ℕ) where
     abbrev k : ℕ
     k = p % chapterParagraphs
 
-    kept : (chapter ≡ x → k < firstK x) → getD (turned x f m) p 0 ≡ getD m p 0
+    pub turned-out : (chapter ≡ x → k < firstK x) → getD (turned x f m) p 0 ≡ getD m p 0
     unfolding turned
-    kept h = laid-out from put m size p (side (compare chapter x))
+    turned-out h = laid-out from put m size p (side (compare chapter x))
       where
         side : (chapter ≡ x) ⊎ ((chapter < x) ⊎ (x < chapter)) → (p < from) ⊎ (from + size ≤ p)
         side (inl e) = inl (omega (arith, h e))
         side (inr (inl l)) = inl (omega arith)
         side (inr (inr l)) = inr (omega (arith, first-small x))
 
-    taken : p < length m → chapter ≡ x → firstK x ≤ k → getD (turned x f m) p 0 ≡ f k
+    pub turned-in : p < length m → chapter ≡ x → firstK x ≤ k → getD (turned x f m) p 0 ≡ f k
     unfolding turned
-    taken s e l =
+    turned-in s e l =
         let i : p ≡ from + (k - firstK x) = omega arith in
         let j : firstK x + (k - firstK x) ≡ k = omega arith in
         ap (λ (q : ℕ). getD (laid from size put m) q 0) i ∙ laid-in from put m size (k - firstK x) (omega arith) (omega arith) ∙ ap f j
@@ -84,5 +84,5 @@ module _ (x : ℕ) (f : ℕ → ℕ) (m : List ℕ) where
     turned-at s =
         cases (eqb chapter x)
         (λ e.
-        cases (leb (firstK x) k) (λ l. rw (e, l) (taken s (eqb-true _ _ e) (leb-true _ _ l))) (λ l. rw (e, l) (kept (λ q. leb-false _ _ l))))
-        (λ e. rw e (kept (λ q. absurd (eqb-false _ _ e q))))
+        cases (leb (firstK x) k) (λ l. rw (e, l) (turned-in s (eqb-true _ _ e) (leb-true _ _ l))) (λ l. rw (e, l) (turned-out (λ q. leb-false _ _ l))))
+        (λ e. rw e (turned-out (λ q. absurd (eqb-false _ _ e q))))

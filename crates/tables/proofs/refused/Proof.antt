@@ -13,9 +13,6 @@ returns-2 c = search (needs, tens)
 returns-3 : tie.Need-returns-3
 returns-3 c = search (needs, tens)
 
-returns-4 : tie.Need-returns-4
-returns-4 c = search (needs, tens)
-
 pub refused-spec : {M : Type 1} → statement M
 refused-spec =
     tie.close
@@ -25,6 +22,4 @@ refused-spec =
     (λ c κs. search needs)
     returns-2
     (λ c κs. search needs)
-    returns-3
-    (λ c κs. search needs)
-    returns-4)
+    returns-3)

@@ -18,27 +18,19 @@ abbrev zeros : List ℕ
 zeros = replicate 256 0
 
 -- flag 17, the upper bit of the JLP field; flag 32
-pub jlp-field : unsupported (set built 2 0x02) zeros zeros ≡ true
+pub jlp-field : unsupported (set built 2 0x02) zeros ≡ true
 unfolding unsupported
 jlp-field = refl
 
-pub locutus-mapper : unsupported (set built 4 0x01) zeros zeros ≡ true
+pub locutus-mapper : unsupported (set built 4 0x01) zeros ≡ true
 unfolding unsupported any
 locutus-mapper = refl
 
--- BANKSW on paragraph 248, and on 249; PFE in entry 31, the last of chapter 1, and in those before and after that chapter
-pub bankswitched : unsupported built (set zeros 248 0x08) zeros ≡ true
-unfolding unsupported any
-bankswitched = refl
-
-pub not-divisible : unsupported built (set zeros 249 0x08) zeros ≡ false
-unfolding unsupported any
-not-divisible = refl
-
-pub chapter-1 : unsupported built zeros (set zeros 31 0x08) ≡ true
+-- PFE in entry 31, the last of chapter 1, and in those before and after that chapter
+pub chapter-1 : unsupported built (set zeros 31 0x08) ≡ true
 unfolding unsupported any
 chapter-1 = refl
 
-pub other-chapters : unsupported built zeros (set (set zeros 15 0x08) 32 0x08) ≡ false
+pub other-chapters : unsupported built (set (set zeros 15 0x08) 32 0x08) ≡ false
 unfolding unsupported any
 other-chapters = refl

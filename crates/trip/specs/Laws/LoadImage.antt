@@ -128,7 +128,7 @@ module _ (flags uid : List ℕ) (t : Tables) (xs : List (List ℕ)) (z : Sized f
   unfolding hunksIn
   hunks-all = rw tables-type
 
-  module _ (short : length image ≤ imageLimit) (supported : unsupported flags (t .permissions) (t .flips) ≡ false) (m : ℕ) (fine : Each (Fine m) xs) where
+  module _ (short : length image ≤ imageLimit) (supported : unsupported flags (t .flips) ≡ false) (m : ℕ) (fine : Each (Fine m) xs) where
     each-block : Each Block (tablesBlock t ∷ xs)
     each-block = and-block (Made.block-back tablesType (crc324Of (tablesPayload t)) (tablesPayload t) (λ e. omega arith)) (fine-blocks fine)
 
@@ -142,8 +142,8 @@ module _ (flags uid : List ℕ) (t : Tables) (xs : List (List ℕ)) (z : Sized f
     ten-quiet : Silent (tablesRows (flagsOf image) (tablesIn (payloadOfTables (blocksIn image))))
     unfolding tablesRows cartridgeOf
     ten-quiet =
-        let e : unsupported (flagsOf image) (tablesIn (payloadOfTables (blocksIn image)) .permissions) (tablesIn (payloadOfTables (blocksIn image)) .flips) ≡ false =
-        rw (flags-are, read-back) (ap (λ (c : Cartridge). unsupported flags (c .permissions) (c .flips)) cartridge-back ∙ supported) in
+        let e : unsupported (flagsOf image) (tablesIn (payloadOfTables (blocksIn image)) .flips) ≡ false =
+        rw (flags-are, read-back) (ap (λ (c : Cartridge). unsupported flags (c .flips)) cartridge-back ∙ supported) in
         also e none
 
     nothing : Accepted image m
@@ -163,7 +163,7 @@ module _ (flags uid : List ℕ) (t : Tables) (xs : List (List ℕ)) (z : Sized f
     unfolding loadingOf
     load-answers = rw (accepts image m nothing, flags-are, read-back, cartridge-back, hunks-all) (ap (λ (n : ℕ). answerOf flags t n (wordCount (hunksIn xs))) (omega arith))
 
-  pub load-lays : length image ≤ imageLimit → unsupported flags (t .permissions) (t .flips) ≡ false → (ram : List ℕ) → Each (Fine (lent ram)) xs → loadRamOf image ram ≡ overlay (hunksIn xs) ram
+  pub load-lays : length image ≤ imageLimit → unsupported flags (t .flips) ≡ false → (ram : List ℕ) → Each (Fine (lent ram)) xs → loadRamOf image ram ≡ overlay (hunksIn xs) ram
   unfolding loadRamOf
   load-lays short supported ram fine =
       rw (accepts image (lent ram) (nothing short supported (lent ram) fine), read-back short supported (lent ram) fine, hunks-all)
@@ -217,7 +217,7 @@ count-words (h ∷ hs) (and-block w ws) = omega (arith, w .whole, count-words hs
 
 -- the image of hunks that lie in the words lent
 module _ (flags uid : List ℕ) (t : Tables) (hs : List Hunk) (z : Sized flags uid t) (short : length (imageFor flags uid t hs) ≤ imageLimit)
-    (supported : unsupported flags (t .permissions) (t .flips) ≡ false) (ram : List ℕ) (w : Each (Lies (lent ram)) hs) where
+    (supported : unsupported flags (t .flips) ≡ false) (ram : List ℕ) (w : Each (Lies (lent ram)) hs) where
   few : lent ram ≤ lentLimit
   few = omega arith
 

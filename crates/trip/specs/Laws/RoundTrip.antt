@@ -31,7 +31,7 @@ pub record LoadsChosen (flags : List ℕ) (t : Tables) (on : ℕ → Bool) (word
 
 pub load-chosen :
     (flags uid : List ℕ) (t : Tables) (on : ℕ → Bool) (words : ℕ → List ℕ) (ram : List ℕ) → Sized flags uid t
-    → length (imageFor flags uid t (chosen locutusParagraphs on words)) ≤ imageLimit → unsupported flags (t .permissions) (t .flips) ≡ false
+    → length (imageFor flags uid t (chosen locutusParagraphs on words)) ≤ imageLimit → unsupported flags (t .flips) ≡ false
     → EachLies (lent ram) locutusParagraphs on words → LoadsChosen flags t on words (imageFor flags uid t (chosen locutusParagraphs on words)) ram
 load-chosen flags uid t on words ram z short supported c =
     let hs : List Hunk = chosen locutusParagraphs on words in
