@@ -1,14 +1,14 @@
 """Cases on images: sums, load, card, machine and write (README.md, Families)."""
 
-from typing import Iterator, Optional
+from typing import Iterable, Iterator, Optional
 
 import hunk
 from encode import Draft, DraftBlock, damaged, hunk_block, random_draft, random_tables, spoil, tables_block
 from families import card_record, load_record, machine_record, sums_record, write_record
 from generator import Generator, fill_bytes
 from load import IMAGE_LIMIT
-from tables import Tables
-from titles import random_accesses
+from tables import BANKSW, READ, WRITE, Tables
+from titles import Access, random_accesses
 from writer import compose
 
 Case = tuple[str, int, bytes]
@@ -221,6 +221,64 @@ def row_edges() -> Iterator[Case]:
             yield (f"W203-1 row {row:03b}, reserved {reserved:#04x}", *machine_record(image, (2048, 3), accesses))
 
 
+def looks(half_page: int) -> list[Access]:
+    """Read first and last words of a half-page's paragraphs, and beside it (01, The machine)."""
+    first = 2048 * half_page
+    near = [(first - 1) % 65536, (first + 2048) % 65536]
+    return [(0, address, 0) for p in range(8) for address in (first + 256 * p, first + 256 * p + 255)] + [(0, a, 0) for a in near]
+
+
+def bank_tables(mapping: int, permissions: int, half_pages: Iterable[int]) -> Tables:
+    """Give some half-pages rising mappings and one permissions byte (02, W-202)."""
+    tables = Tables()
+    for paragraph in [8 * half_page % 256 + k for half_page in half_pages for k in range(8)]:
+        tables.mapping[paragraph], tables.permissions[paragraph] = mapping + paragraph, permissions
+    return tables
+
+
+def bank_edges() -> Iterator[tuple[str, Tables, list[Access]]]:
+    """Give each half-page and the readings on bankswitching (02, W-202; READINGS W202-1 to W202-11)."""
+    for half_page in range(32):
+        register = 0x40 + half_page // 2 + 16 * (half_page % 2)
+        tables = bank_tables(0x1200, READ | 0xF0, [half_page - 1, half_page, half_page + 1])
+        tables.permissions[8 * half_page] |= BANKSW
+        for value in (0x0000, 0x00F9, 0x00FF, 0x77FE, 0xFF03) if half_page % 8 == 5 else (0x00F9, 0x77FE):
+            yield f"W202-1 half-page {half_page}, {value:#06x}", tables, [(1, register, value), *looks(half_page)]
+        others = bank_tables(0x1200, READ | BANKSW | WRITE, [0, half_page])
+        others.permissions[8 * half_page] = READ | WRITE
+        others.mapping[0], others.mapping[0x60], others.permissions[0x60] = 9, 9, READ
+        alias = [(1, register, 0x4321), (0, 0x6000 + register, 0), *looks(half_page)]
+        yield f"W202-6 W202-7 half-page {half_page} has not the bit", others, alias
+    for address in (0x003F, 0x0040, 0x005F, 0x0060, 0x0140, 0x1040, 0x8040, 0xFF50, 0x0540, 0x0050):
+        tables = bank_tables(0, READ | BANKSW | WRITE, [0, 1, 2, 16, 30, 31])
+        tables.mapping[0x60], tables.permissions[0x60] = address >> 8, READ
+        accesses = [(1, address, 0x0067), (0, address, 0), (0, 0x6000 + address % 256, 0), (0, 0x0540, 0)]
+        yield f"W202-10 write to {address:#06x}", tables, accesses + looks(0)[-8:] + looks(31)[-4:]
+
+
+def bank_and_flip_edges() -> Iterator[tuple[str, Tables, list[Access]]]:
+    """Give bankswitches before and after page requests and resets (02, W-202; READINGS W202-5, W202-9)."""
+    for chapter in (0, 1, 2, 3, 4, 5, 8, 15):
+        tables = bank_tables(0x30, READ | BANKSW, [2 * chapter, 2 * chapter + 1])
+        tables.flips[16 * chapter:16 * chapter + 16] = [(16 * page + 0x20) | (8 if chapter != 1 else 0) | page % 8 for page in range(16)]
+        tables.flips[16 * chapter + 7] &= 0xFFF7
+        low, high = 0x40 + chapter, 0x50 + chapter
+        request = 4096 * chapter + 0xA50
+        flip, miss = (1, 4096 * chapter + 0xFFF, request + 1), (1, 4096 * chapter + 0xFFF, request + 7)
+        look = looks(2 * chapter) + looks(2 * chapter + 1)
+        switch = [(1, low, 0x10), (1, high, 0xFC)]
+        for label, accesses in (
+            ("switch, flip", [*switch, flip, *look]),
+            ("flip, switch", [flip, *switch, *look]),
+            ("flip that does not act, switch", [miss, *switch, *look]),
+            ("flip, switch, reset, switch", [flip, *switch, (2, 0, 0), *switch, *look]),
+            ("switch, flip, switch, flip", [*switch, flip, *switch, (1, flip[1], request + 3), *look]),
+            ("switch, reset", [*switch, (2, 0, 0), *look]),
+            ("switch twice", [*switch, (1, low, 0xFF), (1, high, 0x80), *look]),
+        ):
+            yield f"W202-5 chapter {chapter}: {label}", tables, accesses
+
+
 def machine_case(g: Generator, which: int) -> Case:
     """Load tables of any kind, and run accesses on the machine (01, The machine; M1 to M6)."""
     tables = random_tables(g, g.pick([20, 200, 1500]))
@@ -238,6 +296,9 @@ def machine_case(g: Generator, which: int) -> Case:
 def machine_cases(g: Generator) -> Iterator[Case]:
     """Give the edges, then random tables and accesses (01, The machine)."""
     yield from row_edges()
+    for edges, ram in ((bank_edges(), (65_536, 3)), (bank_and_flip_edges(), (16_384, 4))):
+        for label, tables, accesses in edges:
+            yield (label, *machine_record(compose(bytes(16), bytes(8), tables, []), ram, accesses))
     for which in range(300):
         yield machine_case(g, which)
 

@@ -64,7 +64,7 @@ def random_tables(g: Generator, entries: int) -> Tables:
     for _ in range(entries):
         paragraph, flip = g.below(256), g.below(256)
         tables.mapping[g.below(256)] = g.below(65536)
-        banksw = BANKSW if paragraph % 8 and g.one_in(8) else 0
+        banksw = BANKSW if g.one_in(3) else 0
         tables.permissions[paragraph] = g.below(8) | banksw | g.below(16) << 4
         tables.flips[flip] = g.below(65536)
         if flip // 16 == 1:
@@ -138,12 +138,12 @@ def spoil_tables(g: Generator, draft: Draft) -> None:
 
 
 def ask_unsupported(g: Generator, draft: Draft) -> None:
-    """Ask for JLP, the mapper, bankswitching or flips in chapter 1 (01, refusal 10)."""
+    """Ask for JLP, the mapper or flips in chapter 1 (01, refusal 10)."""
     if g.one_in(2):
         bits = int.from_bytes(draft.flags, "little") | 1 << g.pick([16, 17, 32])
         draft.flags = bits.to_bytes(16, "little")
         return
-    place = g.pick([512 + 8 * g.below(32), 768 + 32 + 2 * g.below(16)])
+    place = 768 + 32 + 2 * g.below(16)
     for block in draft.blocks:
         if block.kind == TABLES and len(block.payload) == 1280:
             spoilt = bytearray(block.payload)

@@ -3,7 +3,7 @@
 from typing import MutableSequence, Optional
 
 from load import LOCUTUS_WORDS, lent
-from tables import NARROW, PFE, READ, WRITE, Tables
+from tables import BANKSW, NARROW, PFE, READ, WRITE, Tables
 
 SILENT = ((0x0000, 0x04FF), (0x1000, 0x1FFF), (0x3000, 0x3FFF))
 
@@ -24,6 +24,15 @@ def asked_entry(address: int, value: int) -> Optional[int]:
 def flipped(entry: int, k: int) -> tuple[int, int]:
     """Give mapping and permissions of a chapter's paragraph k (01, The machine)."""
     return (entry & 0xFFF0) + k, entry & 7
+
+
+def half_page_of(register: int) -> Optional[int]:
+    """Give the half-page, 0 to 31, that a write to the address switches, if any (02, W-202)."""
+    if 0x0040 <= register <= 0x004F:
+        return 2 * (register - 0x0040)
+    if 0x0050 <= register <= 0x005F:
+        return 2 * (register - 0x0050) + 1
+    return None
 
 
 def stored(old: int, value: int, narrow: bool) -> int:
@@ -60,14 +69,25 @@ class Machine:
         return entry is not None and entry >= 32 and self.initial.flips[entry] & PFE != 0
 
     def write(self, ram: MutableSequence[int], address: int, value: int) -> None:
-        """Flip a page or store a word, never both (01, The machine; READINGS M1, M2)."""
-        entry = asked_entry(address, value)
-        if entry is not None and self.acts(entry):
+        """Switch a half-page, flip a page or store a word, only one of them (01, The machine; 02, W-202)."""
+        half_page, entry = half_page_of(address), asked_entry(address, value)
+        if half_page is not None and self.permissions[8 * half_page] & BANKSW:
+            self.switch(half_page, value % 256)
+        elif entry is not None and self.acts(entry):
             self.flip(entry)
-            return
+        else:
+            self.store(ram, address, value)
+
+    def store(self, ram: MutableSequence[int], address: int, value: int) -> None:
+        """Store a word where the permissions let it (01, The machine; READINGS M1, M2)."""
         location, permissions = self.location(address), self.permissions[address >> 8]
         if permissions & WRITE and location < lent(ram):
             ram[location] = stored(ram[location], value, permissions & NARROW != 0)
+
+    def switch(self, half_page: int, first: int) -> None:
+        """Map a half-page from an Intellicart paragraph on; permissions stay (02, W-202; READINGS W202-3, W202-4)."""
+        for k in range(8):
+            self.mapping[8 * half_page + k] = (first + k) % 256
 
     def flip(self, entry: int) -> None:
         """Give the chapter's paragraphs their new mapping and permissions (01, The machine)."""

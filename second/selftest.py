@@ -7,10 +7,10 @@ import hunk
 from builder import build, checked_entries, make_image
 from card import card
 from checksums import CRC32, CRC32_4, DOWCRC, ONES, bit_by_bit, crc32, crc32_4, dowcrc, run
-from encode import bad_hunk, random_draft, random_hunk
+from encode import bad_hunk, random_draft, random_hunk, random_tables
 from generator import Generator, fill_bytes, fill_words
 from load import NOT_STATED, compatibility, load
-from machine import Machine, asked_entry, flipped, stored
+from machine import Machine, asked_entry, flipped, half_page_of, stored
 from plain import PlainCartridge
 from play import play_machine, play_plain
 from tables import Tables
@@ -103,6 +103,49 @@ def check_rows() -> Iterator[Check]:
             yield "row stores", ram == [left]
 
 
+def write_by_001(machine: Machine, intv_addr: int, intv_data: int) -> bool:
+    """Bankswitch and flip as 001's pseudo-code does; tell whether the write acted (001, pp. 37 to 39)."""
+    mmap_tbl, perm_tbl, flip_tbl = machine.mapping, machine.permissions, machine.initial.flips
+    if 0x40 <= intv_addr <= 0x5F:
+        half_page = ((intv_addr & 0xF) << 1) | ((intv_addr & 0x10) >> 4)
+        para = half_page << 3
+        is_banksw = (perm_tbl[para] >> 3) & 1
+        bsw_offset = intv_data
+        for i in range(8 if is_banksw else 0):
+            mmap_tbl[para + i] = (bsw_offset + i) & 0xFF
+        return is_banksw == 1
+    chap, page, is_pageflip = (intv_addr >> 12) & 0xF, intv_data & 0xF, 0
+    if intv_addr & 0xFFF == 0xFFF and intv_addr & 0xF000 == intv_data & 0xF000 and intv_data & 0xFF0 == 0xA50:
+        flip = flip_tbl[(chap << 4) | page]
+        is_pageflip = (flip >> 3) & 1 if chap > 1 else 0
+    for i in range(16 if is_pageflip else 0):
+        if chap != 4 or i >= 8:
+            mmap_tbl[(chap << 4) + i] = (flip & 0xFFF0) + i
+            perm_tbl[(chap << 4) + i] = flip & 7
+    return is_pageflip == 1
+
+
+def check_switches(g: Generator, rounds: int) -> Iterator[Check]:
+    """Run 001's pseudo-code beside 02's words, and the Intellicart's own addresses (02, W-202)."""
+    for _ in range(rounds):
+        tables, ram = random_tables(g, 1500), [0] * 1024
+        one, other = Machine(tables), Machine(tables)
+        for operation, address, value in random_accesses(g, [g.below(16), g.below(16)], 60):
+            if operation == 2:
+                one.reset()
+                other.reset()
+            elif operation == 1:
+                before = list(ram)
+                half_page = half_page_of(address)
+                one.write(ram, address, value)
+                acted = write_by_001(other, address, value)
+                yield "001's pseudo-code", (one.mapping, one.permissions) == (other.mapping, other.permissions)
+                yield "a write that acts stores nothing", not acted or ram == before
+                if acted and half_page is not None:
+                    at = 2048 * half_page + g.below(2048)
+                    yield "Intellicart address", one.location(at) == ((at & 0x07FF) + (value << 8)) & 0xFFFF
+
+
 def built(bin_length: int, text: str) -> tuple:
     """Build lines after [mapping], and load the image (01, Bench cases 6 and 7)."""
     buffer, ram = bytearray(700_000), [7] * 524_288
@@ -178,7 +221,7 @@ def main() -> None:
     """Run every check, and say how many there were (01, Bench cases)."""
     g, ran = Generator(2019), 0
     for checks in (check_sums(), check_hunks(), check_cases_1_to_5(), check_cases_6_to_8(),
-                   check_faults(g, 1000), check_fields(), check_rows(), check_titles(g, 200),
+                   check_faults(g, 1000), check_fields(), check_rows(), check_switches(g, 300), check_titles(g, 200),
                    check_round_trips(g, 500)):
         for name, passed in checks:
             ran += 1

@@ -37,9 +37,8 @@ def read_tables(payload: bytes) -> Tables:
 
 
 def unsupported(flags: bytes, tables: Tables) -> bool:
-    """Tell whether flags or tables ask for what the base has not (01, refusal 10)."""
+    """Tell whether flags or tables ask for what we have not (01, refusal 10; 02, W-202)."""
     jlp = flags[2] & 3 != 0
     mapper = flags[4] & 1 != 0
-    bankswitched = any(tables.permissions[p] & BANKSW for p in range(0, 256, 8))
     chapter_1 = any(tables.flips[16 + page] & PFE for page in range(16))
-    return jlp or mapper or bankswitched or chapter_1
+    return jlp or mapper or chapter_1

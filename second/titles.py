@@ -220,11 +220,14 @@ def spoil(g: Generator, title: Title, numbers: list[int]) -> None:
 
 
 def random_access(g: Generator, chapters: list[int]) -> Access:
-    """Choose a read, a write, a page request, a near miss of one, or a reset (01, The machine)."""
+    """Choose a read, a write, a page request, a near miss of one, a bankswitch, or a reset (01; 02, W-202)."""
     chapter = g.pick(chapters) if chapters and g.below(6) else g.below(16)
     address = 4096 * chapter + g.pick([g.below(4096), g.below(4096), 0x7FF, 0x800, 0, 0xFFF, 0x4FF, 0x500])
     request = 4096 * chapter + 0xA50 + g.below(16)
-    choice = g.below(16)
+    choice = g.below(18)
+    if choice >= 16:
+        register = 0x40 + 16 * g.below(2) + chapter
+        return WRITE_IT, register, g.pick([g.below(256), 0xF8 + g.below(8), g.below(65536), g.below(16)])
     if choice < 7:
         return READ_IT, address, 0
     if choice < 10:
