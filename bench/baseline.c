@@ -68,42 +68,42 @@ static uint32_t read_word(const Cartridge *c, const uint16_t *ram, size_t words,
     return ram[l];
 }
 
-static void flip(Cartridge *c, int n) {
-    int x = n / 16;
+/* A flip, a bankswitch and a write answer how many mapping entries they have assigned. */
+static uint8_t flip(Cartridge *c, int n) {
+    int x = n / 16, first = x == 4 ? 8 : 0;
     uint16_t entry = c->flips[n];
-    for (int k = x == 4 ? 8 : 0; k < 16; k++) {
+    for (int k = first; k < 16; k++) {
         c->mapping[16 * x + k] = entry / 16 * 16 + k;
         c->permissions[16 * x + k] = entry % 8;
     }
+    return 16 - first;
 }
 
 /* Half-page h of eight paragraphs takes the value's low byte and the seven numbers after it, going round. */
-static void bankswitch(Cartridge *c, int h, uint8_t first) {
+static uint8_t bankswitch(Cartridge *c, int h, uint8_t first) {
     for (int j = 0; j < 8; j++)
         c->mapping[8 * h + j] = (uint8_t)(first + j);
+    return 8;
 }
 
-static void write_word(Cartridge *c, uint16_t *ram, size_t words, uint16_t at, uint16_t value) {
+static uint8_t write_word(Cartridge *c, uint16_t *ram, size_t words, uint16_t at, uint16_t value) {
     int x = at / 4096;
     if (at / 32 == 2) {
         int h = at % 16 * 2 + at / 16 % 2;
-        if (c->permissions[8 * h] & BANKSW) {
-            bankswitch(c, h, value);
-            return;
-        }
+        if (c->permissions[8 * h] & BANKSW)
+            return bankswitch(c, h, value);
     }
     if (at % 4096 == 0xFFF && value / 4096 == x && value / 16 % 256 == 0xA5 && x >= 2) {
         int n = 16 * x + value % 16;
-        if (c->flips[n] & PFE) {
-            flip(c, n);
-            return;
-        }
+        if (c->flips[n] & PFE)
+            return flip(c, n);
     }
     uint8_t permission = c->permissions[at / 256];
     uint32_t l = location(c->mapping[at / 256], at);
     if (!(permission & WRITE) || l >= words)
-        return;
+        return 0;
     ram[l] = permission & NARROW ? ram[l] / 256 * 256 + value % 256 : value;
+    return 0;
 }
 
 void c_reads(const Cartridge *c, const uint16_t *ram, size_t words, const uint16_t *at, size_t n, uint32_t *out) {
@@ -113,11 +113,11 @@ void c_reads(const Cartridge *c, const uint16_t *ram, size_t words, const uint16
         out[i] = read_word(c, ram, words, at[i]);
 }
 
-void c_writes(Cartridge *c, uint16_t *ram, size_t words, const uint16_t *at, const uint16_t *value, size_t n) {
+void c_writes(Cartridge *c, uint16_t *ram, size_t words, const uint16_t *at, const uint16_t *value, size_t n, uint8_t *assigned) {
     if (words > LENT_LIMIT)
         words = LENT_LIMIT;
     for (size_t i = 0; i < n; i++)
-        write_word(c, ram, words, at[i], value[i]);
+        assigned[i] = write_word(c, ram, words, at[i], value[i]);
 }
 
 /* ---- the loader: a pass that checks, then one that stores ---- */

@@ -22,7 +22,8 @@ typedef struct {
 } Cartridge;
 
 void c_reads(const Cartridge *c, const uint16_t *ram, size_t words, const uint16_t *at, size_t n, uint32_t *out);
-void c_writes(Cartridge *c, uint16_t *ram, size_t words, const uint16_t *at, const uint16_t *value, size_t n);
+/* assigned[i]: how many mapping entries write i assigned. */
+void c_writes(Cartridge *c, uint16_t *ram, size_t words, const uint16_t *at, const uint16_t *value, size_t n, uint8_t *assigned);
 
 typedef struct {
     uint32_t number;

@@ -8,8 +8,9 @@ use Rattle.places.specs.Limits.{paragraphs, flipEntries}
 use Rattle.switches.specs.Flips.{Active, active}
 use Rattle.cart.specs.declared.Answer.{Answer}
 use Rattle.cart.specs.declared.Cartridge.{Cartridge}
+use Rattle.cart.specs.declared.Written.{Written}
 use Rattle.cart.specs.Reads.{readBy}
-use Rattle.cart.specs.Writes.{leaves, leavesRam}
+use Rattle.cart.specs.Writes.{leaves, leavesRam, assigned}
 
 -- a cartridge of these tables: every cartridge is made here
 abbrev pub assembled : Active → Active → List ℕ → Cartridge
@@ -43,6 +44,10 @@ readOf c ram at = readBy (activeOf c) ram at
 
 abbrev pub writeOf : Cartridge → Console → ℕ → Cartridge
 writeOf c at v = withActive c (leaves (activeOf c) (c .flips) at v)
+
+-- what `write` answers: the cartridge, and how many active mapping entries were assigned (02, W-212)
+abbrev pub writtenOf : Cartridge → Console → ℕ → Written
+writtenOf c at v = record { cartridge = writeOf c at v; assigned = assigned (activeOf c) (c .flips) at v }
 
 abbrev pub writeRamOf : Cartridge → List ℕ → Console → ℕ → List ℕ
 writeRamOf c ram at v = leavesRam (activeOf c) (c .flips) ram at v

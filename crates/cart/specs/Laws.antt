@@ -2,4 +2,5 @@
 pub mod Reads
 pub mod Writes
 pub mod Banks
+pub mod Moves
 pub mod Run

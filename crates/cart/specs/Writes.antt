@@ -1,4 +1,4 @@
--- A write: who takes it, then what it leaves of the active tables and of the RAM (01, The machine; 02, W-202).
+-- A write: who takes it, then what it leaves of the active tables and of the RAM (01, The machine; 02, W-202 and W-212).
 use Prim.Native.Nat.{ℕ, _+_, _*_, _/_, _%_}
 use mathlib.Core.Bool.{Bool, cond, _&&_}
 use mathlib.Core.List.{List}
@@ -8,8 +8,8 @@ use Rattle.switches.specs.declared.Register.{Register}
 use Rattle.switches.specs.declared.Register.the-variants.{HalfPage, Elsewhere}
 use Rattle.switches.specs.declared.Request.{Request}
 use Rattle.switches.specs.declared.Request.the-variants.{Entry, Nothing}
-use Rattle.switches.specs.Flips.{Active, asks, acts, flipped}
-use Rattle.switches.specs.Banks.{registerAt, banked, bankswitched}
+use Rattle.switches.specs.Flips.{Active, asks, acts, flipSize, flipped}
+use Rattle.switches.specs.Banks.{halfPageParagraphs, registerAt, banked, bankswitched}
 use Rattle.cart.specs.declared.Cell.{Cell}
 use Rattle.cart.specs.declared.Taker.{Taker}
 use Rattle.cart.specs.declared.Taker.the-variants.{Bank, Flip, Ram}
@@ -51,9 +51,18 @@ ramBy (Bank p first) ram v = ram
 ramBy (Flip n) ram v = ram
 ramBy (Ram c) ram v = stored c ram v
 
--- what a write leaves
+-- how many active mapping entries each taker assigns, whatever they held before (02, W-212)
+abbrev pub assignedBy : Taker → ℕ
+assignedBy (Bank p first) = halfPageParagraphs
+assignedBy (Flip n) = flipSize n
+assignedBy (Ram c) = 0
+
+-- what a write leaves, and how many active mapping entries it assigned
 unfoldable pub leaves : Active → List ℕ → Console → ℕ → Active
 leaves a flips at v = leftBy (takerOf a flips at v) a flips
 
 unfoldable pub leavesRam : Active → List ℕ → List ℕ → Console → ℕ → List ℕ
 leavesRam a flips ram at v = ramBy (takerOf a flips at v) ram v
+
+unfoldable pub assigned : Active → List ℕ → Console → ℕ → ℕ
+assigned a flips at v = assignedBy (takerOf a flips at v)

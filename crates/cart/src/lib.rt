@@ -3,8 +3,8 @@ ghost use mathlib.Core.Path.{_≡_};
 ghost use Rattle.switches.specs.Flips.{active};
 ghost use Rattle.cart.specs.Cells.{locate, rightsOf, cellAt};
 ghost use Rattle.cart.specs.Reads.{fetched, sourceOf, readBy};
-ghost use Rattle.cart.specs.Writes.{storedWord, stored, bankTaker, flipTaker, takerOf, leaves, leavesRam};
-ghost use Rattle.cart.specs.Cartridges.{assembled, fresh, withActive, readOf, writeOf, writeRamOf, resetOf};
+ghost use Rattle.cart.specs.Writes.{storedWord, stored, bankTaker, flipTaker, takerOf, leaves, leavesRam, assigned};
+ghost use Rattle.cart.specs.Cartridges.{assembled, fresh, withActive, readOf, writtenOf, writeRamOf, resetOf};
 use places::Console;
 use places::FLIP_ENTRIES;
 use places::LENT_LIMIT;
@@ -21,6 +21,12 @@ pub struct Cartridge {
     pub mapping: [u16; PARAGRAPHS],
     pub permissions: [u8; PARAGRAPHS],
     pub flips: [u16; FLIP_ENTRIES],
+}
+
+// What a write leaves of the cartridge, and how many active mapping entries it assigned.
+pub struct Written {
+    pub cartridge: Cartridge,
+    pub assigned: u8,
 }
 
 // What a permission byte allows.
@@ -239,7 +245,8 @@ fn store(cell: Cell, ram: &mut [u16], value: u16)
     ram[i] = stored_word(cell.rights.narrow, ram[i], value);
 }
 
-// A write by the active tables and the flip table alone, lent: nothing of the cartridge is copied.
+// A write by the active tables and the flip table alone, lent: nothing of the cartridge is copied. It answers how many entries of the
+// mapping it has assigned.
 pub fn write_by<'a>(
     mapping: &'a mut [u16; PARAGRAPHS],
     permissions: &'a mut [u8; PARAGRAPHS],
@@ -247,15 +254,19 @@ pub fn write_by<'a>(
     ram: &mut [u16],
     at: Console,
     value: u16,
-)
-    ensures { λ _. ⌜ (now (mapping .exit) ≡ leaves (active (now (mapping .entry)) (now (permissions .entry))) (now (flips .entry)) at value .mapping)
+) -> u8
+    ensures { λ r. ⌜ (r ≡ assigned (active (now (mapping .entry)) (now (permissions .entry))) (now (flips .entry)) at value)
+        × (now (mapping .exit) ≡ leaves (active (now (mapping .entry)) (now (permissions .entry))) (now (flips .entry)) at value .mapping)
         × (now (permissions .exit) ≡ leaves (active (now (mapping .entry)) (now (permissions .entry))) (now (flips .entry)) at value .permissions)
         × (now (ram .exit) ≡ leavesRam (active (now (mapping .entry)) (now (permissions .entry))) (now (flips .entry)) (now (ram .entry)) at value) ⌝ }
 {
     match taker_of(mapping, permissions, flips, at, value) {
         Taker::Bank(p, first) => switches::bankswitch(mapping, p, first),
         Taker::Flip(n) => switches::flip(mapping, permissions, flips, n),
-        Taker::Ram(cell) => store(cell, ram, value),
+        Taker::Ram(cell) => {
+            store(cell, ram, value);
+            0
+        }
     }
 }
 
@@ -305,13 +316,16 @@ fn with_active(c: Cartridge, mapping: [u16; PARAGRAPHS], permissions: [u8; PARAG
     )
 }
 
-pub fn write(c: Cartridge, ram: &mut [u16], at: Console, value: u16) -> Cartridge
-    ensures { λ r. ⌜ (r ≡ writeOf c at value) × (now (ram .exit) ≡ writeRamOf c (now (ram .entry)) at value) ⌝ }
+pub fn write(c: Cartridge, ram: &mut [u16], at: Console, value: u16) -> Written
+    ensures { λ r. ⌜ (r ≡ writtenOf c at value) × (now (ram .exit) ≡ writeRamOf c (now (ram .entry)) at value) ⌝ }
 {
     let mut m = c.mapping;
     let mut p = c.permissions;
-    write_by(&mut m, &mut p, &c.flips, ram, at, value);
-    with_active(c, m, p)
+    let assigned = write_by(&mut m, &mut p, &c.flips, ram, at, value);
+    Written {
+        cartridge: with_active(c, m, p),
+        assigned,
+    }
 }
 
 pub fn reset(c: Cartridge) -> Cartridge

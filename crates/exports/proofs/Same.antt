@@ -48,6 +48,9 @@ one-writes-permissions κs a y z e f p q = same (p .1) (q .1)
 pub one-writes-ram : OneLent luigi-writes.Learnt (λ κs e. now (e .1 .1 .1 .0))
 one-writes-ram κs a y z e f p q = same (p .2) (q .2)
 
+pub one-writes-assigned : OneLent luigi-writes.Learnt (λ κs e. now (e .1 .1 .1 .1 .1 .1 .0))
+one-writes-assigned κs a y z e f p q = same (p .3) (q .3)
+
 pub one-writes-by-value : OneAnswer luigi-writes-by-value.Learnt
 one-writes-by-value κs a y z e f p q = same (p .0) (q .0)
 

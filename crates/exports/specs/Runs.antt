@@ -10,6 +10,8 @@ use Rattle.cart.specs.declared.Cartridge.{Cartridge}
 use Rattle.cart.specs.declared.Answer.{Answer}
 use Rattle.cart.specs.declared.Answer.the-variants.{Word, Silence}
 use Rattle.cart.specs.Reads.{readBy}
+use Rattle.cart.specs.Writes.{assigned}
+use Rattle.cart.specs.Cartridges.{activeOf}
 use Rattle.cart.specs.Run.{Access, Write, World, after}
 use Rattle.exports.specs.declared.Active.{Active}
 
@@ -42,9 +44,22 @@ writes at v (suc n) = writes at v n ++ (Write (address at n) (getD v n 0) ∷ []
 unfoldable pub written : Cartridge → List ℕ → List ℕ → List ℕ → ℕ → World
 written c ram at v n = after (record { cartridge = c; ram = ram }) (writes at v n)
 
--- what as many writes leave as there are both addresses and values
-abbrev pub activeAfter : Cartridge → List ℕ → List ℕ → List ℕ → Active
-activeAfter c ram at v = activeAs (written c ram at v (min (length at) (length v)) .cartridge)
+-- so many active mapping entries write i assigns, after those before it
+abbrev pub assignedAt : Cartridge → List ℕ → List ℕ → List ℕ → ℕ → ℕ
+assignedAt c ram at v i =
+    assigned (activeOf (written c ram at v i .cartridge)) (written c ram at v i .cartridge .flips) (address at i) (getD v i 0)
 
-abbrev pub ramAfter : Cartridge → List ℕ → List ℕ → List ℕ → List ℕ
-ramAfter c ram at v = written c ram at v (min (length at) (length v)) .ram
+-- those numbers of the first n writes, laid over the first n bytes of a buffer
+unfoldable pub numbered : Cartridge → List ℕ → List ℕ → List ℕ → ℕ → List ℕ → List ℕ
+numbered c ram at v n out = laid 0 n (assignedAt c ram at v) out
+
+-- as many writes as there are addresses and values, and places for their numbers
+abbrev pub numberedWrites : List ℕ → List ℕ → List ℕ → ℕ
+numberedWrites at v out = min (min (length at) (length v)) (length out)
+
+-- what so many writes leave
+abbrev pub activeAfter : Cartridge → List ℕ → List ℕ → List ℕ → ℕ → Active
+activeAfter c ram at v n = activeAs (written c ram at v n .cartridge)
+
+abbrev pub ramAfter : Cartridge → List ℕ → List ℕ → List ℕ → ℕ → List ℕ
+ramAfter c ram at v n = written c ram at v n .ram

@@ -1,5 +1,7 @@
 // The proved crates as a C program calls them: a slice is a pointer and a length, a struct is laid out as C's.
+ghost use Prim.Native.Nat.{min, _≤_};
 ghost use mathlib.Core.Path.{_≡_};
+ghost use lib.ListN.{length};
 ghost use Rattle.places.specs.Limits.{lent};
 ghost use Rattle.sums.specs.Crc.{dowcrcOf, crc324Of, crc32Of};
 ghost use Rattle.cart.specs.Cartridges.{fresh};
@@ -7,7 +9,7 @@ ghost use Rattle.load.specs.Load.{loadingOf, loadRamOf};
 ghost use Rattle.build.specs.Building.{buildingOf, builtOf};
 ghost use Rattle.exports.specs.Loads.{fieldsOf, loadedOf};
 ghost use Rattle.exports.specs.Builds.{builtAs};
-ghost use Rattle.exports.specs.Runs.{activeAs, heard, answersIn, activeAfter, ramAfter};
+ghost use Rattle.exports.specs.Runs.{activeAs, heard, answersIn, numbered, numberedWrites, activeAfter, ramAfter};
 use build::Building;
 use cart::Answer;
 use cart::Cartridge;
@@ -199,7 +201,14 @@ pub extern "C" fn luigi_reads_by_value<'a>(
     }
 }
 
-// Writes of the words of `value` to the addresses of `at`, one after the other, by these tables.
+fn least_of(a: usize, b: usize, c: usize) -> usize
+    ensures { λ r. ⌜ (r ≡ min (min a b) c) × (r ≤ a) × (r ≤ b) × (r ≤ c) ⌝ }
+{
+    basics::least(basics::least(a, b), c)
+}
+
+// Writes of the words of `value` to the addresses of `at`, one after the other, by these tables; how many mapping entries each has assigned goes to
+// the first bytes of `assigned`.
 #[no_mangle]
 pub extern "C" fn luigi_writes(
     mapping: &mut [u16; PARAGRAPHS],
@@ -208,17 +217,19 @@ pub extern "C" fn luigi_writes(
     ram: &mut [u16],
     at: &[u16],
     value: &[u16],
+    assigned: &mut [u8],
 )
-    ensures { λ _. ⌜ (now (mapping .exit) ≡ activeAfter (fresh (now (mapping .entry)) (now (permissions .entry)) (now (flips .entry))) (now (ram .entry)) (now (at .entry)) (now (value .entry)) .mapping)
-        × (now (permissions .exit) ≡ activeAfter (fresh (now (mapping .entry)) (now (permissions .entry)) (now (flips .entry))) (now (ram .entry)) (now (at .entry)) (now (value .entry)) .permissions)
-        × (now (ram .exit) ≡ ramAfter (fresh (now (mapping .entry)) (now (permissions .entry)) (now (flips .entry))) (now (ram .entry)) (now (at .entry)) (now (value .entry))) ⌝ }
+    ensures { λ _. ⌜ (now (mapping .exit) ≡ activeAfter (fresh (now (mapping .entry)) (now (permissions .entry)) (now (flips .entry))) (now (ram .entry)) (now (at .entry)) (now (value .entry)) (numberedWrites (now (at .entry)) (now (value .entry)) (now (assigned .entry))) .mapping)
+        × (now (permissions .exit) ≡ activeAfter (fresh (now (mapping .entry)) (now (permissions .entry)) (now (flips .entry))) (now (ram .entry)) (now (at .entry)) (now (value .entry)) (numberedWrites (now (at .entry)) (now (value .entry)) (now (assigned .entry))) .permissions)
+        × (now (ram .exit) ≡ ramAfter (fresh (now (mapping .entry)) (now (permissions .entry)) (now (flips .entry))) (now (ram .entry)) (now (at .entry)) (now (value .entry)) (numberedWrites (now (at .entry)) (now (value .entry)) (now (assigned .entry))))
+        × (now (assigned .exit) ≡ numbered (fresh (now (mapping .entry)) (now (permissions .entry)) (now (flips .entry))) (now (ram .entry)) (now (at .entry)) (now (value .entry)) (numberedWrites (now (at .entry)) (now (value .entry)) (now (assigned .entry))) (now (assigned .entry))) ⌝ }
 {
-    for i in 0..basics::least(at.len(), value.len()) {
-        cart::write_by(mapping, permissions, flips, ram, Console(at[i]), value[i]);
+    for i in 0..least_of(at.len(), value.len(), assigned.len()) {
+        assigned[i] = cart::write_by(mapping, permissions, flips, ram, Console(at[i]), value[i]);
     }
 }
 
-// The same, with the cartridge by value at each write.
+// The same without the numbers, with the cartridge by value at each write.
 #[no_mangle]
 pub extern "C" fn luigi_writes_by_value<'a>(
     mapping: &'a [u16; PARAGRAPHS],
@@ -228,11 +239,13 @@ pub extern "C" fn luigi_writes_by_value<'a>(
     at: &[u16],
     value: &[u16],
 ) -> Active
-    ensures { λ r. ⌜ (r ≡ activeAfter (fresh (now (mapping .entry)) (now (permissions .entry)) (now (flips .entry))) (now (ram .entry)) (now (at .entry)) (now (value .entry))) × (now (ram .exit) ≡ ramAfter (fresh (now (mapping .entry)) (now (permissions .entry)) (now (flips .entry))) (now (ram .entry)) (now (at .entry)) (now (value .entry))) ⌝ }
+    ensures { λ r. ⌜ (r ≡ activeAfter (fresh (now (mapping .entry)) (now (permissions .entry)) (now (flips .entry))) (now (ram .entry)) (now (at .entry)) (now (value .entry)) (min (length (now (at .entry))) (length (now (value .entry))))) × (now (ram .exit) ≡ ramAfter (fresh (now (mapping .entry)) (now (permissions .entry)) (now (flips .entry))) (now (ram .entry)) (now (at .entry)) (now (value .entry)) (min (length (now (at .entry))) (length (now (value .entry))))) ⌝ }
 {
     let mut c = fresh(mapping, permissions, flips);
     for i in 0..basics::least(at.len(), value.len()) {
-        c = cart::write(c, ram, Console(at[i]), value[i]);
+        let done = cart::write(c, ram, Console(at[i]), value[i]);
+        let next = done.cartridge;
+        c = next;
     }
     active_as(c)
 }

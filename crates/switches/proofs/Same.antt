@@ -19,11 +19,14 @@ one-acts κs a y z e f = same
 pub one-first-k : OneAnswer first-k.Learnt
 one-first-k κs a y z e f p q = same (p .0) (q .0)
 
+pub one-flip : OneAnswer flip.Learnt
+one-flip κs a y z e f p q = same (p .0) (q .0)
+
 pub one-flip-mapping : OneLent flip.Learnt (λ κs e. now (e .0))
-one-flip-mapping κs a y z e f p q = same (p .0) (q .0)
+one-flip-mapping κs a y z e f p q = same (p .1) (q .1)
 
 pub one-flip-permissions : OneLent flip.Learnt (λ κs e. now (e .1 .0))
-one-flip-permissions κs a y z e f p q = same (p .1) (q .1)
+one-flip-permissions κs a y z e f p q = same (p .2) (q .2)
 
 pub one-register-at : OneAnswer register-at.Learnt
 one-register-at κs a y z e f = same
@@ -31,5 +34,8 @@ one-register-at κs a y z e f = same
 pub one-banked : OneAnswer banked.Learnt
 one-banked κs a y z e f = same
 
-pub one-bankswitch : OneLent bankswitch.Learnt (λ κs e. now (e .0))
-one-bankswitch κs a y z e f = same
+pub one-bankswitch : OneAnswer bankswitch.Learnt
+one-bankswitch κs a y z e f p q = same (p .0) (q .0)
+
+pub one-bankswitch-mapping : OneLent bankswitch.Learnt (λ κs e. now (e .0))
+one-bankswitch-mapping κs a y z e f p q = same (p .1) (q .1)

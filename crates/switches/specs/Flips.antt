@@ -36,6 +36,10 @@ flipPermissions e k = e % 8
 abbrev pub firstK : ℕ → ℕ
 firstK x = cond (eqb x 4) 8 0
 
+-- so many paragraphs change when flip entry n acts: 16, and 8 in chapter 4 (02, W-212)
+abbrev pub flipSize : ℕ → ℕ
+flipSize n = chapterParagraphs - firstK (n / chapterPages)
+
 -- a table whose chapter x has taken f k for each such paragraph k
 unfoldable pub turned : ℕ → (ℕ → ℕ) → List ℕ → List ℕ
 turned x f m = laid (chapterParagraphs * x + firstK x) (chapterParagraphs - firstK x) (λ j. f (firstK x + j)) m

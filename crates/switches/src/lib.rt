@@ -2,7 +2,7 @@
 ghost use Prim.Native.Nat.{_/_, _≤_};
 ghost use mathlib.Core.Path.{_≡_};
 ghost use Rattle.places.specs.Limits.{chapterPages};
-ghost use Rattle.switches.specs.Flips.{active, asks, acts, firstK, flipMapping, flipPermissions, turned, flipped};
+ghost use Rattle.switches.specs.Flips.{active, asks, acts, firstK, flipMapping, flipPermissions, flipSize, turned, flipped};
 ghost use Rattle.switches.specs.Banks.{halfPageParagraphs, registerAt, banked, numberFrom, switched};
 use places::CHAPTER_PAGES;
 use places::CHAPTER_PARAGRAPHS;
@@ -74,20 +74,28 @@ fn flip_permissions(m: &mut [u8; PARAGRAPHS], n: u8, entry: u16)
     }
 }
 
-// Flip entry n acts on the lent tables.
+// How many paragraphs flip entry n changes.
+fn flip_size(n: u8) -> u8
+    ensures { λ r. ⌜ r ≡ flipSize n ⌝ }
+{
+    (CHAPTER_PARAGRAPHS - first_k(n as usize / CHAPTER_PAGES)) as u8
+}
+
+// Flip entry n acts on the lent tables; it answers how many entries of each it has assigned.
 pub fn flip(
     mapping: &mut [u16; PARAGRAPHS],
     permissions: &mut [u8; PARAGRAPHS],
     flips: &[u16; FLIP_ENTRIES],
     n: u8,
-)
-    ensures { λ _. ⌜ (now (mapping .exit) ≡ flipped (now (flips .entry)) n (active (now (mapping .entry)) (now (permissions .entry))) .mapping)
+) -> u8
+    ensures { λ r. ⌜ (r ≡ flipSize n) × (now (mapping .exit) ≡ flipped (now (flips .entry)) n (active (now (mapping .entry)) (now (permissions .entry))) .mapping)
         × (now (permissions .exit) ≡ flipped (now (flips .entry)) n (active (now (mapping .entry)) (now (permissions .entry))) .permissions) ⌝ }
 {
     let i = n as usize;
     let entry = flips[i];
     flip_mapping(mapping, n, entry);
     flip_permissions(permissions, n, entry);
+    flip_size(n)
 }
 
 // The bankswitch register at an address: that of the half-page with this first paragraph, or none.
@@ -125,12 +133,13 @@ fn number_from(v: u8, j: u8) -> u16
     std::num::wrapping_add_u8(v, j) as u16
 }
 
-// The eight paragraphs of paragraph p's half-page take number v and the seven after it.
-pub fn bankswitch(mapping: &mut [u16; PARAGRAPHS], p: u8, v: u8)
-    ensures { λ _. ⌜ now (mapping .exit) ≡ switched (p / halfPageParagraphs) v (now (mapping .entry)) ⌝ }
+// The eight paragraphs of paragraph p's half-page take number v and the seven after it; it answers how many entries it has assigned.
+pub fn bankswitch(mapping: &mut [u16; PARAGRAPHS], p: u8, v: u8) -> u8
+    ensures { λ r. ⌜ (r ≡ halfPageParagraphs) × (now (mapping .exit) ≡ switched (p / halfPageParagraphs) v (now (mapping .entry))) ⌝ }
 {
     let h = p as usize / HALF_PAGE_PARAGRAPHS;
     for j in 0..HALF_PAGE_PARAGRAPHS {
         mapping[HALF_PAGE_PARAGRAPHS * h + j] = number_from(v, j as u8);
     }
+    HALF_PAGE_PARAGRAPHS as u8
 }

@@ -21,7 +21,7 @@ fn is_answer(answer: Answer, value: u16, heard: usize) -> bool {
     }
 }
 
-// One access: 0 reads, 1 writes, 2 resets.
+// One access: 0 reads, 1 writes, 2 resets. The record has what a read heard, and how many mapping entries a write assigned.
 fn access(rec: &[u8], at: usize, c: Cartridge, ram: &mut [u16]) -> Played {
     let op = get8(rec, at);
     let place = Console(get16(rec, after(at, 1)) as u16);
@@ -36,9 +36,11 @@ fn access(rec: &[u8], at: usize, c: Cartridge, ram: &mut [u16]) -> Played {
         };
     }
     if op == 1 {
+        let done = cart::write(c, ram, place, value);
+        let cartridge = done.cartridge;
         return Played {
-            cartridge: cart::write(c, ram, place, value),
-            good: true,
+            cartridge,
+            good: done.assigned as usize == get8(rec, after(at, 5)),
             next,
         };
     }

@@ -16,7 +16,7 @@ use Rattle.switches.specs.Banks.{banked}
 use Rattle.cart.specs.declared.Cell.{Cell}
 use Rattle.cart.specs.declared.Taker.{Taker}
 use Rattle.cart.specs.declared.Taker.the-variants.{Bank, Flip}
-use Rattle.cart.specs.Writes.{storedWord, stored, bankTaker, flipTaker, takerOf, leftBy, ramBy, leaves, leavesRam}
+use Rattle.cart.specs.Writes.{storedWord, stored, bankTaker, flipTaker, takerOf, leftBy, ramBy, assignedBy, leaves, leavesRam, assigned}
 
 -- shut by its rights; past the n words that are lent; open, to the word w
 module _ (c : Cell) (ram : List ℕ) (v : ℕ) where
@@ -65,4 +65,8 @@ module _ (a : Active) (flips : List ℕ) (at : Console) (v : ℕ) (t w : Taker) 
   unfolding leavesRam
   by-ram ram x g = rw (← h, e, g)
 
-pub ruleset writes = (by-mapping, by-permissions, by-ram)
+  pub by-assigned : (x : ℕ) → x ≡ assignedBy w → x ≡ assigned a flips at v
+  unfolding assigned
+  by-assigned x g = rw (← h, e, g)
+
+pub ruleset writes = (by-mapping, by-permissions, by-ram, by-assigned)

@@ -1,34 +1,40 @@
--- `exports::luigi_writes` meets its contract. The invariant: the lent tables and the RAM are what the first i writes leave.
+-- `exports::luigi_writes` meets its contract. The invariant: the lent tables, the RAM and the numbers are what the first i writes leave.
 use Prim.Native.Nat.{_≤_, _-_}
 use mathlib.Core.Path.{_≡_, _∙_}
-use native.Mathlib.Nat.{min-le-left, min-le-right}
 use native.Mathlib.Omega.{arith}
 use lib.ListN.{length}
 use borrow.Author.Needs.{needs}
 use Rattle.cart.specs.Cartridges.{fresh}
-use Rattle.exports.specs.Laws.Runs.{Lent, lent-none, lent-one, lent-last}
-use Rattle.exports.specs.Runs.{written}
+use Rattle.exports.specs.Laws.Runs.{Ran, ran-none, ran-one, ran-last}
 use Rattle.exports.proofs.luigi_writes.Statement.{statement}
 use Rattle.exports.proofs.luigi_writes.Tie as tie
 
 abbrev Inv-loop : tie.InvT-loop
-Inv-loop mapping₀ permissions₀ flips ram₀ at value i₀ i-end mapping permissions ram i =
-    (i ≤ i-end) × (i-end ≤ length at) × (i-end ≤ length value) × (length ram ≡ length ram₀)
-    × Lent (written (fresh mapping₀ permissions₀ flips) ram₀ at value i) mapping permissions flips ram
+Inv-loop mapping₀ permissions₀ flips ram₀ at value assigned₀ i₀ i-end mapping permissions ram assigned i =
+    (i ≤ i-end) × (i-end ≤ length at) × (i-end ≤ length value) × (i-end ≤ length assigned₀) × (length ram ≡ length ram₀) × (length assigned ≡ length assigned₀)
+    × Ran (fresh mapping₀ permissions₀ flips) ram₀ at value assigned₀ i mapping permissions flips ram assigned
 
 abbrev μ-loop : tie.MeasureT-loop
-μ-loop mapping₀ permissions₀ flips ram₀ at value i₀ i-end mapping permissions ram i = i-end - i
+μ-loop mapping₀ permissions₀ flips ram₀ at value assigned₀ i₀ i-end mapping permissions ram assigned i = i-end - i
 
 loop-holds : tie.Need-loop-holds Inv-loop μ-loop
-loop-holds c = search (needs, c .least .ensures, min-le-left, min-le-right, lent-none)
+loop-holds c = search (needs, c .least-of .ensures, ran-none)
 
 loop-again : tie.Need-loop-again Inv-loop μ-loop
-loop-again c = search (needs, lent-one, c .before .before .write-by .ensures)
+loop-again c = (
+  (search needs),
+  (search needs),
+  (search needs),
+  (search needs),
+  (search needs),
+  (search needs),
+  (search (ran-one, c .before .before .write-by .ensures)),
+)
 
 returns : tie.Need-returns Inv-loop μ-loop
 returns c =
-    let i : c .before .loop .i ≡ c .before .before .least .result = omega arith in
-    lent-last _ _ _ _ _ _ _ _ _ _ (i ∙ c .before .before .least .ensures) (c .before .loop .inv .4)
+    let i : c .before .loop .i ≡ c .before .before .least-of .result = omega arith in
+    ran-last _ _ _ _ _ _ _ _ _ _ _ _ (i ∙ c .before .before .least-of .ensures .0) (c .before .loop .inv .6)
 
 pub luigi-writes-spec : {M : Type 1} → statement M
 luigi-writes-spec =
@@ -45,6 +51,8 @@ luigi-writes-spec =
     (λ c κs. search needs)
     (λ c. search needs)
     (λ c. search needs)
+    (λ c. search needs)
     loop-again
+    (λ c. search needs)
     (λ c. search needs)
     returns)

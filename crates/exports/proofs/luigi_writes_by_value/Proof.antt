@@ -7,8 +7,8 @@ use native.Mathlib.Omega.{arith}
 use lib.ListN.{length}
 use borrow.Author.Needs.{needs}
 use Rattle.cart.specs.declared.Cartridge.{Cartridge}
-use Rattle.exports.specs.Runs.{written, writes}
-use Rattle.exports.specs.Laws.Runs.{cartridge-one, ram-one}
+use Rattle.exports.specs.Runs.{written}
+use Rattle.exports.specs.Laws.Runs.{cartridge-none, ram-none, cartridge-one, ram-one}
 use Rattle.exports.proofs.luigi_writes_by_value.Statement.{statement}
 use Rattle.exports.proofs.luigi_writes_by_value.Tie as tie
 
@@ -20,11 +20,17 @@ abbrev μ-loop : tie.MeasureT-loop
 μ-loop mapping permissions flips ram₀ at value c₀ i₀ i-end ram c i = i-end - i
 
 loop-holds : tie.Need-loop-holds Inv-loop μ-loop
-unfolding written writes
-loop-holds c = search (needs, c .least .ensures, min-le-left, min-le-right)
+loop-holds c = (
+  (search needs),
+  (search (needs, c .least .ensures, min-le-left)),
+  (search (needs, c .least .ensures, min-le-right)),
+  (search needs),
+  (search cartridge-none),
+  (search ram-none),
+)
 
 loop-again : tie.Need-loop-again Inv-loop μ-loop
-loop-again c = search (needs, cartridge-one, ram-one, c .before .before .write .ensures)
+loop-again c = search (needs, cartridge-one, ram-one, c .before .before .before .write .ensures)
 
 ram-last : (c d : Cartridge) (ram at v m : List ℕ) (i n : ℕ) → c ≡ d → i ≡ n → m ≡ written c ram at v i .ram → m ≡ written d ram at v n .ram
 ram-last c d ram at v m i n p q e = rw (← p, ← q) e

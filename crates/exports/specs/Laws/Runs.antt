@@ -11,11 +11,12 @@ use Rattle.switches.specs.Flips.{active}
 use Rattle.cart.specs.declared.Answer.{Answer}
 use Rattle.cart.specs.declared.Cartridge.{Cartridge}
 use Rattle.cart.specs.Reads.{readBy}
-use Rattle.cart.specs.Writes.{leaves, leavesRam}
-use Rattle.cart.specs.Cartridges.{fresh, writeOf, writeRamOf}
+use Rattle.cart.specs.Writes.{leaves, leavesRam, assigned}
+use Rattle.cart.specs.declared.Written.{Written}
+use Rattle.cart.specs.Cartridges.{fresh, writtenOf, writeRamOf}
 use Rattle.cart.specs.Run.{World, step, Write}
 use Rattle.cart.specs.Laws.Run.{after-append}
-use Rattle.exports.specs.Runs.{answered, address, heard, written, writes}
+use Rattle.exports.specs.Runs.{answered, address, heard, written, writes, assignedAt, numbered}
 
 module _ (mapping permissions ram at out : List ℕ) where
   pub answered-none : out ≡ answered mapping permissions ram at 0 out
@@ -45,11 +46,19 @@ module _ (c : Cartridge) (ram at v : List ℕ) where
   unfolding written writes
   one n = rw (add-one n) (after-append (record { cartridge = c; ram = ram }) (writes at v n) (Write (address at n) (getD v n 0) ∷ []))
 
+  pub cartridge-none : c ≡ written c ram at v 0 .cartridge
+  unfolding written writes
+  cartridge-none = refl
+
+  pub ram-none : ram ≡ written c ram at v 0 .ram
+  unfolding written writes
+  ram-none = refl
+
   pub cartridge-one :
-      (n : ℕ) (d e : Cartridge)
+      (n : ℕ) (d : Cartridge) (e : Written)
       → d ≡ written c ram at v n .cartridge
-      → e ≡ writeOf d (address at n) (getD v n 0)
-      → e ≡ written c ram at v (n + 1) .cartridge
+      → e ≡ writtenOf d (address at n) (getD v n 0)
+      → e .cartridge ≡ written c ram at v (n + 1) .cartridge
   cartridge-one n d e p r = rw (one n, r, p)
 
   pub ram-one :
@@ -61,7 +70,7 @@ module _ (c : Cartridge) (ram at v : List ℕ) where
   ram-one n d m k p q r = rw (one n, r, p, q)
 
   -- the same by lent tables
-  pub lent-one :
+  lent-one :
       (n : ℕ) (m p f k x y z : List ℕ)
       → Lent (written c ram at v n) m p f k
       → x ≡ leaves (active m p) f (address at n) (getD v n 0) .mapping
@@ -77,13 +86,45 @@ module _ (c : Cartridge) (ram at v : List ℕ) where
         by-ram = rw (d, l .by-mapping, l .by-permissions, l .by-flips, l .by-ram);
       })
 
-  pub lent-last :
-      (i n : ℕ) (m p f k : List ℕ)
-      → i ≡ n
-      → Lent (written c ram at v i) m p f k
-      → (m ≡ written c ram at v n .cartridge .mapping) × (p ≡ written c ram at v n .cartridge .permissions) × (k ≡ written c ram at v n .ram)
-  lent-last i n m p f k e l = rw (← e) (l .by-mapping, l .by-permissions, l .by-ram)
+  numbered-one :
+      (out : List ℕ) (n : ℕ) (m p f k t : List ℕ) (x : ℕ)
+      → Lent (written c ram at v n) m p f k
+      → t ≡ numbered c ram at v n out
+      → x ≡ assigned (active m p) f (address at n) (getD v n 0)
+      → set t n x ≡ numbered c ram at v (n + 1) out
+  unfolding numbered
+  numbered-one out n m p f k t x l e g =
+      let z : 0 + n ≡ n = omega arith in
+      rw z at (laid-more 0 (assignedAt c ram at v) out n t x e (rw (g, l .by-mapping, l .by-permissions, l .by-flips)))
 
-pub lent-none : (m p f ram at v : List ℕ) → Lent (written (fresh m p f) ram at v 0) m p f ram
-unfolding written writes
-lent-none m p f ram at v = record { by-mapping = refl; by-permissions = refl; by-flips = refl; by-ram = refl }
+-- the same with the numbers that the writes report: what the first n of them have left everywhere
+pub record Ran (c : Cartridge) (ram at v out : List ℕ) (n : ℕ) (mapping permissions flips left numbers : List ℕ) : Type 0 where
+  pub lent : Lent (written c ram at v n) mapping permissions flips left
+  pub reported : numbers ≡ numbered c ram at v n out
+
+module _ (c : Cartridge) (ram at v out : List ℕ) where
+  pub ran-one :
+      (n : ℕ) (m p f k t x y z : List ℕ) (u : ℕ)
+      → Ran c ram at v out n m p f k t
+      → u ≡ assigned (active m p) f (address at n) (getD v n 0)
+      → x ≡ leaves (active m p) f (address at n) (getD v n 0) .mapping
+      → y ≡ leaves (active m p) f (address at n) (getD v n 0) .permissions
+      → z ≡ leavesRam (active m p) f k (address at n) (getD v n 0)
+      → Ran c ram at v out (n + 1) x y f z (set t n u)
+  ran-one n m p f k t x y z u l o a b d =
+      record {
+        lent = lent-one c ram at v n m p f k x y z (l .lent) a b d;
+        reported = numbered-one c ram at v out n m p f k t u (l .lent) (l .reported) o;
+      }
+
+  pub ran-last :
+      (i n : ℕ) (m p f k t : List ℕ)
+      → i ≡ n
+      → Ran c ram at v out i m p f k t
+      → (m ≡ written c ram at v n .cartridge .mapping) × (p ≡ written c ram at v n .cartridge .permissions) × (k ≡ written c ram at v n .ram) × (t ≡ numbered c ram at v n out)
+  ran-last i n m p f k t e l = rw (← e) (l .lent .by-mapping, l .lent .by-permissions, l .lent .by-ram, l .reported)
+
+pub ran-none : (m p f ram at v out : List ℕ) → Ran (fresh m p f) ram at v out 0 m p f ram out
+unfolding written writes numbered laid
+ran-none m p f ram at v out =
+    record { lent = record { by-mapping = refl; by-permissions = refl; by-flips = refl; by-ram = refl }; reported = refl }

@@ -40,4 +40,5 @@ bankswitch-spec =
     (λ c. search needs)
     (λ c. search needs)
     loop-again
+    (λ c. search needs)
     returns)

@@ -19,7 +19,7 @@ use Rattle.switches.specs.Banks.{halfPageParagraphs, registerAt, BANKSW,
 use Rattle.switches.specs.Laws.Flips.{length-turned, turned-in, turned-out, turned-at}
 
 -- past the table there is no entry
-getD-past : (l : List ℕ) (p : ℕ) → length l ≤ p → getD l p 0 ≡ 0
+pub getD-past : (l : List ℕ) (p : ℕ) → length l ≤ p → getD l p 0 ≡ 0
 getD-past [] p h = refl
 getD-past (x ∷ xs) zero h = absurd (omega arith)
 getD-past (x ∷ xs) (suc p) h = getD-past xs p (omega arith)
