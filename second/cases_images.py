@@ -274,6 +274,7 @@ def bank_and_flip_edges() -> Iterator[tuple[str, Tables, list[Access]]]:
             ("flip, switch, reset, switch", [flip, *switch, (2, 0, 0), *switch, *look]),
             ("switch, flip, switch, flip", [*switch, flip, *switch, (1, flip[1], request + 3), *look]),
             ("switch, reset", [*switch, (2, 0, 0), *look]),
+            ("W212-1 the same twice", [*switch, *switch, flip, flip, *switch, miss, *look]),
             ("switch twice", [*switch, (1, low, 0xFF), (1, high, 0x80), *look]),
         ):
             yield f"W202-5 chapter {chapter}: {label}", tables, accesses

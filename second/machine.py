@@ -68,15 +68,15 @@ class Machine:
         """Tell whether a page request acts (01, The machine)."""
         return entry is not None and entry >= 32 and self.initial.flips[entry] & PFE != 0
 
-    def write(self, ram: MutableSequence[int], address: int, value: int) -> None:
-        """Switch a half-page, flip a page or store a word, only one of them (01, The machine; 02, W-202)."""
+    def write(self, ram: MutableSequence[int], address: int, value: int) -> int:
+        """Switch, flip or store, only one of them, and count the mapping entries assigned (01; 02, W-202, W-212)."""
         half_page, entry = half_page_of(address), asked_entry(address, value)
         if half_page is not None and self.permissions[8 * half_page] & BANKSW:
-            self.switch(half_page, value % 256)
-        elif entry is not None and self.acts(entry):
-            self.flip(entry)
-        else:
-            self.store(ram, address, value)
+            return self.switch(half_page, value % 256)
+        if entry is not None and self.acts(entry):
+            return self.flip(entry)
+        self.store(ram, address, value)
+        return 0
 
     def store(self, ram: MutableSequence[int], address: int, value: int) -> None:
         """Store a word where the permissions let it (01, The machine; READINGS M1, M2)."""
@@ -84,15 +84,17 @@ class Machine:
         if permissions & WRITE and location < lent(ram):
             ram[location] = stored(ram[location], value, permissions & NARROW != 0)
 
-    def switch(self, half_page: int, first: int) -> None:
+    def switch(self, half_page: int, first: int) -> int:
         """Map a half-page from an Intellicart paragraph on; permissions stay (02, W-202; READINGS W202-3, W202-4)."""
         for k in range(8):
             self.mapping[8 * half_page + k] = (first + k) % 256
+        return 8
 
-    def flip(self, entry: int) -> None:
+    def flip(self, entry: int) -> int:
         """Give the chapter's paragraphs their new mapping and permissions (01, The machine)."""
         chapter = entry // 16
         for k in range(8 if chapter == 4 else 0, 16):
             mapping, permissions = flipped(self.initial.flips[entry], k)
             self.mapping[16 * chapter + k] = mapping
             self.permissions[16 * chapter + k] = permissions
+        return 8 if chapter == 4 else 16

@@ -35,10 +35,16 @@ class PlainCartridge:
         offset = entry.lo + address - entry.address
         return int.from_bytes(self.bin_file[2 * offset:2 * offset + 2], "big")
 
-    def write(self, address: int, value: int) -> None:
-        """Take a page number, and store in RAM whatever is written there (01, The plain cartridge)."""
+    def write(self, address: int, value: int) -> int:
+        """Take a page number, and store in RAM whatever is written there (01, The plain cartridge).
+
+        Give how many mapping entries the image's machine assigns: the flippable paragraphs of a chapter with PAGE lines (02, W-212)."""
+        chapter, assigned = address >> 12, 0
         if f"{address:04X}"[1:] == "FFF" and f"{value:04X}"[:3] == f"{address >> 12:X}A5":
-            self.pages[address >> 12] = value % 16
+            self.pages[chapter] = value % 16
+            if any(entry.page is not None and entry.chapter == chapter for entry in self.entries):
+                assigned = 8 if chapter == 4 else 16
         for entry in self.entries:
             if entry.kind != "rom" and entry.holds(address):
                 self.ram[address] = value % 256 if entry.kind == "ram8" else value
+        return assigned

@@ -7,18 +7,20 @@ from machine import Machine
 from plain import PlainCartridge
 from titles import READ_IT, RESET_IT, Access
 
-Answers = list[Optional[int]]
+Answers = list[tuple[Optional[int], int]]
 
 
 def play(read: Callable, write: Callable, reset: Callable, accesses: list[Access]) -> Answers:
-    """Make each access in turn; none is silence, or no read (01, The machine)."""
+    """Make each access in turn; give word read, none for silence or no read, and entries assigned (01; 02, W-212)."""
     answers: Answers = []
     for operation, address, value in accesses:
-        answers.append(read(address) if operation == READ_IT else None)
-        if operation == RESET_IT:
+        if operation == READ_IT:
+            answers.append((read(address), 0))
+        elif operation == RESET_IT:
             reset()
-        elif operation != READ_IT:
-            write(address, value)
+            answers.append((None, 0))
+        else:
+            answers.append((None, write(address, value)))
     return answers
 
 

@@ -55,9 +55,9 @@ class Record:
     def accesses(self, accesses: list[Access], answers: Answers) -> "Record":
         """Add accesses, each with its answer (README.md, Records)."""
         self.number(2, len(accesses))
-        for (operation, address, value), answer in zip(accesses, answers):
+        for (operation, address, value), (word, assigned) in zip(accesses, answers):
             self.number(1, operation).number(2, address)
-            self.number(2, value if answer is None else answer).number(1, answer is not None)
+            self.number(2, value if word is None else word).number(1, assigned + (word is not None))
         return self
 
     def finished(self) -> bytes:

@@ -135,12 +135,16 @@ def check_switches(g: Generator, rounds: int) -> Iterator[Check]:
                 one.reset()
                 other.reset()
             elif operation == 1:
-                before = list(ram)
+                before, mapping, permissions = list(ram), list(one.mapping), list(one.permissions)
                 half_page = half_page_of(address)
-                one.write(ram, address, value)
+                assigned = one.write(ram, address, value)
                 acted = write_by_001(other, address, value)
                 yield "001's pseudo-code", (one.mapping, one.permissions) == (other.mapping, other.permissions)
                 yield "a write that acts stores nothing", not acted or ram == before
+                moved = [p for p in range(256) if (mapping[p], permissions[p]) != (one.mapping[p], one.permissions[p])]
+                inside = range(address >> 12 << 4, (address >> 12 << 4) + 16) if half_page is None else range(8 * half_page, 8 * half_page + 8)
+                yield "entries assigned", assigned == (len([p for p in inside if address >> 12 != 4 or p & 8]) if acted else 0)
+                yield "others stay", set(moved) <= set(inside if acted else [])
                 if acted and half_page is not None:
                     at = 2048 * half_page + g.below(2048)
                     yield "Intellicart address", one.location(at) == ((at & 0x07FF) + (value << 8)) & 0xFFFF
@@ -176,7 +180,7 @@ def check_cases_6_to_8() -> Iterator[Check]:
     word = int.from_bytes(fill_bytes(8192, 0, 5)[:2], "big")
     accesses = [(0, 0xC000, 0), (1, 0xCFFF, 0xCA52), (0, 0xC000, 0), (2, 0, 0), (0, 0xC000, 0)]
     answers = play_machine(Machine(loaded.tables), ram, accesses)
-    yield "case 7", answers == [None, None, word, None, None]
+    yield "case 7", answers == [(None, 0), (None, 16), (word, 0), (None, 0), (None, 0)]
     lines = [f"${256 * p:X}-${256 * p + 255:X}=RAM 8\n" for p in range(0x50, 0x91)]
     yield "case 8", built(2, "[memattr]\n" + "".join(lines[:64]))[0].number == 0
     answer = built(2, "[memattr]\n" + "".join(lines))[0]
