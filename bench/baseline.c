@@ -73,6 +73,7 @@ static uint8_t flip(Cartridge *c, int n) {
     int x = n / 16, first = x == 4 ? 8 : 0;
     uint16_t entry = c->flips[n];
     for (int k = first; k < 16; k++) {
+        c->readable += (entry & READ) - (c->permissions[16 * x + k] & READ);
         c->mapping[16 * x + k] = entry / 16 * 16 + k;
         c->permissions[16 * x + k] = entry % 8;
     }
@@ -184,7 +185,9 @@ static void store_hunk(const uint8_t *s, size_t n, uint16_t *ram) {
 
 static Cartridge cartridge_of(const uint8_t *s) {
     Cartridge c;
+    c.readable = 0;
     for (int i = 0; i < 256; i++) {
+        c.readable += s[512 + i] & READ;
         c.initial_mapping[i] = c.mapping[i] = get16(s + 2 * i);
         c.initial_permissions[i] = c.permissions[i] = s[512 + i];
         c.flips[i] = get16(s + 768 + 2 * i);

@@ -19,6 +19,7 @@ typedef struct {
     uint16_t mapping[256];
     uint8_t permissions[256];
     uint16_t flips[256];
+    uint16_t readable;
 } Cartridge;
 
 void c_reads(const Cartridge *c, const uint16_t *ram, size_t words, const uint16_t *at, size_t n, uint32_t *out);

@@ -136,7 +136,7 @@ static bool same_load(void) {
     const Cartridge *c = &loading.cartridge;
     return loaded.number == 0 && loading.number == 0 && loaded.blocks == loading.blocks && loaded.words == loading.words
         && !memcmp(loaded.compat, loading.compat, 5) && !memcmp(loaded.mapping, c->mapping, sizeof c->mapping)
-        && !memcmp(loaded.permissions, c->permissions, sizeof c->permissions) && !memcmp(loaded.flips, c->flips, sizeof c->flips)
+        && loaded.readable == c->readable && !memcmp(loaded.permissions, c->permissions, sizeof c->permissions) && !memcmp(loaded.flips, c->flips, sizeof c->flips)
         && !memcmp(ram[0], ram[1], sizeof ram[0]);
 }
 
@@ -170,7 +170,7 @@ static bool same_heard(void) { return !memcmp(heard[0], heard[1], sizeof heard[0
 static void proved_writes(void) {
     Cartridge *c = &cartridge[0];
     for (int i = 0; i < TIMES; i++)
-        luigi_writes(c->mapping, c->permissions, c->flips, ram[0], WORDS, write_at, SCRIPT, value, SCRIPT, assigned[0], SCRIPT);
+        c->readable = luigi_writes(c->mapping, c->permissions, c->flips, c->readable, ram[0], WORDS, write_at, SCRIPT, value, SCRIPT, assigned[0], SCRIPT);
 }
 
 static void proved_writes_by_value(void) {
@@ -180,6 +180,7 @@ static void proved_writes_by_value(void) {
         luigi_writes_by_value(&a, c->mapping, c->permissions, c->flips, ram[0], WORDS, write_at, SCRIPT, value, SCRIPT);
         memcpy(c->mapping, a.mapping, sizeof a.mapping);
         memcpy(c->permissions, a.permissions, sizeof a.permissions);
+        c->readable = a.readable;
     }
 }
 
@@ -199,7 +200,7 @@ static bool same_writes(void) { return same_worlds() && same_numbers(); }
 static void proved_switches(void) {
     Cartridge *c = &banked[0];
     for (int i = 0; i < TIMES; i++)
-        luigi_writes(c->mapping, c->permissions, c->flips, ram[0], WORDS, switch_at, SCRIPT, switch_value, SCRIPT, assigned[0], SCRIPT);
+        c->readable = luigi_writes(c->mapping, c->permissions, c->flips, c->readable, ram[0], WORDS, switch_at, SCRIPT, switch_value, SCRIPT, assigned[0], SCRIPT);
 }
 
 static void plain_switches(void) {

@@ -17,6 +17,7 @@ typedef struct {
     uint16_t mapping[256];
     uint8_t permissions[256];
     uint16_t flips[256];
+    uint16_t readable;
 } Loaded;
 
 Loaded *luigi_load(Loaded *answer, const uint8_t *image, size_t n, uint16_t *ram, size_t words);
@@ -31,14 +32,15 @@ Built *luigi_build(Built *answer, const uint8_t *bin, size_t nbin, const uint8_t
 typedef struct {
     uint16_t mapping[256];
     uint8_t permissions[256];
+    uint16_t readable;
 } Active;
 
 void luigi_reads(const uint16_t *mapping, const uint8_t *permissions,
                  const uint16_t *ram, size_t words, const uint16_t *at, size_t n, uint32_t *out, size_t room);
 void luigi_reads_by_value(const uint16_t *mapping, const uint8_t *permissions, const uint16_t *flips,
                           const uint16_t *ram, size_t words, const uint16_t *at, size_t n, uint32_t *out, size_t room);
-/* assigned[i]: how many mapping entries write i assigned, 16, 8 or 0. */
-void luigi_writes(uint16_t *mapping, uint8_t *permissions, const uint16_t *flips,
+/* assigned[i]: how many mapping entries write i assigned, 16, 8 or 0. readable: how many of the permissions have READ, as given and as answered. */
+uint16_t luigi_writes(uint16_t *mapping, uint8_t *permissions, const uint16_t *flips, uint16_t readable,
                   uint16_t *ram, size_t words, const uint16_t *at, size_t n, const uint16_t *value, size_t m,
                   uint8_t *assigned, size_t room);
 Active *luigi_writes_by_value(Active *answer, const uint16_t *mapping, const uint8_t *permissions, const uint16_t *flips,

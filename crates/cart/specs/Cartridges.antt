@@ -1,5 +1,5 @@
 -- The cartridge: the initial and the active tables and the flip table; what it answers, and what a write and a reset leave of it
--- (01, The machine).
+-- (01, The machine; 02, W-211).
 use Prim.Native.Nat.{ℕ}
 use mathlib.Core.List.{List}
 use lib.ListN.{replicate}
@@ -9,18 +9,20 @@ use Rattle.switches.specs.Flips.{Active, active}
 use Rattle.cart.specs.declared.Answer.{Answer}
 use Rattle.cart.specs.declared.Cartridge.{Cartridge}
 use Rattle.cart.specs.declared.Written.{Written}
+use Rattle.cart.specs.Readable.{readableOf}
 use Rattle.cart.specs.Reads.{readBy}
-use Rattle.cart.specs.Writes.{leaves, leavesRam, assigned}
+use Rattle.cart.specs.Writes.{leaves, leavesRam, assigned, leavesReadable}
 
--- a cartridge of these tables: every cartridge is made here
-abbrev pub assembled : Active → Active → List ℕ → Cartridge
-assembled initial now flips =
+-- a cartridge of these tables, that keeps this number of readable paragraphs: every cartridge is made here
+abbrev pub assembled : Active → Active → List ℕ → ℕ → Cartridge
+assembled initial now flips readable =
     record {
       «initial_mapping» = initial .mapping;
       «initial_permissions» = initial .permissions;
       mapping = now .mapping;
       permissions = now .permissions;
       flips = flips;
+      readable = readable;
     }
 
 -- its initial and its active tables
@@ -32,18 +34,18 @@ activeOf c = active (c .mapping) (c .permissions)
 
 -- as loaded: the active tables are the initial ones
 abbrev pub fresh : List ℕ → List ℕ → List ℕ → Cartridge
-fresh mapping permissions flips = assembled (active mapping permissions) (active mapping permissions) flips
+fresh mapping permissions flips = assembled (active mapping permissions) (active mapping permissions) flips (readableOf permissions)
 
--- with other active tables
-abbrev pub withActive : Cartridge → Active → Cartridge
-withActive c a = assembled (initialOf c) a (c .flips)
+-- with other active tables, and this number of readable paragraphs
+abbrev pub withActive : Cartridge → Active → ℕ → Cartridge
+withActive c a readable = assembled (initialOf c) a (c .flips) readable
 
 -- a read, a write, and what it leaves of the RAM
 abbrev pub readOf : Cartridge → List ℕ → Console → Answer
 readOf c ram at = readBy (activeOf c) ram at
 
 abbrev pub writeOf : Cartridge → Console → ℕ → Cartridge
-writeOf c at v = withActive c (leaves (activeOf c) (c .flips) at v)
+writeOf c at v = withActive c (leaves (activeOf c) (c .flips) at v) (leavesReadable (activeOf c) (c .flips) (c .readable) at v)
 
 -- what `write` answers: the cartridge, and how many active mapping entries were assigned (02, W-212)
 abbrev pub writtenOf : Cartridge → Console → ℕ → Written
@@ -52,9 +54,9 @@ writtenOf c at v = record { cartridge = writeOf c at v; assigned = assigned (act
 abbrev pub writeRamOf : Cartridge → List ℕ → Console → ℕ → List ℕ
 writeRamOf c ram at v = leavesRam (activeOf c) (c .flips) ram at v
 
--- reset copies the initial tables to the active ones
+-- reset copies the initial tables to the active ones, and counts
 abbrev pub resetOf : Cartridge → Cartridge
-resetOf c = withActive c (initialOf c)
+resetOf c = withActive c (initialOf c) (readableOf (c .«initial_permissions»))
 
 -- the cartridge of a refused load
 abbrev pub noCartridge : Cartridge

@@ -3,4 +3,5 @@ pub mod Reads
 pub mod Writes
 pub mod Banks
 pub mod Moves
+pub mod Readable
 pub mod Run

@@ -1,4 +1,4 @@
--- A write: who takes it, then what it leaves of the active tables and of the RAM (01, The machine; 02, W-202 and W-212).
+-- A write: who takes it, then what it leaves of the active tables and of the RAM (01, The machine; 02, W-202, W-211 and W-212).
 use Prim.Native.Nat.{ℕ, _+_, _*_, _/_, _%_}
 use mathlib.Core.Bool.{Bool, cond, _&&_}
 use mathlib.Core.List.{List}
@@ -8,12 +8,14 @@ use Rattle.switches.specs.declared.Register.{Register}
 use Rattle.switches.specs.declared.Register.the-variants.{HalfPage, Elsewhere}
 use Rattle.switches.specs.declared.Request.{Request}
 use Rattle.switches.specs.declared.Request.the-variants.{Entry, Nothing}
-use Rattle.switches.specs.Flips.{Active, asks, acts, flipSize, flipped}
+use Rattle.switches.specs.Flips.{Active, asks, acts, flipFrom, flipSize, flipped}
 use Rattle.switches.specs.Banks.{halfPageParagraphs, registerAt, banked, bankswitched}
 use Rattle.cart.specs.declared.Cell.{Cell}
 use Rattle.cart.specs.declared.Taker.{Taker}
 use Rattle.cart.specs.declared.Taker.the-variants.{Bank, Flip, Ram}
+use Rattle.cart.specs.declared.Moved.{Moved}
 use Rattle.cart.specs.Cells.{cellAt, lies}
+use Rattle.cart.specs.Readable.{readableIn, recounted}
 
 -- a write to the register of a half-page that may be switched is that half-page's, by the value's low 8 bits; any other is the next taker's
 abbrev pub bankTaker : List ℕ → Register → ℕ → Taker → Taker
@@ -57,6 +59,13 @@ assignedBy (Bank p first) = halfPageParagraphs
 assignedBy (Flip n) = flipSize n
 assignedBy (Ram c) = 0
 
+-- what each taker leaves of the number of readable paragraphs that is kept: only a flip changes it (02, W-211)
+abbrev pub readableBy : Taker → Active → List ℕ → ℕ → ℕ
+readableBy (Bank p first) a flips kept = kept
+readableBy (Flip n) a flips kept =
+    recounted kept (readableIn (a .permissions) (flipFrom n) (flipSize n)) (readableIn (flipped flips n a .permissions) (flipFrom n) (flipSize n))
+readableBy (Ram c) a flips kept = kept
+
 -- what a write leaves, and how many active mapping entries it assigned
 unfoldable pub leaves : Active → List ℕ → Console → ℕ → Active
 leaves a flips at v = leftBy (takerOf a flips at v) a flips
@@ -66,3 +75,10 @@ leavesRam a flips ram at v = ramBy (takerOf a flips at v) ram v
 
 unfoldable pub assigned : Active → List ℕ → Console → ℕ → ℕ
 assigned a flips at v = assignedBy (takerOf a flips at v)
+
+unfoldable pub leavesReadable : Active → List ℕ → ℕ → Console → ℕ → ℕ
+leavesReadable a flips kept at v = readableBy (takerOf a flips at v) a flips kept
+
+-- what `write_by` answers: how many entries were assigned, and how many paragraphs can be read
+abbrev pub movedOf : Active → List ℕ → ℕ → Console → ℕ → Moved
+movedOf a flips kept at v = record { assigned = assigned a flips at v; readable = leavesReadable a flips kept at v }

@@ -1,9 +1,12 @@
 // The cartridge that answers the console: reads, writes and resets over lent RAM (01, "The machine").
 ghost use mathlib.Core.Path.{_≡_};
-ghost use Rattle.switches.specs.Flips.{active};
+ghost use Prim.Native.Nat.{_+_, _%_, _≤_};
+ghost use Rattle.places.specs.Limits.{paragraphs};
+ghost use Rattle.switches.specs.Flips.{active, flipFrom, flipSize, flipped};
 ghost use Rattle.cart.specs.Cells.{locate, rightsOf, cellAt};
+ghost use Rattle.cart.specs.Readable.{readableIn, readableOf, recounted};
 ghost use Rattle.cart.specs.Reads.{fetched, sourceOf, readBy};
-ghost use Rattle.cart.specs.Writes.{storedWord, stored, bankTaker, flipTaker, takerOf, leaves, leavesRam, assigned};
+ghost use Rattle.cart.specs.Writes.{storedWord, stored, bankTaker, flipTaker, takerOf, leaves, leavesRam, movedOf};
 ghost use Rattle.cart.specs.Cartridges.{assembled, fresh, withActive, readOf, writtenOf, writeRamOf, resetOf};
 use places::Console;
 use places::FLIP_ENTRIES;
@@ -14,13 +17,21 @@ use places::PARAGRAPHS;
 use switches::Register;
 use switches::Request;
 
-// The tables as loaded, the tables as they act now, and the flip table.
+// The tables as loaded, the tables as they act now, the flip table, and how many paragraphs can be read now.
 pub struct Cartridge {
     pub initial_mapping: [u16; PARAGRAPHS],
     pub initial_permissions: [u8; PARAGRAPHS],
     pub mapping: [u16; PARAGRAPHS],
     pub permissions: [u8; PARAGRAPHS],
     pub flips: [u16; FLIP_ENTRIES],
+    pub readable: u16,
+}
+
+// What a write answers beside what it leaves of the lent tables: how many active mapping entries it assigned, and how many
+// paragraphs can be read after it.
+pub struct Moved {
+    pub assigned: u8,
+    pub readable: u16,
 }
 
 // What a write leaves of the cartridge, and how many active mapping entries it assigned.
@@ -245,40 +256,114 @@ fn store(cell: Cell, ram: &mut [u16], value: u16)
     ram[i] = stored_word(cell.rights.narrow, ram[i], value);
 }
 
-// A write by the active tables and the flip table alone, lent: nothing of the cartridge is copied. It answers how many entries of the
-// mapping it has assigned.
+// 1 for a permission with READ, else 0.
+fn read_bit(permission: u8) -> u16
+    ensures { λ r. ⌜ (r ≡ permission % 2) × (r ≤ 1) ⌝ }
+{
+    (permission % 2) as u16
+}
+
+// How many of n permissions from place a on have READ.
+fn readable_in(permissions: &[u8; PARAGRAPHS], a: usize, n: usize) -> u16
+    requires { ⌜ a + n ≤ paragraphs ⌝ }
+    ensures { λ r. ⌜ (r ≡ readableIn (now (permissions .entry)) a n) × (r ≤ n) ⌝ }
+{
+    let mut k = 0;
+    for i in 0..n {
+        k += read_bit(permissions[a + i]);
+    }
+    k
+}
+
+// Of those that flip entry n changes.
+fn readable_by(permissions: &[u8; PARAGRAPHS], n: u8) -> u16
+    ensures { λ r. ⌜ r ≡ readableIn (now (permissions .entry)) (flipFrom n) (flipSize n) ⌝ }
+{
+    readable_in(
+        permissions,
+        switches::flip_from(n),
+        switches::flip_size(n) as usize,
+    )
+}
+
+// Of all.
+fn readable_of(permissions: &[u8; PARAGRAPHS]) -> u16
+    ensures { λ r. ⌜ r ≡ readableOf (now (permissions .entry)) ⌝ }
+{
+    readable_in(permissions, 0, PARAGRAPHS)
+}
+
+// The number that is kept, when a part that had so many before has so many after.
+fn recount(kept: u16, before: u16, after: u16) -> u16
+    ensures { λ r. ⌜ r ≡ recounted kept before after ⌝ }
+{
+    std::num::wrapping_sub_u16(std::num::wrapping_add_u16(kept, after), before)
+}
+
+// Flip entry n acts on the lent tables, and the number of readable paragraphs follows.
+fn flip_counted(
+    mapping: &mut [u16; PARAGRAPHS],
+    permissions: &mut [u8; PARAGRAPHS],
+    flips: &[u16; FLIP_ENTRIES],
+    kept: u16,
+    n: u8,
+) -> Moved
+    ensures { λ r. ⌜ (r .assigned ≡ flipSize n)
+        × (r .readable ≡ recounted kept (readableIn (now (permissions .entry)) (flipFrom n) (flipSize n)) (readableIn (flipped (now (flips .entry)) n (active (now (mapping .entry)) (now (permissions .entry))) .permissions) (flipFrom n) (flipSize n)))
+        × (now (mapping .exit) ≡ flipped (now (flips .entry)) n (active (now (mapping .entry)) (now (permissions .entry))) .mapping)
+        × (now (permissions .exit) ≡ flipped (now (flips .entry)) n (active (now (mapping .entry)) (now (permissions .entry))) .permissions) ⌝ }
+{
+    let before = readable_by(permissions, n);
+    let assigned = switches::flip(mapping, permissions, flips, n);
+    let readable = recount(kept, before, readable_by(permissions, n));
+    Moved { assigned, readable }
+}
+
+// A write by the active tables and the flip table alone, lent, with the number of readable paragraphs: nothing of the cartridge is
+// copied. It answers how many entries of the mapping it has assigned, and the number after it.
 pub fn write_by<'a>(
     mapping: &'a mut [u16; PARAGRAPHS],
     permissions: &'a mut [u8; PARAGRAPHS],
     flips: &'a [u16; FLIP_ENTRIES],
+    kept: u16,
     ram: &mut [u16],
     at: Console,
     value: u16,
-) -> u8
-    ensures { λ r. ⌜ (r ≡ assigned (active (now (mapping .entry)) (now (permissions .entry))) (now (flips .entry)) at value)
+) -> Moved
+    ensures { λ r. ⌜ (r ≡ movedOf (active (now (mapping .entry)) (now (permissions .entry))) (now (flips .entry)) kept at value)
         × (now (mapping .exit) ≡ leaves (active (now (mapping .entry)) (now (permissions .entry))) (now (flips .entry)) at value .mapping)
         × (now (permissions .exit) ≡ leaves (active (now (mapping .entry)) (now (permissions .entry))) (now (flips .entry)) at value .permissions)
         × (now (ram .exit) ≡ leavesRam (active (now (mapping .entry)) (now (permissions .entry))) (now (flips .entry)) (now (ram .entry)) at value) ⌝ }
 {
     match taker_of(mapping, permissions, flips, at, value) {
-        Taker::Bank(p, first) => switches::bankswitch(mapping, p, first),
-        Taker::Flip(n) => switches::flip(mapping, permissions, flips, n),
+        Taker::Bank(p, first) => {
+            let assigned = switches::bankswitch(mapping, p, first);
+            Moved {
+                assigned,
+                readable: kept,
+            }
+        }
+        Taker::Flip(n) => flip_counted(mapping, permissions, flips, kept, n),
         Taker::Ram(cell) => {
             store(cell, ram, value);
-            0
+            Moved {
+                assigned: 0,
+                readable: kept,
+            }
         }
     }
 }
 
-// A cartridge of these tables: every cartridge is made here.
+// A cartridge of these tables, that keeps this number of readable paragraphs: every cartridge is made here.
 fn assembled(
     initial_mapping: [u16; PARAGRAPHS],
     initial_permissions: [u8; PARAGRAPHS],
     mapping: [u16; PARAGRAPHS],
     permissions: [u8; PARAGRAPHS],
     flips: [u16; FLIP_ENTRIES],
+    readable: u16,
 ) -> Cartridge
-    ensures { λ r. ⌜ r ≡ assembled (active «initial_mapping» «initial_permissions») (active mapping permissions) flips ⌝ }
+    ensures { λ r. ⌜ r ≡ assembled (active «initial_mapping» «initial_permissions») (active mapping permissions) flips readable ⌝ }
 {
     Cartridge {
         initial_mapping,
@@ -286,6 +371,7 @@ fn assembled(
         mapping,
         permissions,
         flips,
+        readable,
     }
 }
 
@@ -297,12 +383,18 @@ pub fn fresh(
 ) -> Cartridge
     ensures { λ r. ⌜ r ≡ fresh mapping permissions flips ⌝ }
 {
-    assembled(mapping, permissions, mapping, permissions, flips)
+    let readable = readable_of(&permissions);
+    assembled(mapping, permissions, mapping, permissions, flips, readable)
 }
 
-// The cartridge with other active tables.
-fn with_active(c: Cartridge, mapping: [u16; PARAGRAPHS], permissions: [u8; PARAGRAPHS]) -> Cartridge
-    ensures { λ r. ⌜ r ≡ withActive c (active mapping permissions) ⌝ }
+// The cartridge with other active tables, and this number of readable paragraphs.
+fn with_active(
+    c: Cartridge,
+    mapping: [u16; PARAGRAPHS],
+    permissions: [u8; PARAGRAPHS],
+    readable: u16,
+) -> Cartridge
+    ensures { λ r. ⌜ r ≡ withActive c (active mapping permissions) readable ⌝ }
 {
     let initial_mapping = c.initial_mapping;
     let initial_permissions = c.initial_permissions;
@@ -313,6 +405,7 @@ fn with_active(c: Cartridge, mapping: [u16; PARAGRAPHS], permissions: [u8; PARAG
         mapping,
         permissions,
         flips,
+        readable,
     )
 }
 
@@ -321,10 +414,10 @@ pub fn write(c: Cartridge, ram: &mut [u16], at: Console, value: u16) -> Written
 {
     let mut m = c.mapping;
     let mut p = c.permissions;
-    let assigned = write_by(&mut m, &mut p, &c.flips, ram, at, value);
+    let moved = write_by(&mut m, &mut p, &c.flips, c.readable, ram, at, value);
     Written {
-        cartridge: with_active(c, m, p),
-        assigned,
+        cartridge: with_active(c, m, p, moved.readable),
+        assigned: moved.assigned,
     }
 }
 
@@ -333,5 +426,6 @@ pub fn reset(c: Cartridge) -> Cartridge
 {
     let m = c.initial_mapping;
     let p = c.initial_permissions;
-    with_active(c, m, p)
+    let readable = readable_of(&p);
+    with_active(c, m, p, readable)
 }

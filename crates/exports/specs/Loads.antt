@@ -21,4 +21,5 @@ loadedOf l =
       mapping = l .cartridge .mapping;
       permissions = l .cartridge .permissions;
       flips = l .cartridge .flips;
+      readable = l .cartridge .readable;
     }

@@ -11,13 +11,17 @@ use Rattle.cart.specs.declared.Answer.{Answer}
 use Rattle.cart.specs.declared.Answer.the-variants.{Word, Silence}
 use Rattle.cart.specs.Reads.{readBy}
 use Rattle.cart.specs.Writes.{assigned}
-use Rattle.cart.specs.Cartridges.{activeOf}
+use Rattle.cart.specs.Cartridges.{assembled, activeOf}
 use Rattle.cart.specs.Run.{Access, Write, World, after}
 use Rattle.exports.specs.declared.Active.{Active}
 
--- the tables that act
+-- the tables that act, and how many paragraphs can be read
 abbrev pub activeAs : Cartridge → Active
-activeAs c = record { mapping = c .mapping; permissions = c .permissions }
+activeAs c = record { mapping = c .mapping; permissions = c .permissions; readable = c .readable }
+
+-- a cartridge of lent tables, that keeps this number of readable paragraphs
+abbrev pub carried : List ℕ → List ℕ → List ℕ → ℕ → Cartridge
+carried mapping permissions flips readable = assembled (active mapping permissions) (active mapping permissions) flips readable
 
 -- an answer as one number: a word as it is, silence above every word
 abbrev pub heard : Answer → ℕ

@@ -9,7 +9,7 @@ ghost use Rattle.load.specs.Load.{loadingOf, loadRamOf};
 ghost use Rattle.build.specs.Building.{buildingOf, builtOf};
 ghost use Rattle.exports.specs.Loads.{fieldsOf, loadedOf};
 ghost use Rattle.exports.specs.Builds.{builtAs};
-ghost use Rattle.exports.specs.Runs.{activeAs, heard, answersIn, numbered, numberedWrites, activeAfter, ramAfter};
+ghost use Rattle.exports.specs.Runs.{activeAs, heard, answersIn, carried, numbered, numberedWrites, activeAfter, ramAfter};
 use build::Building;
 use cart::Answer;
 use cart::Cartridge;
@@ -52,6 +52,7 @@ pub struct Loaded {
     pub mapping: [u16; PARAGRAPHS],
     pub permissions: [u8; PARAGRAPHS],
     pub flips: [u16; FLIP_ENTRIES],
+    pub readable: u16,
 }
 
 fn compat_of(c: Compat) -> [u8; 5]
@@ -85,6 +86,7 @@ fn answered(l: Loading) -> Loaded
         mapping,
         permissions,
         flips,
+        readable: cartridge.readable,
     }
 }
 
@@ -125,11 +127,12 @@ pub extern "C" fn luigi_build(bin: &[u8], cfg: &[u8], out: &mut [u8]) -> Built
     built_as(build::build(bin, cfg, out))
 }
 
-// The active tables, laid out as C's.
+// The active tables and how many paragraphs can be read, laid out as C's.
 #[repr(C)]
 pub struct Active {
     pub mapping: [u16; PARAGRAPHS],
     pub permissions: [u8; PARAGRAPHS],
+    pub readable: u16,
 }
 
 // A cartridge as it is loaded with these tables.
@@ -154,6 +157,7 @@ fn active_as(c: Cartridge) -> Active
     Active {
         mapping,
         permissions,
+        readable: c.readable,
     }
 }
 
@@ -207,26 +211,40 @@ fn least_of(a: usize, b: usize, c: usize) -> usize
     basics::least(basics::least(a, b), c)
 }
 
-// Writes of the words of `value` to the addresses of `at`, one after the other, by these tables; how many mapping entries each has assigned goes to
-// the first bytes of `assigned`.
+// Writes of the words of `value` to the addresses of `at`, one after the other, by these tables and the number of paragraphs that can be read;
+// how many mapping entries each has assigned goes to the first bytes of `assigned`. It answers the number after the last.
 #[no_mangle]
 pub extern "C" fn luigi_writes(
     mapping: &mut [u16; PARAGRAPHS],
     permissions: &mut [u8; PARAGRAPHS],
     flips: &[u16; FLIP_ENTRIES],
+    readable: u16,
     ram: &mut [u16],
     at: &[u16],
     value: &[u16],
     assigned: &mut [u8],
-)
-    ensures { λ _. ⌜ (now (mapping .exit) ≡ activeAfter (fresh (now (mapping .entry)) (now (permissions .entry)) (now (flips .entry))) (now (ram .entry)) (now (at .entry)) (now (value .entry)) (numberedWrites (now (at .entry)) (now (value .entry)) (now (assigned .entry))) .mapping)
-        × (now (permissions .exit) ≡ activeAfter (fresh (now (mapping .entry)) (now (permissions .entry)) (now (flips .entry))) (now (ram .entry)) (now (at .entry)) (now (value .entry)) (numberedWrites (now (at .entry)) (now (value .entry)) (now (assigned .entry))) .permissions)
-        × (now (ram .exit) ≡ ramAfter (fresh (now (mapping .entry)) (now (permissions .entry)) (now (flips .entry))) (now (ram .entry)) (now (at .entry)) (now (value .entry)) (numberedWrites (now (at .entry)) (now (value .entry)) (now (assigned .entry))))
-        × (now (assigned .exit) ≡ numbered (fresh (now (mapping .entry)) (now (permissions .entry)) (now (flips .entry))) (now (ram .entry)) (now (at .entry)) (now (value .entry)) (numberedWrites (now (at .entry)) (now (value .entry)) (now (assigned .entry))) (now (assigned .entry))) ⌝ }
+) -> u16
+    ensures { λ r. ⌜ (r ≡ activeAfter (carried (now (mapping .entry)) (now (permissions .entry)) (now (flips .entry)) readable) (now (ram .entry)) (now (at .entry)) (now (value .entry)) (numberedWrites (now (at .entry)) (now (value .entry)) (now (assigned .entry))) .readable)
+        × (now (mapping .exit) ≡ activeAfter (carried (now (mapping .entry)) (now (permissions .entry)) (now (flips .entry)) readable) (now (ram .entry)) (now (at .entry)) (now (value .entry)) (numberedWrites (now (at .entry)) (now (value .entry)) (now (assigned .entry))) .mapping)
+        × (now (permissions .exit) ≡ activeAfter (carried (now (mapping .entry)) (now (permissions .entry)) (now (flips .entry)) readable) (now (ram .entry)) (now (at .entry)) (now (value .entry)) (numberedWrites (now (at .entry)) (now (value .entry)) (now (assigned .entry))) .permissions)
+        × (now (ram .exit) ≡ ramAfter (carried (now (mapping .entry)) (now (permissions .entry)) (now (flips .entry)) readable) (now (ram .entry)) (now (at .entry)) (now (value .entry)) (numberedWrites (now (at .entry)) (now (value .entry)) (now (assigned .entry))))
+        × (now (assigned .exit) ≡ numbered (carried (now (mapping .entry)) (now (permissions .entry)) (now (flips .entry)) readable) (now (ram .entry)) (now (at .entry)) (now (value .entry)) (numberedWrites (now (at .entry)) (now (value .entry)) (now (assigned .entry))) (now (assigned .entry))) ⌝ }
 {
+    let mut kept = readable;
     for i in 0..least_of(at.len(), value.len(), assigned.len()) {
-        assigned[i] = cart::write_by(mapping, permissions, flips, ram, Console(at[i]), value[i]);
+        let moved = cart::write_by(
+            mapping,
+            permissions,
+            flips,
+            kept,
+            ram,
+            Console(at[i]),
+            value[i],
+        );
+        assigned[i] = moved.assigned;
+        kept = moved.readable;
     }
+    kept
 }
 
 // The same without the numbers, with the cartridge by value at each write.

@@ -4,3 +4,4 @@ pub mod Ram
 pub mod Passes
 pub mod Breaks
 pub mod Stated
+pub mod Readable

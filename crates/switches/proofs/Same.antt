@@ -5,6 +5,8 @@ use Rattle.basics.specs.Laws.Same.{same}
 use Rattle.switches.proofs.asked.Reads as asked
 use Rattle.switches.proofs.acts.Reads as acts
 use Rattle.switches.proofs.first_k.Reads as first-k
+use Rattle.switches.proofs.flip_from.Reads as flip-from
+use Rattle.switches.proofs.flip_size.Reads as flip-size
 use Rattle.switches.proofs.flip.Reads as flip
 use Rattle.switches.proofs.register_at.Reads as register-at
 use Rattle.switches.proofs.banked.Reads as banked
@@ -18,6 +20,12 @@ one-acts κs a y z e f = same
 
 pub one-first-k : OneAnswer first-k.Learnt
 one-first-k κs a y z e f p q = same (p .0) (q .0)
+
+pub one-flip-from : OneAnswer flip-from.Learnt
+one-flip-from κs a y z e f p q = same (p .0) (q .0)
+
+pub one-flip-size : OneAnswer flip-size.Learnt
+one-flip-size κs a y z e f = same
 
 pub one-flip : OneAnswer flip.Learnt
 one-flip κs a y z e f p q = same (p .0) (q .0)

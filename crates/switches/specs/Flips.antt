@@ -36,7 +36,10 @@ flipPermissions e k = e % 8
 abbrev pub firstK : ℕ → ℕ
 firstK x = cond (eqb x 4) 8 0
 
--- so many paragraphs change when flip entry n acts: 16, and 8 in chapter 4 (02, W-212)
+-- from this paragraph on, so many change when flip entry n acts: 16, and 8 in chapter 4 (02, W-212)
+abbrev pub flipFrom : ℕ → ℕ
+flipFrom n = chapterParagraphs * (n / chapterPages) + firstK (n / chapterPages)
+
 abbrev pub flipSize : ℕ → ℕ
 flipSize n = chapterParagraphs - firstK (n / chapterPages)
 

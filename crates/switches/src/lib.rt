@@ -1,8 +1,8 @@
 // What a write asks of a cartridge's tables, and what they become: page flips (01, "The machine") and bankswitches (02, W-202). No word of the cartridge.
-ghost use Prim.Native.Nat.{_/_, _≤_};
+ghost use Prim.Native.Nat.{_/_, _+_, _≤_};
 ghost use mathlib.Core.Path.{_≡_};
-ghost use Rattle.places.specs.Limits.{chapterPages};
-ghost use Rattle.switches.specs.Flips.{active, asks, acts, firstK, flipMapping, flipPermissions, flipSize, turned, flipped};
+ghost use Rattle.places.specs.Limits.{chapterPages, paragraphs};
+ghost use Rattle.switches.specs.Flips.{active, asks, acts, firstK, flipMapping, flipPermissions, flipFrom, flipSize, turned, flipped};
 ghost use Rattle.switches.specs.Banks.{halfPageParagraphs, registerAt, banked, numberFrom, switched};
 use places::CHAPTER_PAGES;
 use places::CHAPTER_PARAGRAPHS;
@@ -74,8 +74,15 @@ fn flip_permissions(m: &mut [u8; PARAGRAPHS], n: u8, entry: u16)
     }
 }
 
-// How many paragraphs flip entry n changes.
-fn flip_size(n: u8) -> u8
+// The first paragraph that flip entry n changes, and how many they are.
+pub fn flip_from(n: u8) -> usize
+    ensures { λ r. ⌜ (r ≡ flipFrom n) × (r + flipSize n ≤ paragraphs) ⌝ }
+{
+    let x = n as usize / CHAPTER_PAGES;
+    CHAPTER_PARAGRAPHS * x + first_k(x)
+}
+
+pub fn flip_size(n: u8) -> u8
     ensures { λ r. ⌜ r ≡ flipSize n ⌝ }
 {
     (CHAPTER_PARAGRAPHS - first_k(n as usize / CHAPTER_PAGES)) as u8

@@ -8,6 +8,7 @@ use crate::record::after;
 use crate::record::ends;
 use crate::record::front;
 use crate::record::front_words;
+use crate::record::get16;
 use crate::record::get32;
 use crate::record::has8;
 use crate::record::has32;
@@ -54,6 +55,14 @@ fn same_active(want: usize, ieee: &[u32; 2048], c: Cartridge, scratch: &mut [u8]
     digest_tables(ieee, &c.mapping, &c.permissions, &c.flips, scratch) == want
 }
 
+// How many paragraphs can be read, k bytes on; with it the record ends.
+pub fn readable_ends(rec: &[u8], at: usize, k: usize, c: Cartridge) -> bool {
+    both(
+        get16(rec, after(at, k)) == c.readable as usize,
+        ends(rec, after(at, k), 2),
+    )
+}
+
 // The first n words of the RAM.
 pub fn same_ram(
     want: usize,
@@ -96,7 +105,7 @@ fn same_load(rec: &[u8], at: usize, ieee: &[u32; 2048], l: Loading, scratch: &mu
     both(verdict, same_tables(want, ieee, l.cartridge, scratch))
 }
 
-// A load: the verdict, the tables, and the RAM.
+// A load: the verdict, the tables, the RAM, and the readable paragraphs.
 pub fn load_agrees(
     rec: &[u8],
     ieee: &[u32; 2048],
@@ -108,7 +117,11 @@ pub fn load_agrees(
     let at = x.next;
     let answer = same_load(rec, at, ieee, x.loading, scratch);
     let stored = same_ram(get32(rec, after(at, 22)), ieee, ram, x.words, scratch);
-    both(answer, both(stored, ends(rec, at, 26)))
+    let l = x.loading;
+    both(
+        answer,
+        both(stored, readable_ends(rec, at, 26, l.cartridge)),
+    )
 }
 
 // A load and its accesses: the cartridge then, whether it loaded and every answer was the record's, how many words of RAM
@@ -135,7 +148,7 @@ pub fn run_image(rec: &[u8], at: usize, image: &[u8], n: usize, ram: &mut [u16])
     }
 }
 
-// Accesses after a load: each answer, the active tables, and the RAM.
+// Accesses after a load: each answer, the active tables, the RAM, and the readable paragraphs.
 pub fn machine_agrees(
     rec: &[u8],
     ieee: &[u32; 2048],
@@ -148,5 +161,8 @@ pub fn machine_agrees(
     let at = r.next;
     let tables = same_active(get32(rec, at), ieee, r.cartridge, scratch);
     let stored = same_ram(get32(rec, after(at, 4)), ieee, ram, r.words, scratch);
-    both(both(r.good, tables), both(stored, ends(rec, at, 8)))
+    both(
+        both(r.good, tables),
+        both(stored, readable_ends(rec, at, 8, r.cartridge)),
+    )
 }

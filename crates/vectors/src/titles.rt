@@ -2,6 +2,7 @@
 use crate::digest::digest;
 use crate::fill::take_buffer;
 use crate::fill::take_bytes;
+use crate::loads::readable_ends;
 use crate::loads::run_image;
 use crate::loads::same_ram;
 use crate::record::ends;
@@ -81,7 +82,7 @@ fn press(rec: &[u8], bin: &mut [u8], cfg: &mut [u8], image: &mut [u8]) -> Presse
     }
 }
 
-// A title built, loaded and played, the machine's answers beside the plain cartridge's; then the RAM.
+// A title built, loaded and played, the machine's answers beside the plain cartridge's; then the RAM and the readable paragraphs.
 pub fn bus_agrees(
     rec: &[u8],
     ieee: &[u32; 2048],
@@ -93,5 +94,8 @@ pub fn bus_agrees(
     let x = press(rec, bin, cfg, image);
     let r = run_image(rec, x.next, image, x.length, ram);
     let stored = same_ram(get32(rec, r.next), ieee, ram, r.words, image);
-    both(both(x.good, r.good), both(stored, ends(rec, r.next, 4)))
+    both(
+        both(x.good, r.good),
+        both(stored, readable_ends(rec, r.next, 4, r.cartridge)),
+    )
 }

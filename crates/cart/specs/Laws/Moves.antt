@@ -13,7 +13,7 @@ use Rattle.basics.specs.Counts.{count}
 use Rattle.basics.specs.Laws.Tests.{cases, compare, and-left, true-is-not-false}
 use Rattle.places.specs.declared.Console.{Console}
 use Rattle.places.specs.Limits.{paragraphs, chapterPages, chapterParagraphs, flipEntries}
-use Rattle.switches.specs.Flips.{Active, asks, PFE, acts, firstK, flipMapping, flipPermissions, flipSize}
+use Rattle.switches.specs.Flips.{Active, asks, PFE, acts, firstK, flipMapping, flipPermissions, flipFrom, flipSize}
 use Rattle.switches.specs.Banks.{halfPageParagraphs, registerAt, banked, numberFrom}
 use Rattle.switches.specs.Laws.Flips.{first-small, turned-in, turned-out}
 use Rattle.switches.specs.Laws.Banks.{getD-past, switched-in, switched-out}
@@ -25,7 +25,7 @@ use Rattle.cart.specs.Writes.{bankTaker, flipTaker, takerOf, leftBy, lea
 -- the first paragraph that a taker assigns; with `assignedBy` it says which
 abbrev pub firstBy : Taker → ℕ
 firstBy (Bank q first) = halfPageParagraphs * (q / halfPageParagraphs)
-firstBy (Flip n) = chapterParagraphs * (n / chapterPages) + firstK (n / chapterPages)
+firstBy (Flip n) = flipFrom n
 firstBy (Ram c) = 0
 
 -- paragraph p is among them

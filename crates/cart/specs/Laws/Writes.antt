@@ -14,9 +14,10 @@ use Rattle.switches.specs.declared.Request.the-variants.{Entry}
 use Rattle.switches.specs.Flips.{Active, acts}
 use Rattle.switches.specs.Banks.{banked}
 use Rattle.cart.specs.declared.Cell.{Cell}
+use Rattle.cart.specs.declared.Moved.{Moved}
 use Rattle.cart.specs.declared.Taker.{Taker}
 use Rattle.cart.specs.declared.Taker.the-variants.{Bank, Flip}
-use Rattle.cart.specs.Writes.{storedWord, stored, bankTaker, flipTaker, takerOf, leftBy, ramBy, assignedBy, leaves, leavesRam, assigned}
+use Rattle.cart.specs.Writes.{storedWord, stored, bankTaker, flipTaker, takerOf, leftBy, ramBy, assignedBy, readableBy, leaves, leavesRam, assigned, leavesReadable, movedOf}
 
 -- shut by its rights; past the n words that are lent; open, to the word w
 module _ (c : Cell) (ram : List ℕ) (v : ℕ) where
@@ -65,8 +66,8 @@ module _ (a : Active) (flips : List ℕ) (at : Console) (v : ℕ) (t w : Taker) 
   unfolding leavesRam
   by-ram ram x g = rw (← h, e, g)
 
-  pub by-assigned : (x : ℕ) → x ≡ assignedBy w → x ≡ assigned a flips at v
-  unfolding assigned
-  by-assigned x g = rw (← h, e, g)
+  pub by-moved : (kept : ℕ) (x : Moved) → x .assigned ≡ assignedBy w → x .readable ≡ readableBy w a flips kept → x ≡ movedOf a flips kept at v
+  unfolding assigned leavesReadable
+  by-moved kept x g k = rw (← h, e, ← g, ← k)
 
-pub ruleset writes = (by-mapping, by-permissions, by-ram, by-assigned)
+pub ruleset writes = (by-mapping, by-permissions, by-ram, by-moved)

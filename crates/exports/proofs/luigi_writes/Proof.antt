@@ -4,18 +4,18 @@ use mathlib.Core.Path.{_≡_, _∙_}
 use native.Mathlib.Omega.{arith}
 use lib.ListN.{length}
 use borrow.Author.Needs.{needs}
-use Rattle.cart.specs.Cartridges.{fresh}
 use Rattle.exports.specs.Laws.Runs.{Ran, ran-none, ran-one, ran-last}
+use Rattle.exports.specs.Runs.{carried}
 use Rattle.exports.proofs.luigi_writes.Statement.{statement}
 use Rattle.exports.proofs.luigi_writes.Tie as tie
 
 abbrev Inv-loop : tie.InvT-loop
-Inv-loop mapping₀ permissions₀ flips ram₀ at value assigned₀ i₀ i-end mapping permissions ram assigned i =
+Inv-loop mapping₀ permissions₀ flips readable ram₀ at value assigned₀ kept₀ i₀ i-end mapping permissions ram assigned kept i =
     (i ≤ i-end) × (i-end ≤ length at) × (i-end ≤ length value) × (i-end ≤ length assigned₀) × (length ram ≡ length ram₀) × (length assigned ≡ length assigned₀)
-    × Ran (fresh mapping₀ permissions₀ flips) ram₀ at value assigned₀ i mapping permissions flips ram assigned
+    × Ran (carried mapping₀ permissions₀ flips readable) ram₀ at value assigned₀ i mapping permissions flips kept ram assigned
 
 abbrev μ-loop : tie.MeasureT-loop
-μ-loop mapping₀ permissions₀ flips ram₀ at value assigned₀ i₀ i-end mapping permissions ram assigned i = i-end - i
+μ-loop mapping₀ permissions₀ flips readable ram₀ at value assigned₀ kept₀ i₀ i-end mapping permissions ram assigned kept i = i-end - i
 
 loop-holds : tie.Need-loop-holds Inv-loop μ-loop
 loop-holds c = search (needs, c .least-of .ensures, ran-none)
@@ -34,7 +34,7 @@ loop-again c = (
 returns : tie.Need-returns Inv-loop μ-loop
 returns c =
     let i : c .before .loop .i ≡ c .before .before .least-of .result = omega arith in
-    ran-last _ _ _ _ _ _ _ _ _ _ _ _ (i ∙ c .before .before .least-of .ensures .0) (c .before .loop .inv .6)
+    ran-last _ _ _ _ _ _ _ _ _ _ _ _ _ (i ∙ c .before .before .least-of .ensures .0) (c .before .loop .inv .6)
 
 pub luigi-writes-spec : {M : Type 1} → statement M
 luigi-writes-spec =

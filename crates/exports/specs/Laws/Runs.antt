@@ -11,12 +11,13 @@ use Rattle.switches.specs.Flips.{active}
 use Rattle.cart.specs.declared.Answer.{Answer}
 use Rattle.cart.specs.declared.Cartridge.{Cartridge}
 use Rattle.cart.specs.Reads.{readBy}
-use Rattle.cart.specs.Writes.{leaves, leavesRam, assigned}
+use Rattle.cart.specs.declared.Moved.{Moved}
+use Rattle.cart.specs.Writes.{leaves, leavesRam, movedOf}
 use Rattle.cart.specs.declared.Written.{Written}
-use Rattle.cart.specs.Cartridges.{fresh, writtenOf, writeRamOf}
+use Rattle.cart.specs.Cartridges.{writtenOf, writeRamOf}
 use Rattle.cart.specs.Run.{World, step, Write}
 use Rattle.cart.specs.Laws.Run.{after-append}
-use Rattle.exports.specs.Runs.{answered, address, heard, written, writes, assignedAt, numbered}
+use Rattle.exports.specs.Runs.{answered, address, heard, carried, written, writes, assignedAt, numbered}
 
 module _ (mapping permissions ram at out : List ℕ) where
   pub answered-none : out ≡ answered mapping permissions ram at 0 out
@@ -34,11 +35,12 @@ module _ (mapping permissions ram at out : List ℕ) where
       let z : 0 + i ≡ i = omega arith in
       rw z at (laid-more 0 (λ j. heard (readBy (active mapping permissions) ram (address at j))) out i t x e (rw (g, f)))
 
--- lent tables and RAM that are a world's
-pub record Lent (w : World) (mapping permissions flips ram : List ℕ) : Type 0 where
+-- lent tables, the number that goes with them, and RAM that are a world's
+pub record Lent (w : World) (mapping permissions flips : List ℕ) (readable : ℕ) (ram : List ℕ) : Type 0 where
   pub by-mapping : mapping ≡ w .cartridge .mapping
   pub by-permissions : permissions ≡ w .cartridge .permissions
   pub by-flips : flips ≡ w .cartridge .flips
+  pub by-readable : readable ≡ w .cartridge .readable
   pub by-ram : ram ≡ w .ram
 
 module _ (c : Cartridge) (ram at v : List ℕ) where
@@ -71,60 +73,62 @@ module _ (c : Cartridge) (ram at v : List ℕ) where
 
   -- the same by lent tables
   lent-one :
-      (n : ℕ) (m p f k x y z : List ℕ)
-      → Lent (written c ram at v n) m p f k
+      (n : ℕ) (m p f : List ℕ) (r : ℕ) (k x y z : List ℕ) (u : Moved)
+      → Lent (written c ram at v n) m p f r k
+      → u ≡ movedOf (active m p) f r (address at n) (getD v n 0)
       → x ≡ leaves (active m p) f (address at n) (getD v n 0) .mapping
       → y ≡ leaves (active m p) f (address at n) (getD v n 0) .permissions
       → z ≡ leavesRam (active m p) f k (address at n) (getD v n 0)
-      → Lent (written c ram at v (n + 1)) x y f z
-  lent-one n m p f k x y z l a b d =
+      → Lent (written c ram at v (n + 1)) x y f (u .readable) z
+  lent-one n m p f r k x y z u l o a b d =
       rw (one n)
       (record {
         by-mapping = rw (a, l .by-mapping, l .by-permissions, l .by-flips);
         by-permissions = rw (b, l .by-mapping, l .by-permissions, l .by-flips);
         by-flips = l .by-flips;
+        by-readable = rw (o, l .by-mapping, l .by-permissions, l .by-flips, l .by-readable);
         by-ram = rw (d, l .by-mapping, l .by-permissions, l .by-flips, l .by-ram);
       })
 
   numbered-one :
-      (out : List ℕ) (n : ℕ) (m p f k t : List ℕ) (x : ℕ)
-      → Lent (written c ram at v n) m p f k
+      (out : List ℕ) (n : ℕ) (m p f : List ℕ) (r : ℕ) (k t : List ℕ) (u : Moved)
+      → Lent (written c ram at v n) m p f r k
       → t ≡ numbered c ram at v n out
-      → x ≡ assigned (active m p) f (address at n) (getD v n 0)
-      → set t n x ≡ numbered c ram at v (n + 1) out
+      → u ≡ movedOf (active m p) f r (address at n) (getD v n 0)
+      → set t n (u .assigned) ≡ numbered c ram at v (n + 1) out
   unfolding numbered
-  numbered-one out n m p f k t x l e g =
+  numbered-one out n m p f r k t u l e o =
       let z : 0 + n ≡ n = omega arith in
-      rw z at (laid-more 0 (assignedAt c ram at v) out n t x e (rw (g, l .by-mapping, l .by-permissions, l .by-flips)))
+      rw z at (laid-more 0 (assignedAt c ram at v) out n t (u .assigned) e (rw (o, l .by-mapping, l .by-permissions, l .by-flips)))
 
 -- the same with the numbers that the writes report: what the first n of them have left everywhere
-pub record Ran (c : Cartridge) (ram at v out : List ℕ) (n : ℕ) (mapping permissions flips left numbers : List ℕ) : Type 0 where
-  pub lent : Lent (written c ram at v n) mapping permissions flips left
+pub record Ran (c : Cartridge) (ram at v out : List ℕ) (n : ℕ) (mapping permissions flips : List ℕ) (readable : ℕ) (left numbers : List ℕ) : Type 0 where
+  pub lent : Lent (written c ram at v n) mapping permissions flips readable left
   pub reported : numbers ≡ numbered c ram at v n out
 
 module _ (c : Cartridge) (ram at v out : List ℕ) where
   pub ran-one :
-      (n : ℕ) (m p f k t x y z : List ℕ) (u : ℕ)
-      → Ran c ram at v out n m p f k t
-      → u ≡ assigned (active m p) f (address at n) (getD v n 0)
+      (n : ℕ) (m p f : List ℕ) (r : ℕ) (k t x y z : List ℕ) (u : Moved)
+      → Ran c ram at v out n m p f r k t
+      → u ≡ movedOf (active m p) f r (address at n) (getD v n 0)
       → x ≡ leaves (active m p) f (address at n) (getD v n 0) .mapping
       → y ≡ leaves (active m p) f (address at n) (getD v n 0) .permissions
       → z ≡ leavesRam (active m p) f k (address at n) (getD v n 0)
-      → Ran c ram at v out (n + 1) x y f z (set t n u)
-  ran-one n m p f k t x y z u l o a b d =
+      → Ran c ram at v out (n + 1) x y f (u .readable) z (set t n (u .assigned))
+  ran-one n m p f r k t x y z u l o a b d =
       record {
-        lent = lent-one c ram at v n m p f k x y z (l .lent) a b d;
-        reported = numbered-one c ram at v out n m p f k t u (l .lent) (l .reported) o;
+        lent = lent-one c ram at v n m p f r k x y z u (l .lent) o a b d;
+        reported = numbered-one c ram at v out n m p f r k t u (l .lent) (l .reported) o;
       }
 
   pub ran-last :
-      (i n : ℕ) (m p f k t : List ℕ)
+      (i n : ℕ) (m p f : List ℕ) (r : ℕ) (k t : List ℕ)
       → i ≡ n
-      → Ran c ram at v out i m p f k t
-      → (m ≡ written c ram at v n .cartridge .mapping) × (p ≡ written c ram at v n .cartridge .permissions) × (k ≡ written c ram at v n .ram) × (t ≡ numbered c ram at v n out)
-  ran-last i n m p f k t e l = rw (← e) (l .lent .by-mapping, l .lent .by-permissions, l .lent .by-ram, l .reported)
+      → Ran c ram at v out i m p f r k t
+      → (r ≡ written c ram at v n .cartridge .readable) × (m ≡ written c ram at v n .cartridge .mapping) × (p ≡ written c ram at v n .cartridge .permissions) × (k ≡ written c ram at v n .ram) × (t ≡ numbered c ram at v n out)
+  ran-last i n m p f r k t e l = rw (← e) (l .lent .by-readable, l .lent .by-mapping, l .lent .by-permissions, l .lent .by-ram, l .reported)
 
-pub ran-none : (m p f ram at v out : List ℕ) → Ran (fresh m p f) ram at v out 0 m p f ram out
+pub ran-none : (m p f : List ℕ) (r : ℕ) (ram at v out : List ℕ) → Ran (carried m p f r) ram at v out 0 m p f r ram out
 unfolding written writes numbered laid
-ran-none m p f ram at v out =
-    record { lent = record { by-mapping = refl; by-permissions = refl; by-flips = refl; by-ram = refl }; reported = refl }
+ran-none m p f r ram at v out =
+    record { lent = record { by-mapping = refl; by-permissions = refl; by-flips = refl; by-readable = refl; by-ram = refl }; reported = refl }

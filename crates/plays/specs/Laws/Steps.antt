@@ -23,7 +23,7 @@ use Rattle.cart.specs.declared.Taker.{Taker}
 use Rattle.cart.specs.declared.Taker.the-variants.{Ram, Flip}
 use Rattle.cart.specs.Cells.{READ, WRITE, NARROW, paragraph, locate, cellAt, lies}
 use Rattle.cart.specs.Reads.{silent, fetched, readBy}
-use Rattle.cart.specs.Writes.{flipTaker, takerOf, storedWord, stored, leaves, leavesRam}
+use Rattle.cart.specs.Writes.{flipTaker, takerOf, storedWord, stored, leaves, leavesRam, leavesReadable}
 use Rattle.cart.specs.Cartridges.{activeOf, readOf, writeOf, writeRamOf}
 use Rattle.cart.specs.Laws.Banks.{ordinary}
 use Rattle.lines.specs.declared.Line.{Line}
@@ -241,9 +241,9 @@ module _ {bin : List ℕ} {lines : List Line} (g : Good lines) (c : Cartridge) (
 
     -- what a write leaves of the tables and of the RAM, by its case
     tables-by : (b q : Bool) → isRequest at v ≡ b → paged lines (at .0 / 4096) ≡ q → Tabled lines (writeOf c at v) (numberAfter number at v)
-    unfolding leaves numberAfter
+    unfolding leaves leavesReadable numberAfter
     tables-by true true e p =
-        rw (takes-flip e p, e, ← entry-chapter, ← entry-page) (tabled-flip t entry (entry-small p) (rw entry-chapter p))
+        rw (takes-flip e p, e, ← entry-chapter, ← entry-page) (tabled-flip t entry _ (entry-small p) (rw entry-chapter p))
     tables-by true false e p = rw (takes-ram e p, e) (tabled-idle t (at .0 / 4096) (v % 16) p)
     tables-by false q e p = rw (takes-nothing e, e) t
 

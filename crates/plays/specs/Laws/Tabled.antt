@@ -79,10 +79,10 @@ module _ {lines : List Line} {c : Cartridge} {number : ℕ → ℕ} (t : Tabled 
   flip-in n s = rw (t .flips) (flip-entry lines n s)
 
   -- a flip that acts
-  pub tabled-flip : (n : ℕ) → n < flipEntries → paged lines (n / 16) ≡ true →
-      Tabled lines (withActive c (flipped (c .flips) n (activeOf c))) (renumbered number (n / 16) (n % 16))
+  pub tabled-flip : (n r : ℕ) → n < flipEntries → paged lines (n / 16) ≡ true →
+      Tabled lines (withActive c (flipped (c .flips) n (activeOf c)) r) (renumbered number (n / 16) (n % 16))
   unfolding mappingAt permissionsAt
-  tabled-flip n s e =
+  tabled-flip n r s e =
       record {
         initial-mapping = t .initial-mapping;
         initial-permissions = t .initial-permissions;
