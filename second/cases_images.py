@@ -153,6 +153,15 @@ def field_edges() -> Iterator[Image]:
     yield "W201-2 refusal 10", Draft([tables_block(pfe)], flags=stated).encoded(), 10, 0
 
 
+def readable_edges() -> Iterator[Image]:
+    """Give tables with none, one, some and all paragraphs readable, and a refusal of the last (02, W-211)."""
+    for label, permissions in (("none", [0xFE] * 256), ("all", [0x01] * 256), ("all bits", [0xFF] * 256), ("half", [0xFE, 0x01] * 128),
+                               ("silent ones", [int(p < 5 or p >> 4 in (1, 3)) for p in range(256)]), ("255", [0] + [1] * 255)):
+        yield f"W211-1 {label} readable", simple(tables=Tables(permissions=permissions)), 10, 0
+        yield f"W211-2 {label} readable, but 10", simple(tables=Tables(permissions=permissions), bits=1 << 32), 10, 0
+        yield f"W211-2 {label} readable, but 9", simple(DraftBlock(2, b""), tables=Tables(permissions=permissions)), 10, 0
+
+
 def large_edges() -> Iterator[Image]:
     """Give the readings on limits and large RAMs (READINGS L1, L11, L12)."""
     small = simple(hunk_block(1, hunk.block_16([7, 8])))
@@ -181,7 +190,8 @@ def random_image(g: Generator, ram_length: int) -> tuple[str, bytes]:
 
 def load_cases(g: Generator) -> Iterator[Case]:
     """Give the edges, then random images (01, File layout)."""
-    for edges in (data_edges(), bit_edges(), block_edges(), hunk_edges(), field_edges(), large_edges()):
+    for edges in (data_edges(), bit_edges(), block_edges(), hunk_edges(), field_edges(), readable_edges(),
+                  large_edges()):
         for label, image, ram_length, ram_seed in edges:
             yield (label, *load_record(image, (ram_length, ram_seed)))
     for _ in range(1000):
@@ -256,6 +266,19 @@ def bank_edges() -> Iterator[tuple[str, Tables, list[Access]]]:
         yield f"W202-10 write to {address:#06x}", tables, accesses + looks(0)[-8:] + looks(31)[-4:]
 
 
+def count_edges() -> Iterator[tuple[str, Tables, list[Access]]]:
+    """Give flips that make paragraphs readable or not, then a bankswitch and a reset (02, W-211)."""
+    starts = {"none": [0] * 256, "all": [READ] * 256, "all, banked": [READ | BANKSW] * 256, "every third": [0xFE | READ * (p % 3 == 0) for p in range(256)]}
+    for chapter in (0, 1, 2, 3, 4, 5, 8, 15):
+        for label, permissions in starts.items():
+            tables = Tables(permissions=list(permissions))
+            tables.flips[16 * chapter:16 * chapter + 4] = [0x10, 0x19, 0x1E, 0x1F] if chapter != 1 else [0x10, 0x11, 0x16, 0x17]
+            asks = [(1, 4096 * chapter + 0xFFF, 4096 * chapter + 0xA50 + page) for page in range(4)]
+            for accesses in ([], asks[:1], asks[:2], asks[:3], asks[1:], [asks[2], (2, 0, 0)], [(1, 0x40 + chapter, 0x20)]):
+                if accesses or chapter == 0:
+                    yield f"W211-1 chapter {chapter}, {label} at first, {len(accesses)} accesses", tables, accesses
+
+
 def bank_and_flip_edges() -> Iterator[tuple[str, Tables, list[Access]]]:
     """Give bankswitches before and after page requests and resets (02, W-202; READINGS W202-5, W202-9)."""
     for chapter in (0, 1, 2, 3, 4, 5, 8, 15):
@@ -297,7 +320,7 @@ def machine_case(g: Generator, which: int) -> Case:
 def machine_cases(g: Generator) -> Iterator[Case]:
     """Give the edges, then random tables and accesses (01, The machine)."""
     yield from row_edges()
-    for edges, ram in ((bank_edges(), (65_536, 3)), (bank_and_flip_edges(), (16_384, 4))):
+    for edges, ram in ((bank_edges(), (65_536, 3)), (bank_and_flip_edges(), (16_384, 4)), (count_edges(), (16, 4))):
         for label, tables, accesses in edges:
             yield (label, *machine_record(compose(bytes(16), bytes(8), tables, []), ram, accesses))
     for which in range(300):

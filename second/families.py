@@ -29,7 +29,7 @@ def load_record(image: bytes, ram: Filled) -> Answered:
     answer = load(image, words)
     record = Record().fill(image).number(4, *ram).number(1, answer.number)
     record.number(4, answer.place, answer.blocks, answer.words).number(1, *answer.fields)
-    record.number(4, digest(answer.tables.payload()), digest_words(words))
+    record.number(4, digest(answer.tables.payload()), digest_words(words)).number(2, answer.tables.readable())
     return answer.number, record.finished()
 
 
@@ -47,7 +47,7 @@ def machine_record(image: bytes, ram: Filled, accesses: list[Access]) -> Answere
     answers = play_machine(machine, words, accesses)
     active = Tables(machine.mapping, machine.permissions, machine.initial.flips)
     record = Record().fill(image).number(4, *ram).accesses(accesses, answers)
-    return 0, record.number(4, digest(active.payload()), digest_words(words)).finished()
+    return 0, record.number(4, digest(active.payload()), digest_words(words)).number(2, machine.readable).finished()
 
 
 def write_record(head: bytes, tables: bytes, ram: Filled, marks: bytes, buffer: Filled) -> Answered:
@@ -75,7 +75,9 @@ def bus_record(title: Title, ram: Filled, accesses: list[Access]) -> Answered:
     words = list(fill_words(*ram))
     loaded = load(make_image(title.bin_file(), title.cfg, entries), words)
     answers = play_plain(PlainCartridge(title.bin_file(), entries), accesses)
-    if loaded.number or play_machine(Machine(loaded.tables), words, accesses) != answers:
+    machine = Machine(loaded.tables)
+    if loaded.number or play_machine(machine, words, accesses) != answers:
         raise SystemExit("the machine does not play as the plain cartridge")
     record = Record().fill(title.bin_file(), 0, title.bin_seed).fill(title.cfg, 0x20).number(4, *ram)
-    return 0, record.accesses(accesses, answers).number(4, digest_words(words)).finished()
+    record.accesses(accesses, answers).number(4, digest_words(words)).number(2, machine.readable)
+    return 0, record.finished()

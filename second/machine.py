@@ -41,7 +41,7 @@ def stored(old: int, value: int, narrow: bool) -> int:
 
 
 class Machine:
-    """Initial and active mapping and permissions, and the one flip table (01, The machine)."""
+    """Initial and active mapping and permissions, the one flip table, and how many are readable (01; 02, W-211)."""
 
     def __init__(self, tables: Tables) -> None:
         self.initial = tables
@@ -51,6 +51,7 @@ class Machine:
         """Copy initial mapping and permissions to active (01, The machine)."""
         self.mapping = list(self.initial.mapping)
         self.permissions = list(self.initial.permissions)
+        self.readable = self.initial.readable()
 
     def location(self, address: int) -> int:
         """Give the Locutus address of a console address (01, The machine)."""
@@ -95,6 +96,7 @@ class Machine:
         chapter = entry // 16
         for k in range(8 if chapter == 4 else 0, 16):
             mapping, permissions = flipped(self.initial.flips[entry], k)
+            self.readable += (permissions & READ) - (self.permissions[16 * chapter + k] & READ)
             self.mapping[16 * chapter + k] = mapping
             self.permissions[16 * chapter + k] = permissions
         return 8 if chapter == 4 else 16

@@ -134,6 +134,7 @@ def check_switches(g: Generator, rounds: int) -> Iterator[Check]:
             if operation == 2:
                 one.reset()
                 other.reset()
+                yield "readable after reset", one.readable == len([p for p in one.permissions if p % 2 == 1])
             elif operation == 1:
                 before, mapping, permissions = list(ram), list(one.mapping), list(one.permissions)
                 half_page = half_page_of(address)
@@ -144,6 +145,7 @@ def check_switches(g: Generator, rounds: int) -> Iterator[Check]:
                 moved = [p for p in range(256) if (mapping[p], permissions[p]) != (one.mapping[p], one.permissions[p])]
                 inside = range(address >> 12 << 4, (address >> 12 << 4) + 16) if half_page is None else range(8 * half_page, 8 * half_page + 8)
                 yield "entries assigned", assigned == (len([p for p in inside if address >> 12 != 4 or p & 8]) if acted else 0)
+                yield "readable is the count", one.readable == len([p for p in one.permissions if p % 2 == 1])
                 yield "others stay", set(moved) <= set(inside if acted else [])
                 if acted and half_page is not None:
                     at = 2048 * half_page + g.below(2048)

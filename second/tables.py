@@ -22,6 +22,10 @@ class Tables:
     permissions: list[int] = field(default_factory=zeros)
     flips: list[int] = field(default_factory=zeros)
 
+    def readable(self) -> int:
+        """Count the paragraphs with READ (02, W-211; READINGS W211-1)."""
+        return sum(permissions & READ for permissions in self.permissions)
+
     def payload(self) -> bytes:
         """Lay the tables out as type 0x01 has them (01, File layout)."""
         return le16(self.mapping) + bytes(self.permissions) + le16(self.flips)
