@@ -170,7 +170,7 @@ static bool same_heard(void) { return !memcmp(heard[0], heard[1], sizeof heard[0
 static void proved_writes(void) {
     Cartridge *c = &cartridge[0];
     for (int i = 0; i < TIMES; i++)
-        c->readable = luigi_writes(c->mapping, c->permissions, c->flips, c->readable, ram[0], WORDS, write_at, SCRIPT, value, SCRIPT, assigned[0], SCRIPT);
+        luigi_writes(c->mapping, c->permissions, c->flips, &c->readable, ram[0], WORDS, write_at, SCRIPT, value, SCRIPT, assigned[0], SCRIPT);
 }
 
 static void proved_writes_by_value(void) {
@@ -200,7 +200,7 @@ static bool same_writes(void) { return same_worlds() && same_numbers(); }
 static void proved_switches(void) {
     Cartridge *c = &banked[0];
     for (int i = 0; i < TIMES; i++)
-        c->readable = luigi_writes(c->mapping, c->permissions, c->flips, c->readable, ram[0], WORDS, switch_at, SCRIPT, switch_value, SCRIPT, assigned[0], SCRIPT);
+        luigi_writes(c->mapping, c->permissions, c->flips, &c->readable, ram[0], WORDS, switch_at, SCRIPT, switch_value, SCRIPT, assigned[0], SCRIPT);
 }
 
 static void plain_switches(void) {

@@ -39,8 +39,8 @@ void luigi_reads(const uint16_t *mapping, const uint8_t *permissions,
                  const uint16_t *ram, size_t words, const uint16_t *at, size_t n, uint32_t *out, size_t room);
 void luigi_reads_by_value(const uint16_t *mapping, const uint8_t *permissions, const uint16_t *flips,
                           const uint16_t *ram, size_t words, const uint16_t *at, size_t n, uint32_t *out, size_t room);
-/* assigned[i]: how many mapping entries write i assigned, 16, 8 or 0. readable: how many of the permissions have READ, as given and as answered. */
-uint16_t luigi_writes(uint16_t *mapping, uint8_t *permissions, const uint16_t *flips, uint16_t readable,
+/* assigned[i]: how many mapping entries write i assigned, 16, 8 or 0. readable: how many of the permissions have READ. */
+void luigi_writes(uint16_t *mapping, uint8_t *permissions, const uint16_t *flips, uint16_t *readable,
                   uint16_t *ram, size_t words, const uint16_t *at, size_t n, const uint16_t *value, size_t m,
                   uint8_t *assigned, size_t room);
 Active *luigi_writes_by_value(Active *answer, const uint16_t *mapping, const uint8_t *permissions, const uint16_t *flips,

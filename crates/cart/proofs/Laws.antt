@@ -5,9 +5,8 @@ use mathlib.Core.List.{List}
 use Rattle.places.specs.declared.Console.{Console}
 use Rattle.switches.specs.Flips.{Active, active, flipFrom, flipSize, flipped}
 use Rattle.cart.specs.declared.Cartridge.{Cartridge}
-use Rattle.cart.specs.declared.Moved.{Moved}
 use Rattle.cart.specs.Readable.{readableIn, readableOf, recounted}
-use Rattle.cart.specs.Writes.{leaves, movedOf}
+use Rattle.cart.specs.Writes.{leaves, assigned, leavesReadable}
 use Rattle.cart.specs.Cartridges.{assembled, initialOf, activeOf, fresh, withActive, writtenOf, resetOf}
 
 -- a cartridge as loaded, and one that is reset, each with its count
@@ -27,8 +26,9 @@ pub flip-recounts : (a : Active) (flips : List ℕ) (n kept before after r : ℕ
     → r ≡ recounted kept (readableIn (a .permissions) (flipFrom n) (flipSize n)) (readableIn (flipped flips n a .permissions) (flipFrom n) (flipSize n))
 flip-recounts a flips n kept before after r q e f g h = rw (← f, ← e, ← g) h
 
--- what a write answers, from what the lent tables have become
-pub written-is : (c : Cartridge) (at : Console) (v : ℕ) (m p : List ℕ) (x : Moved) (d : Cartridge)
-    → m ≡ leaves (activeOf c) (c .flips) at v .mapping → p ≡ leaves (activeOf c) (c .flips) at v .permissions → x ≡ movedOf (activeOf c) (c .flips) (c .readable) at v
-    → d ≡ withActive c (active m p) (x .readable) → record { cartridge = d; assigned = x .assigned } ≡ writtenOf c at v
-written-is c at v m p x d e f g h = rw (h, e, f, g)
+-- what a write answers, from what the lent tables and the number have become
+pub written-is : (c : Cartridge) (at : Console) (v : ℕ) (m p : List ℕ) (n k : ℕ) (d : Cartridge)
+    → m ≡ leaves (activeOf c) (c .flips) at v .mapping → p ≡ leaves (activeOf c) (c .flips) at v .permissions
+    → n ≡ assigned (activeOf c) (c .flips) at v → k ≡ leavesReadable (activeOf c) (c .flips) (c .readable) at v
+    → d ≡ withActive c (active m p) k → record { cartridge = d; assigned = n } ≡ writtenOf c at v
+written-is c at v m p n k d e f g i h = rw (h, e, f, g, i)

@@ -13,7 +13,6 @@ use Rattle.switches.specs.Banks.{halfPageParagraphs, registerAt, banked, banksw
 use Rattle.cart.specs.declared.Cell.{Cell}
 use Rattle.cart.specs.declared.Taker.{Taker}
 use Rattle.cart.specs.declared.Taker.the-variants.{Bank, Flip, Ram}
-use Rattle.cart.specs.declared.Moved.{Moved}
 use Rattle.cart.specs.Cells.{cellAt, lies}
 use Rattle.cart.specs.Readable.{readableIn, recounted}
 
@@ -78,7 +77,3 @@ assigned a flips at v = assignedBy (takerOf a flips at v)
 
 unfoldable pub leavesReadable : Active → List ℕ → ℕ → Console → ℕ → ℕ
 leavesReadable a flips kept at v = readableBy (takerOf a flips at v) a flips kept
-
--- what `write_by` answers: how many entries were assigned, and how many paragraphs can be read
-abbrev pub movedOf : Active → List ℕ → ℕ → Console → ℕ → Moved
-movedOf a flips kept at v = record { assigned = assigned a flips at v; readable = leavesReadable a flips kept at v }

@@ -2,11 +2,14 @@
 ghost use mathlib.Core.Path.{_≡_};
 ghost use Prim.Native.Nat.{_+_, _%_, _≤_};
 ghost use Rattle.places.specs.Limits.{paragraphs};
-ghost use Rattle.switches.specs.Flips.{active, flipFrom, flipSize, flipped};
+ghost use Rattle.switches.specs.Flips.{active, asks, flipFrom, flipSize, flipped};
+ghost use Rattle.switches.specs.Banks.{registerAt};
+ghost use Rattle.cart.specs.declared.Taker.the-variants.{Ram};
+ghost use Rattle.cart.specs.Code.Takers.{bankedOnly, actingOnly};
 ghost use Rattle.cart.specs.Cells.{locate, rightsOf, cellAt};
 ghost use Rattle.cart.specs.Readable.{readableIn, readableOf, recounted};
 ghost use Rattle.cart.specs.Reads.{fetched, sourceOf, readBy};
-ghost use Rattle.cart.specs.Writes.{storedWord, stored, bankTaker, flipTaker, takerOf, leaves, leavesRam, movedOf};
+ghost use Rattle.cart.specs.Writes.{storedWord, stored, flipTaker, takerOf, leftBy, assignedBy, readableBy, leaves, leavesRam, assigned, leavesReadable};
 ghost use Rattle.cart.specs.Cartridges.{assembled, fresh, withActive, readOf, writtenOf, writeRamOf, resetOf};
 use places::Console;
 use places::FLIP_ENTRIES;
@@ -24,13 +27,6 @@ pub struct Cartridge {
     pub mapping: [u16; PARAGRAPHS],
     pub permissions: [u8; PARAGRAPHS],
     pub flips: [u16; FLIP_ENTRIES],
-    pub readable: u16,
-}
-
-// What a write answers beside what it leaves of the lent tables: how many active mapping entries it assigned, and how many
-// paragraphs can be read after it.
-pub struct Moved {
-    pub assigned: u8,
     pub readable: u16,
 }
 
@@ -180,33 +176,49 @@ pub fn read(c: Cartridge, ram: &[u16], at: Console) -> Answer
     read_by(&c.mapping, &c.permissions, ram, at)
 }
 
-// A write to the register of a half-page that may be switched is that half-page's; any other is the next taker's.
-fn bank_asked(permissions: &[u8; PARAGRAPHS], r: Register, value: u16, next: Taker) -> Taker
-    ensures { λ t. ⌜ t ≡ bankTaker (now (permissions .entry)) r value next ⌝ }
+// The half-page whose register an address is, where it may be switched.
+fn bank_of(permissions: &[u8; PARAGRAPHS], at: Console) -> Register
+    ensures { λ r. ⌜ r ≡ bankedOnly (now (permissions .entry)) (registerAt at) ⌝ }
 {
-    match r {
+    match switches::register_at(at) {
         Register::HalfPage(p) => {
             if switches::banked(permissions, p) {
-                return Taker::Bank(p, (value % 256) as u8);
+                return Register::HalfPage(p);
             }
-            next
+            Register::Elsewhere
         }
-        Register::Elsewhere => next,
+        Register::Elsewhere => Register::Elsewhere,
     }
 }
 
-// A request that acts is its flip entry's; any other write is the next taker's.
-fn flip_asked(flips: &[u16; FLIP_ENTRIES], r: Request, next: Taker) -> Taker
-    ensures { λ t. ⌜ t ≡ flipTaker (now (flips .entry)) r next ⌝ }
+// The flip entry that a write asks for, where it acts.
+fn flip_of(flips: &[u16; FLIP_ENTRIES], at: Console, value: u16) -> Request
+    ensures { λ r. ⌜ r ≡ actingOnly (now (flips .entry)) (asks at value) ⌝ }
 {
-    match r {
+    match switches::asked(at, value) {
         Request::Entry(n) => {
             if switches::acts(flips, n) {
-                return Taker::Flip(n);
+                return Request::Entry(n);
             }
-            next
+            Request::Nothing
         }
-        Request::Nothing => next,
+        Request::Nothing => Request::Nothing,
+    }
+}
+
+// Who takes a write that switches nothing: a flip entry, else the word that the address reaches.
+fn unbanked_taker<'a>(
+    mapping: &'a [u16; PARAGRAPHS],
+    permissions: &'a [u8; PARAGRAPHS],
+    flips: &'a [u16; FLIP_ENTRIES],
+    at: Console,
+    value: u16,
+) -> Taker
+    ensures { λ t. ⌜ t ≡ flipTaker (now (flips .entry)) (asks at value) (Ram (cellAt (active (now (mapping .entry)) (now (permissions .entry))) at)) ⌝ }
+{
+    match flip_of(flips, at, value) {
+        Request::Entry(n) => Taker::Flip(n),
+        Request::Nothing => Taker::Ram(cell_at(mapping, permissions, at)),
     }
 }
 
@@ -220,16 +232,10 @@ fn taker_of<'a>(
 ) -> Taker
     ensures { λ t. ⌜ t ≡ takerOf (active (now (mapping .entry)) (now (permissions .entry))) (now (flips .entry)) at value ⌝ }
 {
-    bank_asked(
-        permissions,
-        switches::register_at(at),
-        value,
-        flip_asked(
-            flips,
-            switches::asked(at, value),
-            Taker::Ram(cell_at(mapping, permissions, at)),
-        ),
-    )
+    match bank_of(permissions, at) {
+        Register::HalfPage(p) => Taker::Bank(p, (value % 256) as u8),
+        Register::Elsewhere => unbanked_taker(mapping, permissions, flips, at, value),
+    }
 }
 
 // The word that a store leaves: a narrow one replaces the low 8 bits only.
@@ -305,51 +311,69 @@ fn flip_counted(
     mapping: &mut [u16; PARAGRAPHS],
     permissions: &mut [u8; PARAGRAPHS],
     flips: &[u16; FLIP_ENTRIES],
-    kept: u16,
+    readable: &mut u16,
     n: u8,
-) -> Moved
-    ensures { λ r. ⌜ (r .assigned ≡ flipSize n)
-        × (r .readable ≡ recounted kept (readableIn (now (permissions .entry)) (flipFrom n) (flipSize n)) (readableIn (flipped (now (flips .entry)) n (active (now (mapping .entry)) (now (permissions .entry))) .permissions) (flipFrom n) (flipSize n)))
+) -> u8
+    ensures { λ r. ⌜ (r ≡ flipSize n)
+        × (now (readable .exit) ≡ recounted (now (readable .entry)) (readableIn (now (permissions .entry)) (flipFrom n) (flipSize n)) (readableIn (flipped (now (flips .entry)) n (active (now (mapping .entry)) (now (permissions .entry))) .permissions) (flipFrom n) (flipSize n)))
         × (now (mapping .exit) ≡ flipped (now (flips .entry)) n (active (now (mapping .entry)) (now (permissions .entry))) .mapping)
         × (now (permissions .exit) ≡ flipped (now (flips .entry)) n (active (now (mapping .entry)) (now (permissions .entry))) .permissions) ⌝ }
 {
     let before = readable_by(permissions, n);
     let assigned = switches::flip(mapping, permissions, flips, n);
-    let readable = recount(kept, before, readable_by(permissions, n));
-    Moved { assigned, readable }
+    *readable = recount(*readable, before, readable_by(permissions, n));
+    assigned
 }
 
-// A write by the active tables and the flip table alone, lent, with the number of readable paragraphs: nothing of the cartridge is
-// copied. It answers how many entries of the mapping it has assigned, and the number after it.
+// What a taker that is no word of the RAM leaves of the lent tables and of the number: apart, so that the way of a store stays short.
+fn shift<'a>(
+    mapping: &'a mut [u16; PARAGRAPHS],
+    permissions: &'a mut [u8; PARAGRAPHS],
+    flips: &'a [u16; FLIP_ENTRIES],
+    readable: &'a mut u16,
+    t: Taker,
+) -> u8
+    ensures { λ r. ⌜ (r ≡ assignedBy t)
+        × (now (readable .exit) ≡ readableBy t (active (now (mapping .entry)) (now (permissions .entry))) (now (flips .entry)) (now (readable .entry)))
+        × (now (mapping .exit) ≡ leftBy t (active (now (mapping .entry)) (now (permissions .entry))) (now (flips .entry)) .mapping)
+        × (now (permissions .exit) ≡ leftBy t (active (now (mapping .entry)) (now (permissions .entry))) (now (flips .entry)) .permissions) ⌝ }
+{
+    match t {
+        Taker::Bank(p, first) => switches::bankswitch(mapping, p, first),
+        Taker::Flip(n) => flip_counted(mapping, permissions, flips, readable, n),
+        Taker::Ram(cell) => 0,
+    }
+}
+
+// A write by the active tables, the flip table and the number of readable paragraphs, all lent: nothing of the cartridge is copied. It
+// answers how many entries of the mapping it has assigned.
 pub fn write_by<'a>(
     mapping: &'a mut [u16; PARAGRAPHS],
     permissions: &'a mut [u8; PARAGRAPHS],
     flips: &'a [u16; FLIP_ENTRIES],
-    kept: u16,
+    readable: &'a mut u16,
     ram: &mut [u16],
     at: Console,
     value: u16,
-) -> Moved
-    ensures { λ r. ⌜ (r ≡ movedOf (active (now (mapping .entry)) (now (permissions .entry))) (now (flips .entry)) kept at value)
+) -> u8
+    ensures { λ r. ⌜ (r ≡ assigned (active (now (mapping .entry)) (now (permissions .entry))) (now (flips .entry)) at value)
+        × (now (readable .exit) ≡ leavesReadable (active (now (mapping .entry)) (now (permissions .entry))) (now (flips .entry)) (now (readable .entry)) at value)
         × (now (mapping .exit) ≡ leaves (active (now (mapping .entry)) (now (permissions .entry))) (now (flips .entry)) at value .mapping)
         × (now (permissions .exit) ≡ leaves (active (now (mapping .entry)) (now (permissions .entry))) (now (flips .entry)) at value .permissions)
         × (now (ram .exit) ≡ leavesRam (active (now (mapping .entry)) (now (permissions .entry))) (now (flips .entry)) (now (ram .entry)) at value) ⌝ }
 {
     match taker_of(mapping, permissions, flips, at, value) {
-        Taker::Bank(p, first) => {
-            let assigned = switches::bankswitch(mapping, p, first);
-            Moved {
-                assigned,
-                readable: kept,
-            }
-        }
-        Taker::Flip(n) => flip_counted(mapping, permissions, flips, kept, n),
+        Taker::Bank(p, first) => shift(
+            mapping,
+            permissions,
+            flips,
+            readable,
+            Taker::Bank(p, first),
+        ),
+        Taker::Flip(n) => shift(mapping, permissions, flips, readable, Taker::Flip(n)),
         Taker::Ram(cell) => {
             store(cell, ram, value);
-            Moved {
-                assigned: 0,
-                readable: kept,
-            }
+            0
         }
     }
 }
@@ -414,10 +438,11 @@ pub fn write(c: Cartridge, ram: &mut [u16], at: Console, value: u16) -> Written
 {
     let mut m = c.mapping;
     let mut p = c.permissions;
-    let moved = write_by(&mut m, &mut p, &c.flips, c.readable, ram, at, value);
+    let mut readable = c.readable;
+    let assigned = write_by(&mut m, &mut p, &c.flips, &mut readable, ram, at, value);
     Written {
-        cartridge: with_active(c, m, p, moved.readable),
-        assigned: moved.assigned,
+        cartridge: with_active(c, m, p, readable),
+        assigned,
     }
 }
 

@@ -39,8 +39,8 @@ one-reads κs a y z e f = same
 pub one-reads-by-value : OneLent luigi-reads-by-value.Learnt (λ κs e. now (e .1 .1 .1 .1 .1 .0))
 one-reads-by-value κs a y z e f = same
 
-pub one-writes : OneAnswer luigi-writes.Learnt
-one-writes κs a y z e f p q = same (p .0) (q .0)
+pub one-writes-readable : OneLent luigi-writes.Learnt (λ κs e. now (e .1 .1 .1 .0))
+one-writes-readable κs a y z e f p q = same (p .0) (q .0)
 
 pub one-writes-mapping : OneLent luigi-writes.Learnt (λ κs e. now (e .0))
 one-writes-mapping κs a y z e f p q = same (p .1) (q .1)

@@ -212,39 +212,35 @@ fn least_of(a: usize, b: usize, c: usize) -> usize
 }
 
 // Writes of the words of `value` to the addresses of `at`, one after the other, by these tables and the number of paragraphs that can be read;
-// how many mapping entries each has assigned goes to the first bytes of `assigned`. It answers the number after the last.
+// how many mapping entries each has assigned goes to the first bytes of `assigned`.
 #[no_mangle]
 pub extern "C" fn luigi_writes(
     mapping: &mut [u16; PARAGRAPHS],
     permissions: &mut [u8; PARAGRAPHS],
     flips: &[u16; FLIP_ENTRIES],
-    readable: u16,
+    readable: &mut u16,
     ram: &mut [u16],
     at: &[u16],
     value: &[u16],
     assigned: &mut [u8],
-) -> u16
-    ensures { λ r. ⌜ (r ≡ activeAfter (carried (now (mapping .entry)) (now (permissions .entry)) (now (flips .entry)) readable) (now (ram .entry)) (now (at .entry)) (now (value .entry)) (numberedWrites (now (at .entry)) (now (value .entry)) (now (assigned .entry))) .readable)
-        × (now (mapping .exit) ≡ activeAfter (carried (now (mapping .entry)) (now (permissions .entry)) (now (flips .entry)) readable) (now (ram .entry)) (now (at .entry)) (now (value .entry)) (numberedWrites (now (at .entry)) (now (value .entry)) (now (assigned .entry))) .mapping)
-        × (now (permissions .exit) ≡ activeAfter (carried (now (mapping .entry)) (now (permissions .entry)) (now (flips .entry)) readable) (now (ram .entry)) (now (at .entry)) (now (value .entry)) (numberedWrites (now (at .entry)) (now (value .entry)) (now (assigned .entry))) .permissions)
-        × (now (ram .exit) ≡ ramAfter (carried (now (mapping .entry)) (now (permissions .entry)) (now (flips .entry)) readable) (now (ram .entry)) (now (at .entry)) (now (value .entry)) (numberedWrites (now (at .entry)) (now (value .entry)) (now (assigned .entry))))
-        × (now (assigned .exit) ≡ numbered (carried (now (mapping .entry)) (now (permissions .entry)) (now (flips .entry)) readable) (now (ram .entry)) (now (at .entry)) (now (value .entry)) (numberedWrites (now (at .entry)) (now (value .entry)) (now (assigned .entry))) (now (assigned .entry))) ⌝ }
+)
+    ensures { λ _. ⌜ (now (readable .exit) ≡ activeAfter (carried (now (mapping .entry)) (now (permissions .entry)) (now (flips .entry)) (now (readable .entry))) (now (ram .entry)) (now (at .entry)) (now (value .entry)) (numberedWrites (now (at .entry)) (now (value .entry)) (now (assigned .entry))) .readable)
+        × (now (mapping .exit) ≡ activeAfter (carried (now (mapping .entry)) (now (permissions .entry)) (now (flips .entry)) (now (readable .entry))) (now (ram .entry)) (now (at .entry)) (now (value .entry)) (numberedWrites (now (at .entry)) (now (value .entry)) (now (assigned .entry))) .mapping)
+        × (now (permissions .exit) ≡ activeAfter (carried (now (mapping .entry)) (now (permissions .entry)) (now (flips .entry)) (now (readable .entry))) (now (ram .entry)) (now (at .entry)) (now (value .entry)) (numberedWrites (now (at .entry)) (now (value .entry)) (now (assigned .entry))) .permissions)
+        × (now (ram .exit) ≡ ramAfter (carried (now (mapping .entry)) (now (permissions .entry)) (now (flips .entry)) (now (readable .entry))) (now (ram .entry)) (now (at .entry)) (now (value .entry)) (numberedWrites (now (at .entry)) (now (value .entry)) (now (assigned .entry))))
+        × (now (assigned .exit) ≡ numbered (carried (now (mapping .entry)) (now (permissions .entry)) (now (flips .entry)) (now (readable .entry))) (now (ram .entry)) (now (at .entry)) (now (value .entry)) (numberedWrites (now (at .entry)) (now (value .entry)) (now (assigned .entry))) (now (assigned .entry))) ⌝ }
 {
-    let mut kept = readable;
     for i in 0..least_of(at.len(), value.len(), assigned.len()) {
-        let moved = cart::write_by(
+        assigned[i] = cart::write_by(
             mapping,
             permissions,
             flips,
-            kept,
+            readable,
             ram,
             Console(at[i]),
             value[i],
         );
-        assigned[i] = moved.assigned;
-        kept = moved.readable;
     }
-    kept
 }
 
 // The same without the numbers, with the cartridge by value at each write.

@@ -1,23 +1,26 @@
 -- Laws of writes: a cell and a request as the code comes to them, and what a write leaves by the taker that the code has found.
 use Prim.Native.Nat.{ℕ, _≤_, _<_, _%_}
 use mathlib.Core.List.{List}
-use mathlib.Core.Path.{_≡_}
+use mathlib.Core.Path.{_≡_, refl, sym, ap, _∙_}
 use mathlib.Core.Bool.{Bool, not, true, false}
+use native.Mathlib.Omega.{arith}
 use lib.ListN.{getD, set}
 use borrow.Author.Tests.{lt-ltb, le-ltb, not-true, not-false}
+use Rattle.basics.specs.Laws.Tests.{cases}
 use Rattle.places.specs.declared.Console.{Console}
 use Rattle.places.specs.Limits.{lent}
 use Rattle.switches.specs.declared.Register.{Register}
 use Rattle.switches.specs.declared.Register.the-variants.{HalfPage, Elsewhere}
 use Rattle.switches.specs.declared.Request.{Request}
-use Rattle.switches.specs.declared.Request.the-variants.{Entry}
-use Rattle.switches.specs.Flips.{Active, acts}
-use Rattle.switches.specs.Banks.{banked}
+use Rattle.switches.specs.declared.Request.the-variants.{Entry, Nothing}
+use Rattle.switches.specs.Flips.{Active, asks, acts}
+use Rattle.switches.specs.Banks.{registerAt, banked}
 use Rattle.cart.specs.declared.Cell.{Cell}
-use Rattle.cart.specs.declared.Moved.{Moved}
 use Rattle.cart.specs.declared.Taker.{Taker}
-use Rattle.cart.specs.declared.Taker.the-variants.{Bank, Flip}
-use Rattle.cart.specs.Writes.{storedWord, stored, bankTaker, flipTaker, takerOf, leftBy, ramBy, assignedBy, readableBy, leaves, leavesRam, assigned, leavesReadable, movedOf}
+use Rattle.cart.specs.declared.Taker.the-variants.{Bank, Flip, Ram}
+use Rattle.cart.specs.Cells.{cellAt}
+use Rattle.cart.specs.Code.Takers.{bankedOnly, actingOnly}
+use Rattle.cart.specs.Writes.{storedWord, stored, bankTaker, flipTaker, takerOf, leftBy, ramBy, assignedBy, readableBy, leaves, leavesRam, assigned, leavesReadable}
 
 -- shut by its rights; past the n words that are lent; open, to the word w
 module _ (c : Cell) (ram : List ℕ) (v : ℕ) where
@@ -36,21 +39,85 @@ module _ (c : Cell) (ram : List ℕ) (v : ℕ) where
 
 pub ruleset stores = (store-shut, store-past, store-open)
 
--- a register whose half-page may be switched, or may not
-module _ (permissions : List ℕ) (r : Register) (h v : ℕ) (next : Taker) (b : Bool) (e : r ≡ HalfPage h) (q : b ≡ banked permissions h) where
-  pub bank-takes : b ≡ true → Bank h (v % 256) ≡ bankTaker permissions r v next
-  bank-takes p = rw (e, ← q, p)
+-- a register whose half-page may be switched, may not, and none
+module _ (permissions : List ℕ) (r q : Register) (e : r ≡ q) where
+  pub bank-may : (h : ℕ) (b : Bool) → r ≡ HalfPage h → b ≡ banked permissions h → b ≡ true → HalfPage h ≡ bankedOnly permissions q
+  bank-may h b f g t = rw (← e, f, ← g, t)
 
-  pub bank-passes : b ≡ false → next ≡ bankTaker permissions r v next
-  bank-passes p = rw (e, ← q, p)
+  pub bank-not : (h : ℕ) (b : Bool) → r ≡ HalfPage h → b ≡ banked permissions h → b ≡ false → Elsewhere ≡ bankedOnly permissions q
+  bank-not h b f g t = rw (← e, f, ← g, t)
 
--- a request whose entry acts, or does not
-module _ (flips : List ℕ) (r : Request) (n : ℕ) (next : Taker) (b : Bool) (e : r ≡ Entry n) (h : b ≡ acts flips n) where
-  pub flip-takes : b ≡ true → Flip n ≡ flipTaker flips r next
-  flip-takes q = rw (e, ← h, q)
+  pub bank-none : r ≡ Elsewhere → Elsewhere ≡ bankedOnly permissions q
+  bank-none f = rw (← e, f)
 
-  pub flip-passes : b ≡ false → next ≡ flipTaker flips r next
-  flip-passes q = rw (e, ← h, q)
+pub ruleset banks = (bank-may, bank-not, bank-none)
+
+-- a request whose entry acts, does not, and none
+module _ (flips : List ℕ) (r q : Request) (e : r ≡ q) where
+  pub flip-may : (n : ℕ) (b : Bool) → r ≡ Entry n → b ≡ acts flips n → b ≡ true → Entry n ≡ actingOnly flips q
+  flip-may n b f g t = rw (← e, f, ← g, t)
+
+  pub flip-not : (n : ℕ) (b : Bool) → r ≡ Entry n → b ≡ acts flips n → b ≡ false → Nothing ≡ actingOnly flips q
+  flip-not n b f g t = rw (← e, f, ← g, t)
+
+  pub flip-none : r ≡ Nothing → Nothing ≡ actingOnly flips q
+  flip-none f = rw (← e, f)
+
+pub ruleset flips-asked = (flip-may, flip-not, flip-none)
+
+-- so the taker
+flip-by : (flips : List ℕ) (r : Request) (next : Taker) (q : Request) → q ≡ actingOnly flips r → (n : ℕ) → q ≡ Entry n → Flip n ≡ flipTaker flips r next
+flip-by flips (Entry m) next q e n f =
+    cases (acts flips m) (λ b. let g : Entry n ≡ Entry m = sym f ∙ e ∙ rw b in rw b cc) (λ b. let g : Entry n ≡ Nothing = sym f ∙ e ∙ rw b in let z : _≡_ {A = ℕ} 0 1 = cc in absurd (omega arith))
+flip-by flips Nothing next q e n f = let g : Entry n ≡ Nothing = sym f ∙ e in let z : _≡_ {A = ℕ} 0 1 = cc in absurd (omega arith)
+
+flip-past : (flips : List ℕ) (r : Request) (next : Taker) (q : Request) → q ≡ actingOnly flips r → q ≡ Nothing → next ≡ flipTaker flips r next
+flip-past flips (Entry m) next q e f =
+    cases (acts flips m) (λ b. let g : Nothing ≡ Entry m = sym f ∙ e ∙ rw b in let z : _≡_ {A = ℕ} 0 1 = cc in absurd (omega arith)) (λ b. rw b)
+flip-past flips Nothing next q e f = refl
+
+bank-by : (permissions : List ℕ) (r : Register) (v : ℕ) (next : Taker) (q : Register) → q ≡ bankedOnly permissions r → (h : ℕ) → q ≡ HalfPage h → Bank h (v % 256) ≡ bankTaker permissions r v next
+bank-by permissions (HalfPage m) v next q e h f =
+    cases (banked permissions m) (λ b. let g : HalfPage h ≡ HalfPage m = sym f ∙ e ∙ rw b in rw b cc) (λ b. let g : HalfPage h ≡ Elsewhere = sym f ∙ e ∙ rw b in let z : _≡_ {A = ℕ} 0 1 = cc in absurd (omega arith))
+bank-by permissions Elsewhere v next q e h f = let g : HalfPage h ≡ Elsewhere = sym f ∙ e in let z : _≡_ {A = ℕ} 0 1 = cc in absurd (omega arith)
+
+bank-past : (permissions : List ℕ) (r : Register) (v : ℕ) (next : Taker) (q : Register) → q ≡ bankedOnly permissions r → q ≡ Elsewhere → next ≡ bankTaker permissions r v next
+bank-past permissions (HalfPage m) v next q e f =
+    cases (banked permissions m) (λ b. let g : Elsewhere ≡ HalfPage m = sym f ∙ e ∙ rw b in let z : _≡_ {A = ℕ} 0 1 = cc in absurd (omega arith)) (λ b. rw b)
+bank-past permissions Elsewhere v next q e f = refl
+
+module _ (a : Active) (flips : List ℕ) (at : Console) (v : ℕ) where
+  module _ (q : Request) (e : q ≡ actingOnly flips (asks at v)) where
+    pub flip-takes : (n : ℕ) → q ≡ Entry n → Flip n ≡ flipTaker flips (asks at v) (Ram (cellAt a at))
+    flip-takes n f = flip-by flips (asks at v) (Ram (cellAt a at)) q e n f
+
+    pub flip-passes : (c : Cell) → q ≡ Nothing → c ≡ cellAt a at → Ram c ≡ flipTaker flips (asks at v) (Ram (cellAt a at))
+    flip-passes c f g = ap (λ (d : Cell). Ram d) g ∙ flip-past flips (asks at v) (Ram (cellAt a at)) q e f
+
+  module _ (q : Register) (e : q ≡ bankedOnly (a .permissions) (registerAt at)) where
+    pub bank-takes : (h : ℕ) → q ≡ HalfPage h → Bank h (v % 256) ≡ takerOf a flips at v
+    bank-takes h f = bank-by (a .permissions) (registerAt at) v _ q e h f
+
+    pub bank-passes : (t : Taker) → q ≡ Elsewhere → t ≡ flipTaker flips (asks at v) (Ram (cellAt a at)) → t ≡ takerOf a flips at v
+    bank-passes t f g = g ∙ bank-past (a .permissions) (registerAt at) v _ q e f
+
+pub ruleset takers = (flip-takes, flip-passes, bank-takes, bank-passes)
+
+-- what a taker leaves and answers, by the case w that the code has found it to be
+module _ (t w : Taker) (e : t ≡ w) where
+  pub shift-assigned : (x : ℕ) → x ≡ assignedBy w → x ≡ assignedBy t
+  shift-assigned x g = rw e g
+
+  pub shift-readable : (a : Active) (flips : List ℕ) (kept x : ℕ) → x ≡ readableBy w a flips kept → x ≡ readableBy t a flips kept
+  shift-readable a flips kept x g = rw e g
+
+  pub shift-mapping : (a : Active) (flips x : List ℕ) → x ≡ leftBy w a flips .mapping → x ≡ leftBy t a flips .mapping
+  shift-mapping a flips x g = rw e g
+
+  pub shift-permissions : (a : Active) (flips x : List ℕ) → x ≡ leftBy w a flips .permissions → x ≡ leftBy t a flips .permissions
+  shift-permissions a flips x g = rw e g
+
+pub ruleset shifts = (shift-assigned, shift-readable, shift-mapping, shift-permissions)
 
 -- one law for every taker w, of each thing that a write leaves
 module _ (a : Active) (flips : List ℕ) (at : Console) (v : ℕ) (t w : Taker) (h : t ≡ takerOf a flips at v) (e : t ≡ w) where
@@ -66,8 +133,12 @@ module _ (a : Active) (flips : List ℕ) (at : Console) (v : ℕ) (t w : Taker) 
   unfolding leavesRam
   by-ram ram x g = rw (← h, e, g)
 
-  pub by-moved : (kept : ℕ) (x : Moved) → x .assigned ≡ assignedBy w → x .readable ≡ readableBy w a flips kept → x ≡ movedOf a flips kept at v
-  unfolding assigned leavesReadable
-  by-moved kept x g k = rw (← h, e, ← g, ← k)
+  pub by-assigned : (x : ℕ) → x ≡ assignedBy w → x ≡ assigned a flips at v
+  unfolding assigned
+  by-assigned x g = rw (← h, e, g)
 
-pub ruleset writes = (by-mapping, by-permissions, by-ram, by-moved)
+  pub by-readable : (kept x : ℕ) → x ≡ readableBy w a flips kept → x ≡ leavesReadable a flips kept at v
+  unfolding leavesReadable
+  by-readable kept x g = rw (← h, e, g)
+
+pub ruleset writes = (by-mapping, by-permissions, by-ram, by-assigned, by-readable)

@@ -10,12 +10,12 @@ use Rattle.exports.proofs.luigi_writes.Statement.{statement}
 use Rattle.exports.proofs.luigi_writes.Tie as tie
 
 abbrev Inv-loop : tie.InvT-loop
-Inv-loop mapping₀ permissions₀ flips readable ram₀ at value assigned₀ kept₀ i₀ i-end mapping permissions ram assigned kept i =
+Inv-loop mapping₀ permissions₀ flips readable₀ ram₀ at value assigned₀ i₀ i-end mapping permissions readable ram assigned i =
     (i ≤ i-end) × (i-end ≤ length at) × (i-end ≤ length value) × (i-end ≤ length assigned₀) × (length ram ≡ length ram₀) × (length assigned ≡ length assigned₀)
-    × Ran (carried mapping₀ permissions₀ flips readable) ram₀ at value assigned₀ i mapping permissions flips kept ram assigned
+    × Ran (carried mapping₀ permissions₀ flips readable₀) ram₀ at value assigned₀ i mapping permissions flips readable ram assigned
 
 abbrev μ-loop : tie.MeasureT-loop
-μ-loop mapping₀ permissions₀ flips readable ram₀ at value assigned₀ kept₀ i₀ i-end mapping permissions ram assigned kept i = i-end - i
+μ-loop mapping₀ permissions₀ flips readable₀ ram₀ at value assigned₀ i₀ i-end mapping permissions readable ram assigned i = i-end - i
 
 loop-holds : tie.Need-loop-holds Inv-loop μ-loop
 loop-holds c = search (needs, c .least-of .ensures, ran-none)

@@ -11,8 +11,7 @@ use Rattle.switches.specs.Flips.{active}
 use Rattle.cart.specs.declared.Answer.{Answer}
 use Rattle.cart.specs.declared.Cartridge.{Cartridge}
 use Rattle.cart.specs.Reads.{readBy}
-use Rattle.cart.specs.declared.Moved.{Moved}
-use Rattle.cart.specs.Writes.{leaves, leavesRam, movedOf}
+use Rattle.cart.specs.Writes.{leaves, leavesRam, assigned, leavesReadable}
 use Rattle.cart.specs.declared.Written.{Written}
 use Rattle.cart.specs.Cartridges.{writtenOf, writeRamOf}
 use Rattle.cart.specs.Run.{World, step, Write}
@@ -73,14 +72,14 @@ module _ (c : Cartridge) (ram at v : List ℕ) where
 
   -- the same by lent tables
   lent-one :
-      (n : ℕ) (m p f : List ℕ) (r : ℕ) (k x y z : List ℕ) (u : Moved)
+      (n : ℕ) (m p f : List ℕ) (r : ℕ) (k x y : List ℕ) (q : ℕ) (z : List ℕ)
       → Lent (written c ram at v n) m p f r k
-      → u ≡ movedOf (active m p) f r (address at n) (getD v n 0)
+      → q ≡ leavesReadable (active m p) f r (address at n) (getD v n 0)
       → x ≡ leaves (active m p) f (address at n) (getD v n 0) .mapping
       → y ≡ leaves (active m p) f (address at n) (getD v n 0) .permissions
       → z ≡ leavesRam (active m p) f k (address at n) (getD v n 0)
-      → Lent (written c ram at v (n + 1)) x y f (u .readable) z
-  lent-one n m p f r k x y z u l o a b d =
+      → Lent (written c ram at v (n + 1)) x y f q z
+  lent-one n m p f r k x y q z l o a b d =
       rw (one n)
       (record {
         by-mapping = rw (a, l .by-mapping, l .by-permissions, l .by-flips);
@@ -91,15 +90,15 @@ module _ (c : Cartridge) (ram at v : List ℕ) where
       })
 
   numbered-one :
-      (out : List ℕ) (n : ℕ) (m p f : List ℕ) (r : ℕ) (k t : List ℕ) (u : Moved)
+      (out : List ℕ) (n : ℕ) (m p f : List ℕ) (r : ℕ) (k t : List ℕ) (u : ℕ)
       → Lent (written c ram at v n) m p f r k
       → t ≡ numbered c ram at v n out
-      → u ≡ movedOf (active m p) f r (address at n) (getD v n 0)
-      → set t n (u .assigned) ≡ numbered c ram at v (n + 1) out
+      → u ≡ assigned (active m p) f (address at n) (getD v n 0)
+      → set t n u ≡ numbered c ram at v (n + 1) out
   unfolding numbered
   numbered-one out n m p f r k t u l e o =
       let z : 0 + n ≡ n = omega arith in
-      rw z at (laid-more 0 (assignedAt c ram at v) out n t (u .assigned) e (rw (o, l .by-mapping, l .by-permissions, l .by-flips)))
+      rw z at (laid-more 0 (assignedAt c ram at v) out n t u e (rw (o, l .by-mapping, l .by-permissions, l .by-flips)))
 
 -- the same with the numbers that the writes report: what the first n of them have left everywhere
 pub record Ran (c : Cartridge) (ram at v out : List ℕ) (n : ℕ) (mapping permissions flips : List ℕ) (readable : ℕ) (left numbers : List ℕ) : Type 0 where
@@ -108,17 +107,18 @@ pub record Ran (c : Cartridge) (ram at v out : List ℕ) (n : ℕ) (mapping perm
 
 module _ (c : Cartridge) (ram at v out : List ℕ) where
   pub ran-one :
-      (n : ℕ) (m p f : List ℕ) (r : ℕ) (k t x y z : List ℕ) (u : Moved)
+      (n : ℕ) (m p f : List ℕ) (r : ℕ) (k t x y : List ℕ) (q : ℕ) (z : List ℕ) (u : ℕ)
       → Ran c ram at v out n m p f r k t
-      → u ≡ movedOf (active m p) f r (address at n) (getD v n 0)
+      → u ≡ assigned (active m p) f (address at n) (getD v n 0)
+      → q ≡ leavesReadable (active m p) f r (address at n) (getD v n 0)
       → x ≡ leaves (active m p) f (address at n) (getD v n 0) .mapping
       → y ≡ leaves (active m p) f (address at n) (getD v n 0) .permissions
       → z ≡ leavesRam (active m p) f k (address at n) (getD v n 0)
-      → Ran c ram at v out (n + 1) x y f (u .readable) z (set t n (u .assigned))
-  ran-one n m p f r k t x y z u l o a b d =
+      → Ran c ram at v out (n + 1) x y f q z (set t n u)
+  ran-one n m p f r k t x y q z u l i o a b d =
       record {
-        lent = lent-one c ram at v n m p f r k x y z u (l .lent) o a b d;
-        reported = numbered-one c ram at v out n m p f r k t u (l .lent) (l .reported) o;
+        lent = lent-one c ram at v n m p f r k x y q z (l .lent) o a b d;
+        reported = numbered-one c ram at v out n m p f r k t u (l .lent) (l .reported) i;
       }
 
   pub ran-last :
