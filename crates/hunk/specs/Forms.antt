@@ -1,11 +1,12 @@
--- One data block: the form that its start byte names, its words as they are read, and as they are written
+-- One data block: the form that its start byte names, its words as they are read, and as they are written in a form
 -- (001, Block Type 0x02: Data Hunk).
 use Prim.Native.Nat.{ℕ, _-_, _+_, _/_, _*_, _^_, _%_}
-use mathlib.Core.List.{List, _∷_}
+use mathlib.Core.List.{List, [], _∷_, _++_}
 use mathlib.Core.Bool.{cond, Bool, true, false}
 use lib.Dec.{ltb, eqb}
-use lib.ListN.{getD, length}
-use Rattle.basics.specs.Bytes.{at16, bytes16}
+use lib.ListN.{getD, length, take}
+use Rattle.basics.specs.Bytes.{at16, le16, bytes16}
+use Rattle.basics.specs.Tables.{table}
 use Rattle.hunk.specs.declared.Form.{Form}
 use Rattle.hunk.specs.declared.Form.the-variants.{Bytes, Decles, Words, Reserved}
 
@@ -76,6 +77,38 @@ wordFor Reserved s p n i = 0
 unfoldable pub word : List ℕ → ℕ → ℕ → ℕ
 word s p i = wordFor (formOf (getD s p 0)) s p (countOf (getD s p 0)) i
 
--- words as a data block: the 16-bit form's start byte, then each word (01, How an image is laid out by the builder)
-unfoldable pub dataOf : List ℕ → List ℕ
-dataOf words = startFor Words (length words) ∷ bytes16 words
+-- written: the lower byte of word i
+unfoldable pub lower : List ℕ → ℕ → ℕ
+lower ws i = getD ws i 0 % 256
+
+-- byte k of the packet of the four decles from word i on: two upper bits of each decle, the first decle's highest, and 0 where there is no
+-- decle; then the lower byte of each (001, "MSBs byte")
+unfoldable pub uppers : List ℕ → ℕ → ℕ
+uppers ws i =
+    64 * (getD ws i 0 / 256 % 4) + 16 * (getD ws (i + 1) 0 / 256 % 4) + 4 * (getD ws (i + 2) 0 / 256 % 4) + getD ws (i + 3) 0 / 256 % 4
+
+unfoldable pub packet : List ℕ → ℕ → ℕ → ℕ
+packet ws i k = cond (eqb k 0) (uppers ws i) (lower ws (i + (k - 1)))
+
+-- byte k of the packets of all the words, which stand one after the other: the last is short where they are no multiple of four
+unfoldable pub packets : List ℕ → ℕ → ℕ
+packets ws k = packet ws (4 * (k / 5)) (k % 5)
+
+-- the words of a data block before its last: a byte of each, packets of four decles, 16 bits of each
+abbrev pub bodyFor : Form → List ℕ → List ℕ
+bodyFor Bytes ws = table (length ws) (lower ws)
+bodyFor Decles ws = table ((length ws + 3) / 4 + length ws) (packets ws)
+bodyFor Words ws = bytes16 ws
+bodyFor Reserved ws = []
+
+-- all words but the last, and the last
+abbrev pub butLast : List ℕ → List ℕ
+butLast words = take (length words - 1) words
+
+abbrev pub lastOf : List ℕ → ℕ
+lastOf words = getD words (length words - 1) 0
+
+-- words as a data block of a form: its start byte, the words before the last, and the last as 16 bits (001, "Each block type terminates with a
+-- 16-bit word")
+unfoldable pub dataIn : Form → List ℕ → List ℕ
+dataIn f words = startFor f (length words) ∷ (bodyFor f (butLast words) ++ le16 (lastOf words))

@@ -1,6 +1,6 @@
 -- A data hunk: a word address and words; its payload as it is read, checked, stored and written (001, Block Type 0x02: Data Hunk).
 use Prim.Native.Nat.{ℕ, _+_, _%_, _^_, zero, suc}
-use mathlib.Core.List.{List, [], _∷_, _++_}
+use mathlib.Core.List.{List, [], _∷_, _++_, map}
 use mathlib.Core.Bool.{cond, Bool, _&&_, not, true, false}
 use lib.Dec.{ltb, leb, eqb}
 use lib.ListN.{getD, length}
@@ -13,7 +13,8 @@ use Rattle.places.specs.Limits.{lent}
 use Rattle.hunk.specs.declared.Form.{Form}
 use Rattle.hunk.specs.declared.Checked.{Checked}
 use Rattle.hunk.specs.declared.Checked.the-variants.{Whole, Broken}
-use Rattle.hunk.specs.Forms.{formOf, isReserved, countOf, sizeOf, word, dataOf}
+use Rattle.hunk.specs.Forms.{formOf, isReserved, countOf, sizeOf, word}
+use Rattle.hunk.specs.Smallest.{dataOf}
 use Rattle.hunk.specs.Cuts.{cutsOf}
 
 -- where its words go, and the words
@@ -65,6 +66,13 @@ endOf s = endFrom s 3 (dataStarts s)
 -- the words of a payload: those of its data blocks, one after the other
 unfoldable pub wordsOf : List ℕ → List ℕ
 wordsOf s = joined (wordsAt s) (dataStarts s)
+
+-- how a payload is cut: the words of each of its data blocks, and how many they are
+abbrev pub cutsIn : List ℕ → List (List ℕ)
+cutsIn s = map (wordsAt s) (dataStarts s)
+
+abbrev pub countsIn : List ℕ → List ℕ
+countsIn s = map (countAt s) (dataStarts s)
 
 abbrev pub hunkOf : List ℕ → Hunk
 hunkOf s = hunk (address s) (wordsOf s)

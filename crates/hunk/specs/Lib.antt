@@ -1,4 +1,5 @@
 pub mod Forms
+pub mod Smallest
 pub mod Cuts
 pub mod Hunk
 pub mod Code

@@ -1,15 +1,16 @@
--- 001's Encoded Example, all 62 bytes, as a hunk at word 2 (the dump prints "336" for one decle: bytes and listing say 366); and a hunk
--- that is written.
+-- 001's Encoded Example, all 62 bytes, as a hunk at word 2 (the dump prints "336" for one decle: bytes and listing say 366); and data
+-- blocks that are written, its own among them.
 use Prim.Native.Nat.{ℕ}
 use mathlib.Core.List.{List, _∷_, [], _++_}
 use mathlib.Core.Path.{_≡_, refl}
 use lib.ListN.{length, take, replicate}
 use Rattle.basics.specs.Bytes.{bytes16}
 use Rattle.basics.specs.Tables.{made}
-use Rattle.basics.specs.Lists.{laid, joined}
+use Rattle.basics.specs.Lists.{part, laid, joined}
 use Rattle.places.specs.Places.{locutus}
 use Rattle.hunk.specs.declared.Checked.the-variants.{Whole, Broken}
-use Rattle.hunk.specs.Forms.{formOf, countOf, sizeOf, word, packed, decle, dataOf}
+use Rattle.hunk.specs.Forms.{formOf, countOf, sizeOf, word, packed, decle, lower, uppers, packet, packets, dataIn}
+use Rattle.hunk.specs.Smallest.{largest, carries, smaller, formFor, dataOf}
 use Rattle.hunk.specs.Cuts.{cutsOf, pieces}
 use Rattle.hunk.specs.Hunk.{hunk, wholeAt, dataStartsFrom, dataStarts, endOf, wordsOf, checkBlocks, checkHunk, storeHunk, hunkPayload}
 
@@ -74,7 +75,37 @@ pub stores-nothing : storeHunk payload (replicate 40 0) ≡ replicate 40 0
 unfolding storeHunk checkHunk checkBlocks endOf dataStarts dataStartsFrom wholeAt formOf countOf sizeOf
 stores-nothing = refl
 
--- written in the 16-bit form
-pub writes : hunkPayload (hunk (locutus 0x12345) (0x0240 ∷ 0x7FFF ∷ [])) ≡ 0x45 ∷ 0x23 ∷ 0x01 ∷ 0xC1 ∷ 0x40 ∷ 0x02 ∷ 0xFF ∷ 0x7F ∷ []
-unfolding hunkPayload cutsOf pieces dataOf bytes16 joined
+-- written: 001's data blocks of more than two words, each as it stands there
+pub first-written : dataOf (take 7 listing) ≡ take 11 encoded
+unfolding dataOf dataIn formFor smaller carries largest bytes16 made lower uppers packet packets
+first-written = refl
+
+pub third-written : dataOf (part listing 9 14) ≡ part encoded 16 24
+unfolding dataOf dataIn formFor smaller carries largest bytes16 made lower uppers packet packets
+third-written = refl
+
+pub fifth-written : dataOf (part listing 16 33) ≡ part encoded 29 52
+unfolding dataOf dataIn formFor smaller carries largest bytes16 made lower uppers packet packets
+fifth-written = refl
+
+pub sixth-written : dataOf (part listing 33 39) ≡ part encoded 52 62
+unfolding dataOf dataIn formFor smaller carries largest bytes16 made lower uppers packet packets
+sixth-written = refl
+
+-- its other two have two words, where 10-bit and 16-bit take as many bytes and 16-bit comes first; a word alone takes three bytes in each form
+pub tie-of-two : dataOf (0x0240 ∷ 0x7FFF ∷ []) ≡ 0xC1 ∷ 0x40 ∷ 0x02 ∷ 0xFF ∷ 0x7F ∷ []
+unfolding dataOf dataIn formFor smaller carries largest bytes16 made lower uppers packet packets
+tie-of-two = refl
+
+pub tie-of-one : dataOf (0x0009 ∷ []) ≡ 0xC0 ∷ 0x09 ∷ 0x00 ∷ []
+unfolding dataOf dataIn formFor smaller carries largest bytes16 made lower uppers packet packets
+tie-of-one = refl
+
+-- bytes, and the word behind them, which may be any; a hunk
+pub bytes-written : dataOf (0x41 ∷ 0x00 ∷ 0x7FFF ∷ []) ≡ 0x03 ∷ 0x41 ∷ 0x00 ∷ 0xFF ∷ 0x7F ∷ []
+unfolding dataOf dataIn formFor smaller carries largest bytes16 made lower uppers packet packets
+bytes-written = refl
+
+pub writes : hunkPayload (hunk (locutus 0x12345) (0x41 ∷ 0x7FFF ∷ [])) ≡ 0x45 ∷ 0x23 ∷ 0x01 ∷ 0x02 ∷ 0x41 ∷ 0xFF ∷ 0x7F ∷ []
+unfolding hunkPayload cutsOf pieces joined dataOf dataIn formFor smaller carries largest bytes16 made lower uppers packet packets
 writes = refl

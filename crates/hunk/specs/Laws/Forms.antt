@@ -1,17 +1,20 @@
 -- What a start byte's form says of it, and how many words and bytes a data block then has.
-use Prim.Native.Nat.{ℕ, _<_, _+_, _≤_}
-use mathlib.Core.Path.{_≡_, refl}
+use Prim.Native.Nat.{ℕ, _<_, _+_, _-_, _/_, _≤_}
+use mathlib.Core.Path.{_≡_, refl, ap}
 use mathlib.Core.Logic.{_⊎_, inl, inr}
 use mathlib.Core.Bool.{Bool, true, false}
 use mathlib.Core.List.{List}
 use native.Mathlib.Omega.{arith}
 use lib.Dec.{ltb, eqb}
-use lib.ListN.{length}
+use lib.ListN.{length, length-append, length-take}
 use borrow.Author.Tests.{eqb-true, eqb-false, ltb-true, ltb-false, ne-eqb, lt-ltb, le-ltb}
+use Rattle.basics.specs.Bytes.{le16}
 use Rattle.basics.specs.Laws.Bytes.{length-bytes16}
+use Rattle.basics.specs.Laws.Tables.{length-table}
+use Rattle.basics.specs.Laws.Tests.{true-is-not-false}
 use Rattle.hunk.specs.declared.Form.{Form}
 use Rattle.hunk.specs.declared.Form.the-variants.{Bytes, Decles, Words, Reserved}
-use Rattle.hunk.specs.Forms.{formOf, isReserved, countFor, startFor, mostFor, sizeFor, countOf, sizeOf, dataOf}
+use Rattle.hunk.specs.Forms.{formOf, isReserved, countFor, startFor, mostFor, sizeFor, countOf, sizeOf, lower, packets, bodyFor, butLast, lastOf, dataIn}
 
 -- the start bytes of each form
 abbrev pub Starts : Form → ℕ → Type 0
@@ -87,6 +90,14 @@ unfolding countOf
 count-most b = most-for (formOf b) b (starts-of b)
 
 -- a data block as it is written
-pub length-data : (words : List ℕ) → length (dataOf words) ≡ sizeFor Words (length words)
-unfolding dataOf
-length-data words = omega (arith, length-bytes16 words)
+length-body : (f : Form) (ws : List ℕ) → isReserved f ≡ false → 3 + length (bodyFor f ws) ≡ sizeFor f (length ws + 1)
+length-body Bytes ws e = omega (arith, length-table (length ws) (lower ws))
+length-body Decles ws e = omega (arith, length-table ((length ws + 3) / 4 + length ws) (packets ws))
+length-body Words ws e = omega (arith, length-bytes16 ws)
+length-body Reserved ws e = true-is-not-false refl e
+
+pub length-in : (f : Form) (words : List ℕ) → 1 ≤ length words → isReserved f ≡ false → length (dataIn f words) ≡ sizeFor f (length words)
+unfolding dataIn
+length-in f words h e =
+    let n : length (butLast words) + 1 ≡ length words = omega (arith, length-take (length words - 1) words) in
+    omega (arith, length-append (bodyFor f (butLast words)) (le16 (lastOf words)), length-body f (butLast words) e, ap (sizeFor f) n)

@@ -2,7 +2,7 @@
 use Prim.Native.Nat.{_-_}
 use lib.ListN.{length}
 use borrow.Author.Needs.{needs}
-use Rattle.hunk.proofs.Written.{Sizing, sizing-none, sizing-fits, sizing-more, sizing-all, cut-most, cut-in}
+use Rattle.hunk.proofs.Written.{Sizing, sizing-none, sizing-fits, sizing-more, sizing-all, cut-in, cut-some, cut-few, cut-words}
 use Rattle.hunk.proofs.data.cuts_size.Statement.{statement}
 use Rattle.hunk.proofs.data.cuts_size.Tie as tie
 
@@ -15,11 +15,14 @@ abbrev μ-loop : tie.MeasureT-loop
 loop-holds : tie.Need-loop-holds Inv-loop μ-loop
 loop-holds c = search (needs, sizing-none)
 
-part-data-size-end : tie.Need-part-data-size-end Inv-loop μ-loop
-part-data-size-end c = search (needs, cut-in)
+part-form-for-end : tie.Need-part-form-for-end Inv-loop μ-loop
+part-form-for-end c = search (needs, cut-in)
 
-data-size-requires : tie.Need-data-size-requires Inv-loop μ-loop
-data-size-requires c κs = search (needs, cut-most)
+form-for-requires : tie.Need-form-for-requires Inv-loop μ-loop
+form-for-requires c κs = search (needs, cut-some, cut-few)
+
+size-of-requires : tie.Need-size-of-requires Inv-loop μ-loop
+size-of-requires c κs = search (needs, cut-words)
 
 add-long : tie.Need-add-long Inv-loop μ-loop
 add-long c = search (needs, sizing-fits)
@@ -43,8 +46,10 @@ cuts-size-spec =
     (λ c. search needs)
     (λ c. search needs)
     (λ c. search needs)
-    part-data-size-end
-    data-size-requires
+    part-form-for-end
+    form-for-requires
+    (λ c. search needs)
+    size-of-requires
     add-long
     (λ c. search needs)
     loop-again

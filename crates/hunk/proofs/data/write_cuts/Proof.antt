@@ -2,7 +2,7 @@
 use Prim.Native.Nat.{_-_}
 use lib.ListN.{length}
 use borrow.Author.Needs.{needs}
-use Rattle.hunk.proofs.Written.{Writing, writing-none, writing-room, writing-fits, writing-part, writing-more, writing-long, writing-all, cut-most, cut-in}
+use Rattle.hunk.proofs.Written.{Writing, writing-none, writing-room, writing-fits, writing-part, writing-more, writing-long, writing-all, cut-in, cut-some, cut-few, cut-words, form-most}
 use Rattle.hunk.proofs.data.write_cuts.Statement.{statement}
 use Rattle.hunk.proofs.data.write_cuts.Tie as tie
 
@@ -15,11 +15,14 @@ abbrev μ-loop : tie.MeasureT-loop
 loop-holds : tie.Need-loop-holds Inv-loop μ-loop
 loop-holds c = search (needs, writing-none)
 
-part-data-size-end : tie.Need-part-data-size-end Inv-loop μ-loop
-part-data-size-end c = search (needs, cut-in)
+part-form-for-end : tie.Need-part-form-for-end Inv-loop μ-loop
+part-form-for-end c = search (needs, cut-in)
 
-data-size-requires : tie.Need-data-size-requires Inv-loop μ-loop
-data-size-requires c κs = search (needs, cut-most)
+form-for-requires : tie.Need-form-for-requires Inv-loop μ-loop
+form-for-requires c κs = search (needs, cut-some, cut-few)
+
+size-of-requires : tie.Need-size-of-requires Inv-loop μ-loop
+size-of-requires c κs = search (needs, cut-words)
 
 add-e : tie.Need-add-e Inv-loop μ-loop
 add-e c = search (needs, writing-fits)
@@ -31,7 +34,7 @@ part-write-data-end-2 : tie.Need-part-write-data-end-2 Inv-loop μ-loop
 part-write-data-end-2 c = search (needs, cut-in)
 
 write-data-requires : tie.Need-write-data-requires Inv-loop μ-loop
-write-data-requires c κs = search (needs, cut-most, writing-part)
+write-data-requires c κs = (search (needs, cut-some), search (needs, form-most), search (needs, writing-part))
 
 loop-again : tie.Need-loop-again Inv-loop μ-loop
 loop-again c = search (needs, writing-more)
@@ -55,8 +58,10 @@ write-cuts-spec =
     (λ c. search needs)
     (λ c. search needs)
     (λ c. search needs)
-    part-data-size-end
-    data-size-requires
+    part-form-for-end
+    form-for-requires
+    (λ c. search needs)
+    size-of-requires
     add-e
     (λ c. search needs)
     (λ c. search needs)

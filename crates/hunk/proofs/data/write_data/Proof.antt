@@ -1,17 +1,20 @@
--- `hunk::data::write_data` meets its contract: the start byte, and the words behind it.
+-- `hunk::data::write_data` meets its contract: the start byte, and what stands behind it.
 use borrow.Author.Needs.{needs}
-use Rattle.hunk.proofs.Written.{data-some, data-behind, data-written, data-same}
+use Rattle.hunk.proofs.Written.{data-some, data-begins, data-behind, data-written, data-same}
 use Rattle.hunk.proofs.data.write_data.Statement.{statement}
 use Rattle.hunk.proofs.data.write_data.Tie as tie
 
 slice-write-out : tie.Need-slice-write-out
 slice-write-out c = search (needs, data-some)
 
-sub-put-words : tie.Need-sub-put-words
-sub-put-words c = search (needs, data-behind)
+sub-put-behind : tie.Need-sub-put-behind
+sub-put-behind c = search (needs, data-begins)
 
-part-put-words-start : tie.Need-part-put-words-start
-part-put-words-start c = search (needs, data-behind)
+part-put-behind-start : tie.Need-part-put-behind-start
+part-put-behind-start c = search (needs, data-begins)
+
+put-behind-requires : tie.Need-put-behind-requires
+put-behind-requires c κs = search (needs, data-behind)
 
 same-length : tie.Need-same-length
 same-length c = search (needs, data-same)
@@ -25,9 +28,9 @@ write-data-spec =
     (tie.spec
     (λ c κs. search needs)
     slice-write-out
-    sub-put-words
-    part-put-words-start
+    sub-put-behind
+    part-put-behind-start
     (λ c. search needs)
-    (λ c κs. search needs)
+    put-behind-requires
     same-length
     returns)

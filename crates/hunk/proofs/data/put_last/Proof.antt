@@ -1,0 +1,19 @@
+-- `hunk::data::put_last` meets its contract: two stores are the two bytes.
+use borrow.Author.Needs.{needs}
+use Rattle.hunk.proofs.Written.{last-put}
+use Rattle.hunk.proofs.data.put_last.Statement.{statement}
+use Rattle.hunk.proofs.data.put_last.Tie as tie
+
+returns : tie.Need-returns
+returns c = search (needs, last-put)
+
+pub put-last-spec : {M : Type 1} → statement M
+put-last-spec =
+    tie.close
+    (tie.spec
+    (λ c κs. search needs)
+    (λ c. search needs)
+    (λ c κs. search needs)
+    (λ c. search needs)
+    (λ c. search needs)
+    returns)
