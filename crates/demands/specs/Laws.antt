@@ -4,5 +4,6 @@ pub mod Demand2
 pub mod Tied
 pub mod Pressed
 pub mod Demand3
+pub mod Smallest
 pub mod Files
 pub mod Bench

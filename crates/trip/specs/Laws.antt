@@ -2,3 +2,5 @@
 pub mod LoadImage
 pub mod Overlay
 pub mod RoundTrip
+pub mod Rising
+pub mod Smallest

@@ -15,7 +15,9 @@ use Rattle.cart.specs.Run.{Access, answers}
 use Rattle.tables.specs.Tables.{cartridgeWith}
 use Rattle.load.specs.declared.Loading.{Loading}
 use Rattle.load.specs.Load.{loadRamOf, loadingOf}
+use Rattle.trip.specs.Smallest.{Alike}
 use Rattle.trip.specs.Laws.RoundTrip.{LoadsChosen, load-chosen}
+use Rattle.trip.specs.Laws.Smallest.{chosen-smallest}
 use Rattle.lines.specs.declared.Line.{Line}
 use Rattle.cfg.specs.File.{entriesOf}
 use Rattle.rules.specs.Accepted.{Accepted}
@@ -48,6 +50,13 @@ module _ (bin cfg out : List ℕ) (accepts : builds bin cfg out ≡ true) (ram :
   unfolding pressedImage
   loads-as =
       load-chosen flagBytes (uidOf bin cfg) (tablesFor lines) (covered lines) (paragraphWords bin lines) ram (sized bin cfg lines)
+      (within-limit bin cfg lines accepted) (supported bin cfg lines accepted) (lie bin cfg lines (lent ram) inside)
+
+  -- and none like it is shorter
+  smallest-as : (other : List ℕ) → Alike (pressedImage bin cfg) other ram → length (pressedImage bin cfg) ≤ length other
+  unfolding pressedImage
+  smallest-as =
+      chosen-smallest flagBytes (uidOf bin cfg) (tablesFor lines) (covered lines) (paragraphWords bin lines) ram (sized bin cfg lines)
       (within-limit bin cfg lines accepted) (supported bin cfg lines accepted) (lie bin cfg lines (lent ram) inside)
 
   words-there : Loaded bin lines (loadRamOf (pressedImage bin cfg) ram)
@@ -115,3 +124,12 @@ module _ (p : Pressing) (q : Pressed p) (accepts : p .building .refusal .number 
 
     pub pressed-plays : (xs : List Access) → answers (worldOf (p .loading) (p .stored)) xs ≡ plainAnswers (p .bin) (entriesOf (p .cfg)) fresh xs
     pressed-plays xs = rw (loading-is, stored-is) (plays-as-it-reads (p .bin) (p .cfg) (p .out) it-builds (p .ram) room-there xs)
+
+    pub pressed-smallest : (other : List ℕ) → Alike (take (p .building .length) (p .left)) other (p .ram) → p .building .length ≤ length other
+    pressed-smallest other r =
+        let s : Alike image other (p .ram) = rw image-front at r in
+        omega (
+          arith,
+          ap (λ (x : Building). x .length) is-built,
+          smallest-as (p .bin) (p .cfg) (p .out) it-builds (p .ram) room-there other s,
+        )

@@ -124,7 +124,7 @@ module _ (flags uid : List ℕ) (t : Tables) (xs : List (List ℕ)) (z : Sized f
   cartridge-back =
       rw tables-type (ap cartridgeOf tables-payload ∙ payload-back t (z .mapping-long) (z .permissions-long) (z .flips-long))
 
-  hunks-all : hunksIn (tablesBlock t ∷ xs) ≡ hunksIn xs
+  pub hunks-all : hunksIn (tablesBlock t ∷ xs) ≡ hunksIn xs
   unfolding hunksIn
   hunks-all = rw tables-type
 
@@ -220,6 +220,10 @@ module _ (flags uid : List ℕ) (t : Tables) (hs : List Hunk) (z : Sized flags u
     (supported : unsupported flags (t .flips) ≡ false) (ram : List ℕ) (w : Each (Lies (lent ram)) hs) where
   few : lent ram ≤ lentLimit
   few = omega arith
+
+  pub image-blocks : blocksIn (imageFor flags uid t hs) ≡ tablesBlock t ∷ map hunkBlock hs
+  unfolding imageFor
+  image-blocks = read-back flags uid t (map hunkBlock hs) z short supported (lent ram) (fine-hunks (lent ram) few hs w)
 
   pub image-answers : loadingOf (imageFor flags uid t hs) (lent ram) ≡ answerOf flags t (1 + length hs) (paragraphSize * length hs)
   unfolding imageFor

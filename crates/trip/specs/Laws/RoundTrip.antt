@@ -50,16 +50,19 @@ paragraph-word ram k =
 
 -- what the writer accepts comes back
 module _ (out : List ℕ) (c : Content) (z : Sized (c .flags) (c .uid) (c .tables)) (e : writingOf out c .refusal .number ≡ 0) where
-  accepted : Accepted out c
+  pub accepted : Accepted out c
   accepted = accepted-so out c .0 e
+
+  -- the marked paragraphs lie in any RAM of the same length
+  pub marked-lie : (to : List ℕ) → length to ≡ length (c .ram) → EachLies (lent to) locutusParagraphs (isMarked (c .marks)) (paragraphOf (c .ram))
+  marked-lie to same q h o =
+      let m : lent to ≡ lent (c .ram) = ap (λ (n : ℕ). min n lentLimit) same in
+      record { whole = length-table paragraphSize _; within = rw m (accepted .inside q h o) }
 
   pub round-trip : (to : List ℕ) → length to ≡ length (c .ram) → ComesBack c to (loadingOf (imageBy c) (lent to)) (loadRamOf (imageBy c) to)
   round-trip to same =
-      let m : lent to ≡ lent (c .ram) = ap (λ (n : ℕ). min n lentLimit) same in
-      let l : EachLies (lent to) locutusParagraphs (isMarked (c .marks)) (paragraphOf (c .ram)) =
-      λ q h o. record { whole = length-table paragraphSize _; within = rw m (accepted .inside q h o) } in
       let r : LoadsChosen (c .flags) (c .tables) (isMarked (c .marks)) (paragraphOf (c .ram)) (imageBy c) to =
-      load-chosen (c .flags) (c .uid) (c .tables) (isMarked (c .marks)) (paragraphOf (c .ram)) to z (accepted .short) (accepted .supported) l in
+      load-chosen (c .flags) (c .uid) (c .tables) (isMarked (c .marks)) (paragraphOf (c .ram)) to z (accepted .short) (accepted .supported) (marked-lie to same) in
       record {
         answer = r .answer;
         same = r .back .same;
@@ -67,14 +70,16 @@ module _ (out : List ℕ) (c : Content) (z : Sized (c .flags) (c .uid) (c .table
         other-words = λ k h. r .back .kept k h;
       }
 
+  -- what `save::write` leaves at the front of its buffer, as long as it answers, is the image
+  pub image-front : (w : Writing) (after : List ℕ) → w ≡ writingOf out c → after ≡ writtenOf out c → take (w .length) after ≡ imageBy c
+  image-front w after ew ea =
+      let image : List ℕ = imageBy c in
+      let k : w .length ≡ length image = ap (λ (x : Writing). x .length) (ew ∙ accepted .answer) in
+      ap (λ (j : ℕ). take j after) k ∙ ap (take (length image)) (ea ∙ accepted .leaves) ∙ take-append-seam image (drop (length image) out)
+
   -- the same of the functions: `save::write` leaves the image at the front of its buffer, as long as it answers, and `load::load` of that part answers so
   pub written-loads :
       (w : Writing) (after : List ℕ) → w ≡ writingOf out c → after ≡ writtenOf out c → (to : List ℕ) → length to ≡ length (c .ram)
       → (l : Loading) (next : List ℕ) → l ≡ loadingOf (take (w .length) after) (lent to) → next ≡ loadRamOf (take (w .length) after) to → ComesBack c to l next
   written-loads w after ew ea to same l next el en =
-      let image : List ℕ = imageBy c in
-      let k : w .length ≡ length image = ap (λ (x : Writing). x .length) (ew ∙ accepted .answer) in
-      let i : take (w .length) after ≡ image =
-      ap (λ (j : ℕ). take j after) k ∙ ap (take (length image)) (ea ∙ accepted .leaves) ∙ take-append-seam image (drop (length image) out) in
-      let r : ComesBack c to (loadingOf image (lent to)) (loadRamOf image to) = round-trip to same in
-      rw (el, en, i) r
+      rw (el, en, image-front w after ew ea) (round-trip to same)
