@@ -270,7 +270,7 @@ Loading c_load(const uint8_t *s, size_t n, uint16_t *ram, size_t words) {
 
 /* ---- the writer: header, tables, a hunk for each marked paragraph, end ---- */
 
-enum { HUNK_BYTES = 528, TABLES_BYTES = 1288, MOST_WORDS = 62 };
+enum { TABLES_BYTES = 1288, MOST_WORDS = 62 };
 
 static void put16(uint8_t *s, uint16_t w) {
     s[0] = w % 256;
@@ -288,6 +288,63 @@ static void frame(uint8_t *block, uint8_t type, size_t length, Tables dow, Table
     put16(block + 1, length);
     block[3] = sum_by(dow, 0, block, 3);
     put32(block + 4, sum_by(c324, 0, block + 8, length));
+}
+
+/* The forms of a data block, by what is added to the number of words for a start byte. */
+enum { BYTES = 0, DECLES = 0x3F, WORDS = 0xBF };
+
+static size_t data_size(int form, int n) {
+    return form == BYTES ? 2 + n : form == DECLES ? 2 + (n + 2) / 4 + n : 1 + 2 * n;
+}
+
+/* The smallest form that can carry n words: the last may be any; on a tie 16-bit before 10-bit before 8-bit. */
+static int form_of(const uint16_t *words, int n) {
+    uint16_t top = 0;
+    for (int j = 0; j < n - 1; j++)
+        top = top < words[j] ? words[j] : top;
+    int form = WORDS;
+    if (top < 0x400 && data_size(DECLES, n) < data_size(form, n))
+        form = DECLES;
+    if (top < 0x100 && data_size(BYTES, n) < data_size(form, n))
+        form = BYTES;
+    return form;
+}
+
+static uint8_t *put_decles(uint8_t *s, const uint16_t *words, int n) {
+    int j = 0;
+    for (; j + 4 <= n; j += 4, s += 5) {
+        s[0] = words[j] / 256 % 4 * 64 + words[j + 1] / 256 % 4 * 16 + words[j + 2] / 256 % 4 * 4 + words[j + 3] / 256 % 4;
+        for (int k = 0; k < 4; k++)
+            s[1 + k] = words[j + k];
+    }
+    if (j == n)
+        return s;
+    uint8_t *upper = s++;
+    *upper = 0;
+    for (int k = 0; j < n; j++, k++) {
+        *upper += words[j] / 256 % 4 << (6 - 2 * k);
+        *s++ = words[j];
+    }
+    return s;
+}
+
+static uint8_t *put_data(uint8_t *s, const uint16_t *words, int n) {
+    int form = form_of(words, n);
+    *s++ = form + n;
+    if (form == BYTES)
+        for (int j = 0; j < n - 1; j++)
+            *s++ = words[j];
+    else if (form == DECLES)
+        s = put_decles(s, words, n - 1);
+    else
+        for (int j = 0; j < n - 1; j++, s += 2)
+            put16(s, words[j]);
+    put16(s, words[n - 1]);
+    return s + 2;
+}
+
+static int cut_at(int i) {
+    return 256 - i < MOST_WORDS ? 256 - i : MOST_WORDS;
 }
 
 static size_t write_image(uint8_t *out, const uint8_t *flags, const uint8_t *uid, const Cartridge *c, const uint16_t *ram, const bool *marks) {
@@ -314,14 +371,10 @@ static size_t write_image(uint8_t *out, const uint8_t *flags, const uint8_t *uid
         put16(s, p % 256 * 256);
         s[2] = p / 256;
         s += 3;
-        for (int i = 0; i < 256; i += MOST_WORDS) {
-            int n = 256 - i < MOST_WORDS ? 256 - i : MOST_WORDS;
-            *s++ = 0xBF + n;
-            for (int j = 0; j < n; j++, s += 2)
-                put16(s, ram[256 * p + i + j]);
-        }
-        frame(to, 2, HUNK_BYTES - 8, dow, c324);
-        to += HUNK_BYTES;
+        for (int i = 0; i < 256; i += MOST_WORDS)
+            s = put_data(s, ram + 256 * p + i, cut_at(i));
+        frame(to, 2, s - to - 8, dow, c324);
+        to = s;
     }
     *to++ = 0xFF;
     return to - out;
@@ -579,11 +632,16 @@ static uint32_t lay_out(const Line *lines, const Owners *o, const bool *covers, 
     return pages;
 }
 
-static size_t length_of(const bool *marks) {
-    size_t hunks = 0;
-    for (int p = 0; p < 2048; p++)
-        hunks += marks[p];
-    return 32 + TABLES_BYTES + HUNK_BYTES * hunks + 1;
+static size_t length_of(const uint16_t *ram, const bool *marks) {
+    size_t length = 32 + TABLES_BYTES + 1;
+    for (int p = 0; p < 2048; p++) {
+        if (!marks[p])
+            continue;
+        length += 8 + 3;
+        for (int i = 0; i < 256; i += MOST_WORDS)
+            length += data_size(form_of(ram + 256 * p + i, cut_at(i)), cut_at(i));
+    }
+    return length;
 }
 
 Building c_build(const uint8_t *bin, size_t nbin, const uint8_t *cfg, size_t ncfg, uint8_t *out, size_t room) {
@@ -603,8 +661,9 @@ Building c_build(const uint8_t *bin, size_t nbin, const uint8_t *cfg, size_t ncf
     if (r.number != 0)
         return r;
     uint32_t pages = lay_out(lines, &o, covers, bin, &c, ram, marks);
-    if (length_of(marks) > room)
-        return (Building){.number = 29, .length = length_of(marks)};
+    size_t length = length_of(ram, marks);
+    if (length > room)
+        return (Building){.number = 29, .length = length};
     uint8_t flags[16] = {0x55, 0x05}, uid[8];
     put32(uid, c_crc32(bin, nbin));
     put32(uid + 4, c_crc32(cfg, ncfg));

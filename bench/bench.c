@@ -12,7 +12,7 @@ enum { SCRIPT = 20000, TIMES = 500 }; /* 10 million accesses: 500 times a script
 
 /* ---- inputs, from one seed ---- */
 
-static uint8_t bytes[MIB], bin[BIN_BYTES], cfg[CFG_LIMIT];
+static uint8_t bytes[MIB], bin[BIN_BYTES], narrow[BIN_BYTES], cfg[CFG_LIMIT];
 static size_t cfg_length;
 static uint8_t image[ROOM], packed[ROOM];
 static size_t image_length, packed_length;
@@ -98,6 +98,10 @@ static bool make_inputs(void) {
         bytes[i] = random_bits();
     for (int i = 0; i < BIN_BYTES; i++)
         bin[i] = random_bits();
+    for (int i = 0; i < BIN_BYTES; i += 2) { /* by pages of 4,096 words, bytes and words of 10 bits */
+        narrow[i] = i / 8192 % 2 ? random_bits() % 4 : 0;
+        narrow[i + 1] = random_bits();
+    }
     make_cfg();
     make_scripts();
     Building b = c_build(bin, BIN_BYTES, cfg, cfg_length, image, ROOM);
@@ -142,6 +146,9 @@ static bool same_load(void) {
 
 static void proved_build(void) { luigi_build(&built, bin, BIN_BYTES, cfg, cfg_length, made[0], ROOM); }
 static void plain_build(void) { building = c_build(bin, BIN_BYTES, cfg, cfg_length, made[1], ROOM); }
+
+static void proved_build_narrow(void) { luigi_build(&built, narrow, BIN_BYTES, cfg, cfg_length, made[0], ROOM); }
+static void plain_build_narrow(void) { building = c_build(narrow, BIN_BYTES, cfg, cfg_length, made[1], ROOM); }
 
 static bool same_build(void) {
     return built.number == 0 && building.number == 0 && built.length == building.length && built.needed == building.needed
@@ -229,7 +236,8 @@ static const Row rows[] = {
     {"CRC32 over 1 MiB", 25, proved_crc32, plain_crc32, same_sum, 0},
     {"loading 600 KB in 8-bit and 10-bit data blocks", 25, proved_load_packed, plain_load_packed, same_load, 0},
     {"loading 600 KB in 16-bit data blocks", 25, proved_load, plain_load, same_load, 0},
-    {"building from a BIN of 512 KB", 25, proved_build, plain_build, same_build, 0},
+    {"building from a BIN of 512 KB, 16-bit data blocks", 25, proved_build, plain_build, same_build, 0},
+    {"building from a BIN of 512 KB, 8-bit and 10-bit data blocks", 25, proved_build_narrow, plain_build_narrow, same_build, 0},
     {"10 million bus reads", 9, proved_reads, plain_reads, same_heard, 1e7},
     {"10 million bus writes, every 16th a flip", 9, proved_writes, plain_writes, same_writes, 1e7},
     {"10 million writes with switches, every 16th a bankswitch", 9, proved_switches, plain_switches, same_banked, 1e7},
