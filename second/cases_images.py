@@ -4,12 +4,12 @@ from typing import Iterable, Iterator, Optional
 
 import hunk
 from encode import Draft, DraftBlock, damaged, hunk_block, random_draft, random_tables, spoil, tables_block
-from families import card_record, load_record, machine_record, sums_record, write_record
+from families import Laid, card_record, load_record, machine_record, sums_record, write_record
 from generator import Generator, fill_bytes
 from load import IMAGE_LIMIT
 from tables import BANKSW, READ, WRITE, Tables
 from titles import Access, random_accesses
-from writer import compose
+from writer import compose, write
 
 Case = tuple[str, int, bytes]
 Image = tuple[str, bytes, int, int]
@@ -341,17 +341,55 @@ def write_edges() -> Iterator[Case]:
             for words in (524_287, 524_288, 524_300):
                 for buffer in (min(1321 + 528 * count, 1_048_577), 1320 + 528 * min(count, 1983), 0):
                     label = f"{count} marks, RAM {words}, buffer {buffer}, JLP {head[2]}"
-                    yield (label, *write_record(head, tables, (words, 3), marks, (buffer, 13)))
+                    yield (label, *write_record(head, tables, (words, 3), [], marks, (buffer, 13)))
     for words in (0, 255, 256, 511, 512):
         for few in (set(), {0}, {0, 1}, {1}, {1, 7}):
             for buffer in (0, 1320, 1321, 1849, 3000):
                 label = f"RAM {words}, marks {few}, buffer {buffer}"
-                yield (label, *write_record(none, tables, (words, 5), marks_of(few), (buffer, 13)))
+                yield (label, *write_record(none, tables, (words, 5), [], marks_of(few), (buffer, 13)))
+
+
+def form_edges() -> Iterator[Case]:
+    """Give data blocks at the edge between two forms, and 29 at the smaller length (02, W-207; READINGS W207-1, W207-7)."""
+    places = (0, 1, 59, 60, 61, 62, 122, 123, 124, 247, 248, 254, 255)
+    for word in (0x00FF, 0x0100, 0x03FF, 0x0400, 0xFFFF):
+        for place in places:
+            label = f"W207-1 word {word:#06x} at {place}"
+            yield (label, *write_record(bytes(24), bytes(1280), (512, 0), [(256 + place, [word])], marks_of({1}), (2000, 13)))
+    for place in (60, 61):
+        laid = [(place, [0x0100]), (62 + place, [0x03FF]), (124 + place, [0x0400]), (186 + place, [0x8000]), (248, [0x100] * 8)]
+        length = write(bytes(16), bytes(8), Tables(), laid_over(laid), [True] + [False] * 2047, bytearray()).length
+        for buffer in (length - 1, length, length + 1):
+            label = f"W207-7 five data blocks, buffer {buffer}"
+            yield (label, *write_record(bytes(24), bytes(1280), (256, 0), laid, marks_of({0}), (buffer, 13)))
+
+
+def laid_over(laid: Laid) -> list[int]:
+    """Give a RAM of 256 zero words with runs laid over (README.md, write)."""
+    words = [0] * 256
+    for first, run in laid:
+        words[first:first + len(run)] = run
+    return words
+
+
+def random_forms(g: Generator, first: int) -> Laid:
+    """Give a paragraph's words, each data block of some width with few wider words (02, W-207)."""
+    words: list[int] = []
+    for count in (62, 62, 62, 62, 8):
+        width = g.pick([1, 256, 256, 1024, 1024, 65536])
+        words += [g.below(width) for _ in range(count)]
+        if g.one_in(2):
+            words[-1 - g.pick([0, 0, 1, g.below(count)])] = g.pick([0xFF, 0x100, 0x3FF, 0x400, 0xFFFF])
+    return [(first, words)]
 
 
 def write_cases(g: Generator) -> Iterator[Case]:
     """Give the edges, then random tables, marks and buffers (01, The plain writer)."""
     yield from write_edges()
+    yield from form_edges()
+    for _ in range(60):
+        laid = random_forms(g, 256)
+        yield ("W207 random forms", *write_record(bytes(24), bytes(1280), (768, g.below(2)), laid, marks_of({1, 2}), (2700, 13)))
     for _ in range(300):
         words = g.pick([256, 300, 2048, 4096, 20_000])
         tables = random_tables(g, g.below(10))
@@ -363,4 +401,4 @@ def write_cases(g: Generator) -> Iterator[Case]:
         few = {g.below(words // 256 + (1 if g.one_in(3) else 0)) for _ in range(g.below(12))}
         buffer = max(1321 + 528 * len(few) + g.pick([-1400, -1, 0, 0, 1, 100]), 0)
         ram = (words, g.between(1, 9))
-        yield ("random", *write_record(head, tables.payload(), ram, marks_of(few), (buffer, g.between(1, 9))))
+        yield ("random", *write_record(head, tables.payload(), ram, [], marks_of(few), (buffer, g.between(1, 9))))

@@ -4,7 +4,7 @@ from pathlib import Path
 from typing import Iterator
 
 from builder import build, checked_entries, lay_out, paragraphs_of
-from cases_images import Case
+from cases_images import Case, random_forms
 from families import build_record, bus_record
 from generator import Generator
 from titles import BAD_LINES, Title, random_accesses, random_title, spoil
@@ -67,8 +67,27 @@ def cfg_cases(g: Generator) -> Iterator[Case]:
         yield (f"faults {numbers}", *build_record(title, (g.pick([0, 100]), BUFFER_SEED)))
 
 
+def form_edges(g: Generator) -> Iterator[tuple[str, Title]]:
+    """Give BINs whose data blocks take each form, by single words and at random (02, W-207)."""
+    cfg = b"[mapping]\n$0-$1FF=$5000\n"
+    for word in (0x00FF, 0x0100, 0x03FF, 0x0400):
+        for place in (0, 60, 61, 247, 248, 254, 255, 256):
+            data = bytearray(1024)
+            data[2 * place:2 * place + 2] = word.to_bytes(2, "big")
+            yield f"W207-1 word {word:#06x} at {place}", Title(1024, 0, [], cfg, 0, bytes(data))
+    for base in (0, 1, 3, 4, 0xFF):
+        yield f"W207-1 all words {base:02X}{base:02X}", Title(1024, 0, [], cfg + b"[memattr]\n$7000-$70FF=RAM 8\n", base)
+    for _ in range(40):
+        words = random_forms(g, 0)[0][1] + random_forms(g, 0)[0][1]
+        data = b"".join(word.to_bytes(2, "big") for word in words)
+        yield "W207 random forms", Title(1024, 0, [], cfg, 0, data)
+
+
 def build_cases(g: Generator) -> Iterator[Case]:
     """Give random titles: good ones, short buffers, one fault, several faults (01, Build order)."""
+    for label, title in form_edges(g):
+        length = image_length(title)
+        yield (label, *build_record(title, (length - g.below(2), BUFFER_SEED)))
     for which in range(1000):
         title = random_title(g, 14 if which % 40 == 0 else g.pick([1, 2, 3]))
         numbers = [g.pick([21, 25, 25, 26, 26, 27, 27, 28, 28]) for _ in range(g.pick([0, 0, 1, 1, 2, 3]))]

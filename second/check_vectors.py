@@ -4,7 +4,7 @@ import sys
 from pathlib import Path
 
 import families
-from families import Filled
+from families import Filled, Laid
 from generator import fill_bytes
 from titles import Access, Title
 
@@ -47,10 +47,19 @@ class Cursor:
             found.append((operation, address, value if operation == 1 else 0))
         return found
 
+    def laid(self) -> Laid:
+        """Read the runs of words laid over a RAM (README.md, write)."""
+        runs = []
+        for _ in range(self.number(2)):
+            first, count = self.number(4), self.number(2)
+            runs.append((first, [self.number(2) for _ in range(count)]))
+        return runs
+
     def title(self) -> Title:
         """Read a BIN and a CFG (README.md, build)."""
+        base = self.data[self.place + 4]
         bin_file, seed = self.fill()
-        return Title(len(bin_file), seed, [], self.fill()[0])
+        return Title(len(bin_file), seed, [], self.fill()[0], base, bin_file)
 
 
 AGAIN = {
@@ -58,7 +67,7 @@ AGAIN = {
     "load": lambda c: families.load_record(c.fill()[0], c.filled()),
     "card": lambda c: families.card_record(c.fill()[0]),
     "machine": lambda c: families.machine_record(c.fill()[0], c.filled(), c.accesses()),
-    "write": lambda c: families.write_record(c.raw(24), c.fill()[0], c.filled(), c.fill()[0], c.filled()),
+    "write": lambda c: families.write_record(c.raw(24), c.fill()[0], c.filled(), c.laid(), c.fill()[0], c.filled()),
     "cfg": lambda c: families.build_record(c.title(), c.filled()),
     "build": lambda c: families.build_record(c.title(), c.filled()),
     "bus": lambda c: families.bus_record(c.title(), c.filled(), c.accesses()),

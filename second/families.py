@@ -15,6 +15,7 @@ from writer import write
 
 Answered = tuple[int, bytes]
 Filled = tuple[int, int]
+Laid = list[tuple[int, list[int]]]
 
 
 def sums_record(data: bytes, seed: int) -> Answered:
@@ -50,12 +51,17 @@ def machine_record(image: bytes, ram: Filled, accesses: list[Access]) -> Answere
     return 0, record.number(4, digest(active.payload()), digest_words(words)).number(2, machine.readable).finished()
 
 
-def write_record(head: bytes, tables: bytes, ram: Filled, marks: bytes, buffer: Filled) -> Answered:
-    """Write an image with head as flags and UID, and marks as bits (README.md, write)."""
-    out = bytearray(fill_bytes(buffer[0], 0, buffer[1]))
+def write_record(head: bytes, tables: bytes, ram: Filled, laid: Laid, marks: bytes, buffer: Filled) -> Answered:
+    """Write an image with head as flags and UID, words laid over the RAM, and marks as bits (README.md, write)."""
+    out, words = bytearray(fill_bytes(buffer[0], 0, buffer[1])), list(fill_words(*ram))
+    for first, run in laid:
+        words[first:first + len(run)] = run
     marked = [marks[paragraph // 8] >> paragraph % 8 & 1 == 1 for paragraph in range(2048)]
-    answer = write(head[:16], head[16:], read_tables(tables), list(fill_words(*ram)), marked, out)
-    record = Record().raw(head).fill(tables).number(4, *ram).fill(marks).number(4, *buffer)
+    answer = write(head[:16], head[16:], read_tables(tables), words, marked, out)
+    record = Record().raw(head).fill(tables).number(4, *ram).number(2, len(laid))
+    for first, run in laid:
+        record.number(4, first).number(2, len(run), *run)
+    record.fill(marks).number(4, *buffer)
     record.number(1, answer.number).number(4, answer.place, answer.length, digest(out))
     return answer.number, record.finished()
 
@@ -64,7 +70,7 @@ def build_record(title: Title, buffer: Filled) -> Answered:
     """Build a title (README.md, build)."""
     out = bytearray(fill_bytes(buffer[0], 0, buffer[1]))
     answer = build(title.bin_file(), title.cfg, out)
-    record = Record().fill(title.bin_file(), 0, title.bin_seed).fill(title.cfg, 0x20).number(4, *buffer)
+    record = Record().fill(title.bin_file(), title.bin_base, title.bin_seed).fill(title.cfg, 0x20).number(4, *buffer)
     record.number(1, answer.number).number(4, answer.place, answer.length, answer.needed, digest(out))
     return answer.number, record.finished()
 
@@ -78,6 +84,6 @@ def bus_record(title: Title, ram: Filled, accesses: list[Access]) -> Answered:
     machine = Machine(loaded.tables)
     if loaded.number or play_machine(machine, words, accesses) != answers:
         raise SystemExit("the machine does not play as the plain cartridge")
-    record = Record().fill(title.bin_file(), 0, title.bin_seed).fill(title.cfg, 0x20).number(4, *ram)
+    record = Record().fill(title.bin_file(), title.bin_base, title.bin_seed).fill(title.cfg, 0x20).number(4, *ram)
     record.accesses(accesses, answers).number(4, digest_words(words)).number(2, machine.readable)
     return 0, record.finished()

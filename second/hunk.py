@@ -112,7 +112,22 @@ def block_16(words: list[int]) -> bytes:
     return bytes([len(words) + 0xBF]) + le16(words)
 
 
-def encode_16(address: int, words: list[int]) -> bytes:
-    """Write a hunk in the longest 16-bit data blocks (01, How an image is laid out)."""
+def forms(words: list[int]) -> list[bytes]:
+    """Give each form that can carry the words: 16-bit, 10-bit, 8-bit (02, W-207; READINGS W207-1)."""
+    found = [block_16(words)] if len(words) <= MOST_16 else []
+    if len(words) <= MOST_10 and all(word <= 0x3FF for word in words[:-1]):
+        found.append(block_10(words))
+    if len(words) <= MOST_8 and all(word <= 0xFF for word in words[:-1]):
+        found.append(block_8(words))
+    return found
+
+
+def smallest(words: list[int]) -> bytes:
+    """Give the smallest form; on a tie 16-bit before 10-bit before 8-bit (02, W-207)."""
+    return min(forms(words), key=len)
+
+
+def encode(address: int, words: list[int]) -> bytes:
+    """Write a hunk, cut as the longest 16-bit data blocks are, each in its smallest form (01; 02, W-207)."""
     parts = [words[first:first + MOST_16] for first in range(0, len(words), MOST_16)]
-    return address.to_bytes(3, "little") + b"".join(block_16(part) for part in parts)
+    return address.to_bytes(3, "little") + b"".join(smallest(part) for part in parts)

@@ -1,11 +1,13 @@
 """The self-test: 001's vectors, 01's bench cases, and random titles and images against each other."""
 
+import struct
 import zlib
-from typing import Iterator
+from typing import Callable, Iterator
 
 import hunk
 from builder import build, checked_entries, make_image
 from card import card
+from cases_images import random_forms
 from checksums import CRC32, CRC32_4, DOWCRC, ONES, bit_by_bit, crc32, crc32_4, dowcrc, run
 from encode import bad_hunk, random_draft, random_hunk, random_tables
 from generator import Generator, fill_bytes, fill_words
@@ -152,6 +154,31 @@ def check_switches(g: Generator, rounds: int) -> Iterator[Check]:
                     yield "Intellicart address", one.location(at) == ((at & 0x07FF) + (value << 8)) & 0xFFFF
 
 
+def carried(pack: Callable[[list[int]], bytes], words: list[int]) -> list[bytes]:
+    """Give a form of the words if what it packs unpacks to them (001, Data Hunk)."""
+    try:
+        packed = pack(words)
+    except (ValueError, struct.error):
+        return []
+    return [packed] if hunk.decode(bytes(3) + packed) == (0, words) else []
+
+
+def check_forms(g: Generator, rounds: int) -> Iterator[Check]:
+    """Try every form by packing and unpacking, and take the shortest (02, W-207)."""
+    sizes = {62: (125, 80, 64), 8: (17, 12, 10), 2: (5, 5, 4), 1: (3, 3, 3)}
+    for count, expected in sizes.items():
+        yield "sizes", tuple(len(form) for form in hunk.forms([0] * count)) == expected
+    yield "tie", hunk.smallest([9]) == hunk.block_16([9]) and hunk.smallest([0x100, 9]) == hunk.block_16([0x100, 9])
+    for _ in range(rounds):
+        words = random_forms(g, 0)[0][1][:g.between(1, 62)]
+        tried = [form for pack in (hunk.block_16, hunk.block_10, hunk.block_8) for form in carried(pack, words)]
+        yield "smallest form", hunk.smallest(words) == min(tried, key=len)
+        paragraph = random_forms(g, 0)[0][1]
+        packed = hunk.encode(256, paragraph)
+        yield "same words", hunk.decode(packed) == (256, paragraph)
+        yield "same cuts", [len(more or []) for _, more in hunk.data_blocks(packed)] == [62, 62, 62, 62, 8]
+
+
 def built(bin_length: int, text: str) -> tuple:
     """Build lines after [mapping], and load the image (01, Bench cases 6 and 7)."""
     buffer, ram = bytearray(700_000), [7] * 524_288
@@ -227,7 +254,7 @@ def main() -> None:
     """Run every check, and say how many there were (01, Bench cases)."""
     g, ran = Generator(2019), 0
     for checks in (check_sums(), check_hunks(), check_cases_1_to_5(), check_cases_6_to_8(),
-                   check_faults(g, 1000), check_fields(), check_rows(), check_switches(g, 300), check_titles(g, 200),
+                   check_faults(g, 1000), check_forms(g, 1000), check_fields(), check_rows(), check_switches(g, 300), check_titles(g, 200),
                    check_round_trips(g, 500)):
         for name, passed in checks:
             ran += 1

@@ -15,16 +15,18 @@ Access = tuple[int, int, int]
 
 @dataclass
 class Title:
-    """A BIN by length and seed, the lines of a CFG, and its text once spelt."""
+    """A BIN by length, seed and base, the lines of a CFG, its text once spelt, and the BIN's bytes if they differ."""
 
     bin_length: int
     bin_seed: int
     plan: list[Entry]
     cfg: bytes = b""
+    bin_base: int = 0
+    data: Optional[bytes] = None
 
     def bin_file(self) -> bytes:
         """Give the BIN's bytes (README.md, Fills)."""
-        return fill_bytes(self.bin_length, 0, self.bin_seed)
+        return fill_bytes(self.bin_length, self.bin_base, self.bin_seed) if self.data is None else self.data
 
 
 def some_kinds(g: Generator, kinds: dict[int, str], paragraphs: range) -> None:
@@ -99,6 +101,8 @@ def random_title(g: Generator, chapters: int) -> Title:
             plan.append(Entry(0, kind, 256 * first, last, 256 * first))
     plan += [page_line(g, chapter, page, words) for chapter, page in g.shuffled(paged)[:64 - len(lines)]]
     title = Title(2 * words, g.between(1, 12), g.shuffled(plan))
+    if g.one_in(5):
+        title.bin_seed, title.bin_base = 0, g.pick([0, 1, 3, 4, 0xFF])
     title.cfg = spell(g, title.plan)
     return title
 

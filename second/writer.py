@@ -4,7 +4,7 @@ from dataclasses import dataclass
 from typing import MutableSequence, Sequence
 
 from checksums import crc32_4, dowcrc
-from hunk import encode_16
+from hunk import encode
 from load import DATA_HUNK, ENDED, IMAGE_LIMIT, MAGIC, TABLES, lent
 from refusal import Refused
 from tables import Tables, unsupported
@@ -36,7 +36,7 @@ def compose(flags: bytes, uid: bytes, tables: Tables, hunks: list[tuple[int, lis
     """Lay out header, tables, a hunk for each paragraph and 0xFF (01, How an image is laid out)."""
     parts = [header(flags, uid), block(TABLES, tables.payload())]
     for paragraph, words in hunks:
-        parts.append(block(DATA_HUNK, encode_16(paragraph * 256, words)))
+        parts.append(block(DATA_HUNK, encode(paragraph * 256, words)))
     return b"".join(parts) + bytes([ENDED])
 
 

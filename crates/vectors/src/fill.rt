@@ -1,4 +1,4 @@
-// What a record has its inputs made of: bytes and words from a generator's seed, and runs of bytes laid over them.
+// What a record has its inputs made of: bytes and words from a generator's seed, and runs of them laid over.
 use crate::record::after;
 use crate::record::get16;
 use crate::record::get32;
@@ -75,6 +75,39 @@ fn lay_runs(rec: &[u8], at: usize, out: &mut [u8]) -> usize {
     p
 }
 
+// A word at a place, where there is room.
+fn put_word_at(out: &mut [u16], at: usize, w: u16) {
+    if at < out.len() {
+        out[at] = w;
+    }
+}
+
+// Words of s from `at` on, as many as `count`, into `out` from `to` on.
+fn lay_words(s: &[u8], at: usize, count: usize, out: &mut [u16], to: usize) {
+    let mut p = at;
+    let mut i = 0;
+    while i < count {
+        put_word_at(out, after(to, i), get16(s, p) as u16);
+        p = after(p, 2);
+        i += 1;
+    }
+}
+
+// Runs of words laid over a RAM; answers the place after them.
+fn lay_word_runs(rec: &[u8], at: usize, out: &mut [u16]) -> usize {
+    let runs = get16(rec, at);
+    let mut p = after(at, 2);
+    let mut i = 0;
+    while i < runs {
+        let count = get16(rec, after(p, 4));
+        let words = after(p, 6);
+        lay_words(rec, words, count, out, get32(rec, p));
+        p = after(after(words, count), count);
+        i += 1;
+    }
+    p
+}
+
 // A fill: its length, base, seed and runs.
 pub fn take_bytes(rec: &[u8], at: usize, out: &mut [u8]) -> Taken {
     let n = least(get32(rec, at), out.len());
@@ -94,6 +127,13 @@ pub fn take_words(rec: &[u8], at: usize, out: &mut [u16]) -> Taken {
         n,
         next: after(at, 8),
     }
+}
+
+// Words with runs laid over them.
+pub fn take_laid(rec: &[u8], at: usize, out: &mut [u16]) -> Taken {
+    let w = take_words(rec, at, out);
+    let next = lay_word_runs(rec, w.next, out);
+    Taken { n: w.n, next }
 }
 
 pub fn take_buffer(rec: &[u8], at: usize, out: &mut [u8]) -> Taken {

@@ -3,8 +3,7 @@ use crate::digest::digest;
 use crate::fill::lay;
 use crate::fill::take_buffer;
 use crate::fill::take_bytes;
-use crate::fill::take_words;
-use crate::record::after;
+use crate::fill::take_laid;
 use crate::record::ends;
 use crate::record::front;
 use crate::record::front_words;
@@ -28,23 +27,24 @@ fn marks_of(bits: &[u8]) -> [bool; 2048] {
     marks
 }
 
-// The tables and the marks of a record, and the places of its RAM, which stands between them, and of its buffer.
+// The tables and the marks of a record, how many words its RAM has, which stands between them, and the place of its buffer.
 struct Given {
     cartridge: Cartridge,
     marks: [bool; 2048],
-    ram: usize,
+    words: usize,
     buffer: usize,
 }
 
-fn take_given(rec: &[u8], room: &mut [u8]) -> Given {
+fn take_given(rec: &[u8], room: &mut [u8], ram: &mut [u16]) -> Given {
     let t = take_bytes(rec, 28, room);
     let cartridge = tables::cartridge_of(front(room, t.n));
-    let m = take_bytes(rec, after(t.next, 8), room);
+    let w = take_laid(rec, t.next, ram);
+    let m = take_bytes(rec, w.next, room);
     let marks = marks_of(front(room, m.n));
     Given {
         cartridge,
         marks,
-        ram: t.next,
+        words: w.n,
         buffer: m.next,
     }
 }
@@ -114,7 +114,6 @@ pub fn write_agrees(
     out: &mut [u8],
     ram: &mut [u16],
 ) -> bool {
-    let g = take_given(rec, room);
-    let w = take_words(rec, g.ram, ram);
-    write_case(rec, g, ieee, front_words(ram, w.n), out)
+    let g = take_given(rec, room, ram);
+    write_case(rec, g, ieee, front_words(ram, g.words), out)
 }
