@@ -1,15 +1,14 @@
-"""Cases on images: sums, load, card, machine and write (README.md, Families)."""
+"""Cases on images: sums, load, card and write (README.md, Families)."""
 
-from typing import Iterable, Iterator, Optional
+from typing import Iterator, Optional
 
 import hunk
 from encode import Draft, DraftBlock, damaged, hunk_block, random_draft, random_tables, spoil, tables_block
-from families import Laid, card_record, load_record, machine_record, sums_record, write_record
+from families import Laid, card_record, load_record, sums_record, write_record
 from generator import Generator, fill_bytes
 from load import IMAGE_LIMIT
-from tables import BANKSW, READ, WRITE, Tables
-from titles import Access, random_accesses
-from writer import compose, write
+from tables import Tables
+from writer import write
 
 Case = tuple[str, int, bytes]
 Image = tuple[str, bytes, int, int]
@@ -162,6 +161,34 @@ def readable_edges() -> Iterator[Image]:
         yield f"W211-2 {label} readable, but 9", simple(DraftBlock(2, b""), tables=Tables(permissions=permissions)), 10, 0
 
 
+def jlp_flags(jlp: int, size: int = 0, more: int = 0) -> int:
+    """Give flag bits with a JLP field and a flash size (001, Feature Flags)."""
+    return jlp << 16 | size << 22 | more
+
+
+def feature_edges() -> Iterator[Image]:
+    """Give JLP fields, flash sizes and lent words at their edges, and what comes before 11 (02, W-206)."""
+    pfe = Tables()
+    pfe.flips[31] = 8
+    for jlp in range(4):
+        for lent in (0, 73_599, 73_600, 73_601):
+            yield f"LW-3 field {jlp}, {lent} words lent", simple(bits=jlp_flags(jlp)), lent, 3
+            yield f"LW-2 10 before 11: field {jlp}, flag 32, {lent} words lent", simple(bits=jlp_flags(jlp, 0, 1 << 32)), lent, 3
+        for size in (1, 2, 3, 4, 512, 682, 683, 1023):
+            for lent in (73_599, 73_600):
+                yield f"LW-6 field {jlp}, size {size}, {lent} words lent", simple(bits=jlp_flags(jlp, size)), lent, 3
+        image = simple(bits=jlp_flags(jlp, 0, 0xF << 18))
+        yield f"LW-6 field {jlp}, flag bits 18 to 21", image, 73_600, 3
+        yield f"LW-2 10 before 11: field {jlp}, PFE in chapter 1", simple(tables=pfe, bits=jlp_flags(jlp)), 100, 3
+        broken = hunk_block(73_599, hunk.block_16([1, 2]))
+        yield f"LW-2 9 before 11: field {jlp}", simple(broken, bits=jlp_flags(jlp)), 73_600, 3
+        yield f"LW-2 none of 8 before 11: field {jlp}", Draft([], flags=jlp_flags(jlp).to_bytes(16, "little")).encoded(), 9, 3
+        inside = hunk_block(0x10040, hunk.block_16([1, 2]))
+        yield f"W206-5 field {jlp}, a hunk in JLP RAM", simple(inside, bits=jlp_flags(jlp)), 73_600, 3
+    for lent in (524_287, 524_288, 524_300):
+        yield f"LW-3 field 3, {lent} words lent", simple(bits=jlp_flags(3)), lent, 3
+
+
 def large_edges() -> Iterator[Image]:
     """Give the readings on limits and large RAMs (READINGS L1, L11, L12)."""
     small = simple(hunk_block(1, hunk.block_16([7, 8])))
@@ -191,11 +218,11 @@ def random_image(g: Generator, ram_length: int) -> tuple[str, bytes]:
 def load_cases(g: Generator) -> Iterator[Case]:
     """Give the edges, then random images (01, File layout)."""
     for edges in (data_edges(), bit_edges(), block_edges(), hunk_edges(), field_edges(), readable_edges(),
-                  large_edges()):
+                  feature_edges(), large_edges()):
         for label, image, ram_length, ram_seed in edges:
             yield (label, *load_record(image, (ram_length, ram_seed)))
     for _ in range(1000):
-        ram_length = g.pick(RAM_SIZES)
+        ram_length = 73_600 if g.one_in(30) else g.pick(RAM_SIZES)
         label, image = random_image(g, ram_length)
         yield (label, *load_record(image, (ram_length, g.between(1, 9))))
 
@@ -216,131 +243,28 @@ def card_cases(g: Generator) -> Iterator[Case]:
         yield (label, *card_record(image))
 
 
-def row_edges() -> Iterator[Case]:
-    """Give each setting of READ, WRITE and NARROW with some reserved bits (02, W-203; READINGS W203-1)."""
-    for row in range(8):
-        for reserved in (0x00, 0x08, 0x50, 0xF8):
-            tables, accesses = Tables(), []
-            for paragraph in (0x02, 0x05, 0x13, 0x31, 0x51):
-                tables.mapping[paragraph] = tables.mapping[0x60 + paragraph] = paragraph % 8
-                tables.permissions[paragraph], tables.permissions[0x60 + paragraph] = row | reserved, 1
-                for value in (0xABCD, 0x0100):
-                    accesses += [(0, 256 * paragraph + 7, 0), (1, 256 * paragraph + 7, value), (0, 256 * paragraph + 7, 0)]
-                    accesses.append((0, 256 * (0x60 + paragraph) + 7, 0))
-            image = compose(bytes(16), bytes(8), tables, [])
-            yield (f"W203-1 row {row:03b}, reserved {reserved:#04x}", *machine_record(image, (2048, 3), accesses))
-
-
-def looks(half_page: int) -> list[Access]:
-    """Read first and last words of a half-page's paragraphs, and beside it (01, The machine)."""
-    first = 2048 * half_page
-    near = [(first - 1) % 65536, (first + 2048) % 65536]
-    return [(0, address, 0) for p in range(8) for address in (first + 256 * p, first + 256 * p + 255)] + [(0, a, 0) for a in near]
-
-
-def bank_tables(mapping: int, permissions: int, half_pages: Iterable[int]) -> Tables:
-    """Give some half-pages rising mappings and one permissions byte (02, W-202)."""
-    tables = Tables()
-    for paragraph in [8 * half_page % 256 + k for half_page in half_pages for k in range(8)]:
-        tables.mapping[paragraph], tables.permissions[paragraph] = mapping + paragraph, permissions
-    return tables
-
-
-def bank_edges() -> Iterator[tuple[str, Tables, list[Access]]]:
-    """Give each half-page and the readings on bankswitching (02, W-202; READINGS W202-1 to W202-11)."""
-    for half_page in range(32):
-        register = 0x40 + half_page // 2 + 16 * (half_page % 2)
-        tables = bank_tables(0x1200, READ | 0xF0, [half_page - 1, half_page, half_page + 1])
-        tables.permissions[8 * half_page] |= BANKSW
-        for value in (0x0000, 0x00F9, 0x00FF, 0x77FE, 0xFF03) if half_page % 8 == 5 else (0x00F9, 0x77FE):
-            yield f"W202-1 half-page {half_page}, {value:#06x}", tables, [(1, register, value), *looks(half_page)]
-        others = bank_tables(0x1200, READ | BANKSW | WRITE, [0, half_page])
-        others.permissions[8 * half_page] = READ | WRITE
-        others.mapping[0], others.mapping[0x60], others.permissions[0x60] = 9, 9, READ
-        alias = [(1, register, 0x4321), (0, 0x6000 + register, 0), *looks(half_page)]
-        yield f"W202-6 W202-7 half-page {half_page} has not the bit", others, alias
-    for address in (0x003F, 0x0040, 0x005F, 0x0060, 0x0140, 0x1040, 0x8040, 0xFF50, 0x0540, 0x0050):
-        tables = bank_tables(0, READ | BANKSW | WRITE, [0, 1, 2, 16, 30, 31])
-        tables.mapping[0x60], tables.permissions[0x60] = address >> 8, READ
-        accesses = [(1, address, 0x0067), (0, address, 0), (0, 0x6000 + address % 256, 0), (0, 0x0540, 0)]
-        yield f"W202-10 write to {address:#06x}", tables, accesses + looks(0)[-8:] + looks(31)[-4:]
-
-
-def count_edges() -> Iterator[tuple[str, Tables, list[Access]]]:
-    """Give flips that make paragraphs readable or not, then a bankswitch and a reset (02, W-211)."""
-    starts = {"none": [0] * 256, "all": [READ] * 256, "all, banked": [READ | BANKSW] * 256, "every third": [0xFE | READ * (p % 3 == 0) for p in range(256)]}
-    for chapter in (0, 1, 2, 3, 4, 5, 8, 15):
-        for label, permissions in starts.items():
-            tables = Tables(permissions=list(permissions))
-            tables.flips[16 * chapter:16 * chapter + 4] = [0x10, 0x19, 0x1E, 0x1F] if chapter != 1 else [0x10, 0x11, 0x16, 0x17]
-            asks = [(1, 4096 * chapter + 0xFFF, 4096 * chapter + 0xA50 + page) for page in range(4)]
-            for accesses in ([], asks[:1], asks[:2], asks[:3], asks[1:], [asks[2], (2, 0, 0)], [(1, 0x40 + chapter, 0x20)]):
-                if accesses or chapter == 0:
-                    yield f"W211-1 chapter {chapter}, {label} at first, {len(accesses)} accesses", tables, accesses
-
-
-def bank_and_flip_edges() -> Iterator[tuple[str, Tables, list[Access]]]:
-    """Give bankswitches before and after page requests and resets (02, W-202; READINGS W202-5, W202-9)."""
-    for chapter in (0, 1, 2, 3, 4, 5, 8, 15):
-        tables = bank_tables(0x30, READ | BANKSW, [2 * chapter, 2 * chapter + 1])
-        tables.flips[16 * chapter:16 * chapter + 16] = [(16 * page + 0x20) | (8 if chapter != 1 else 0) | page % 8 for page in range(16)]
-        tables.flips[16 * chapter + 7] &= 0xFFF7
-        low, high = 0x40 + chapter, 0x50 + chapter
-        request = 4096 * chapter + 0xA50
-        flip, miss = (1, 4096 * chapter + 0xFFF, request + 1), (1, 4096 * chapter + 0xFFF, request + 7)
-        look = looks(2 * chapter) + looks(2 * chapter + 1)
-        switch = [(1, low, 0x10), (1, high, 0xFC)]
-        for label, accesses in (
-            ("switch, flip", [*switch, flip, *look]),
-            ("flip, switch", [flip, *switch, *look]),
-            ("flip that does not act, switch", [miss, *switch, *look]),
-            ("flip, switch, reset, switch", [flip, *switch, (2, 0, 0), *switch, *look]),
-            ("switch, flip, switch, flip", [*switch, flip, *switch, (1, flip[1], request + 3), *look]),
-            ("switch, reset", [*switch, (2, 0, 0), *look]),
-            ("W212-1 the same twice", [*switch, *switch, flip, flip, *switch, miss, *look]),
-            ("switch twice", [*switch, (1, low, 0xFF), (1, high, 0x80), *look]),
-        ):
-            yield f"W202-5 chapter {chapter}: {label}", tables, accesses
-
-
-def machine_case(g: Generator, which: int) -> Case:
-    """Load tables of any kind, and run accesses on the machine (01, The machine; M1 to M6)."""
-    tables = random_tables(g, g.pick([20, 200, 1500]))
-    for paragraph in range(256):
-        if g.below(3):
-            tables.mapping[paragraph] &= 0xF80F
-    ram_length, ram_seed = g.pick([0, 1, 300, 4096, 4096, 4096, 65_536]), g.between(1, 9)
-    if which % 50 == 0:
-        ram_length = g.pick([524_287, 524_288, 524_300])
-    image = compose(bytes(16), bytes(8), tables, [])
-    accesses = random_accesses(g, [g.below(16), g.below(5)], 100)
-    return (f"RAM of {ram_length} words", *machine_record(image, (ram_length, ram_seed), accesses))
-
-
-def machine_cases(g: Generator) -> Iterator[Case]:
-    """Give the edges, then random tables and accesses (01, The machine)."""
-    yield from row_edges()
-    for edges, ram in ((bank_edges(), (65_536, 3)), (bank_and_flip_edges(), (16_384, 4)), (count_edges(), (16, 4))):
-        for label, tables, accesses in edges:
-            yield (label, *machine_record(compose(bytes(16), bytes(8), tables, []), ram, accesses))
-    for which in range(300):
-        yield machine_case(g, which)
-
-
 def marks_of(paragraphs: set[int]) -> bytes:
     """Write marks as 2,048 bits (README.md, write)."""
     return sum(1 << paragraph for paragraph in paragraphs).to_bytes(256, "little")
 
 
 def write_edges() -> Iterator[Case]:
-    """Give limits and the order 10, 9, 1, 29 (01, The plain writer; READINGS B7, L12)."""
-    none, jlp, tables = bytes(24), b"\x00\x00\x01" + bytes(21), bytes(1280)
+    """Give limits and the order 10, 11, 9, 1, 29 (01, The plain writer; READINGS B7, L12, LW-7)."""
+    none, mapper, tables = bytes(24), bytes(4) + b"\x01" + bytes(19), bytes(1280)
+    for jlp in (1, 2, 3):
+        for size in (0, 1, 682, 683):
+            for words in (73_599, 73_600):
+                for other, buffer in ((0, 0), (0, 1321), (1 << 32, 1321)):
+                    head = jlp_flags(jlp, size, other).to_bytes(16, "little") + bytes(8)
+                    for few in (set(), {287}):
+                        label = f"LW-7 field {jlp}, size {size}, RAM {words}, marks {few}, buffer {buffer}, flag 32 {other >> 32}"
+                        yield (label, *write_record(head, tables, (words, 3), [], marks_of(few), (buffer, 13)))
     for count in (1982, 1983, 1984, 2048):
         marks = marks_of(set(range(count - 1)) | {2047})
-        for head in (none, jlp):
+        for head in (none, mapper):
             for words in (524_287, 524_288, 524_300):
                 for buffer in (min(1321 + 528 * count, 1_048_577), 1320 + 528 * min(count, 1983), 0):
-                    label = f"{count} marks, RAM {words}, buffer {buffer}, JLP {head[2]}"
+                    label = f"{count} marks, RAM {words}, buffer {buffer}, flag 32 {head[4]}"
                     yield (label, *write_record(head, tables, (words, 3), [], marks, (buffer, 13)))
     for words in (0, 255, 256, 511, 512):
         for few in (set(), {0}, {0, 1}, {1}, {1, 7}):

@@ -41,14 +41,19 @@ def card_record(image: bytes) -> Answered:
     return code, Record().fill(image).number(2, len(text)).raw(text.encode()).finished()
 
 
-def machine_record(image: bytes, ram: Filled, accesses: list[Access]) -> Answered:
-    """Load an image and make accesses (README.md, machine)."""
+def machine_record(image: bytes, ram: Filled, words_lent: int, accesses: list[Access]) -> Answered:
+    """Load an image and make accesses with the RAM's first words lent (README.md, machine)."""
     words = list(fill_words(*ram))
-    machine = Machine(load(image, words).tables)
-    answers = play_machine(machine, words, accesses)
+    loaded = load(image, words)
+    if loaded.number:
+        raise SystemExit(f"a machine's image gives {loaded.number}")
+    machine, lent_words = Machine(loaded.tables, loaded.flags), words[:words_lent]
+    answers = play_machine(machine, lent_words, accesses)
+    words[:words_lent] = lent_words
     active = Tables(machine.mapping, machine.permissions, machine.initial.flips)
-    record = Record().fill(image).number(4, *ram).accesses(accesses, answers)
-    return 0, record.number(4, digest(active.payload()), digest_words(words)).number(2, machine.readable).finished()
+    record = Record().fill(image).number(4, *ram, words_lent).accesses(accesses, answers)
+    record.number(4, digest(active.payload()), digest_words(words)).number(2, machine.readable)
+    return loaded.number, record.number(1, machine.jlp.on).finished()
 
 
 def write_record(head: bytes, tables: bytes, ram: Filled, laid: Laid, marks: bytes, buffer: Filled) -> Answered:
@@ -81,7 +86,7 @@ def bus_record(title: Title, ram: Filled, accesses: list[Access]) -> Answered:
     words = list(fill_words(*ram))
     loaded = load(make_image(title.bin_file(), title.cfg, entries), words)
     answers = play_plain(PlainCartridge(title.bin_file(), entries), accesses)
-    machine = Machine(loaded.tables)
+    machine = Machine(loaded.tables, loaded.flags)
     if loaded.number or play_machine(machine, words, accesses) != answers:
         raise SystemExit("the machine does not play as the plain cartridge")
     record = Record().fill(title.bin_file(), title.bin_base, title.bin_seed).fill(title.cfg, 0x20).number(4, *ram)

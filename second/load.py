@@ -1,4 +1,4 @@
-"""Loading a version 1 image into a lent RAM (01, File layout and refusals 1 to 10)."""
+"""Loading a version 1 image into a lent RAM (01, File layout and refusals 1 to 11)."""
 
 from dataclasses import dataclass, field
 from typing import Iterator, MutableSequence
@@ -6,11 +6,12 @@ from typing import Iterator, MutableSequence
 import hunk
 from checksums import crc32_4, dowcrc
 from refusal import Refused
-from tables import TABLES_SIZE, Tables, read_tables, unsupported
+from tables import PFE, TABLES_SIZE, Tables, read_tables
 
 HEADER, BLOCK_HEADER = 32, 8
 IMAGE_LIMIT = 1_048_576
 LOCUTUS_WORDS = 524_288
+JLP_WORDS = 73_600
 MAGIC = b"\x4C\x54\x4F"
 NOT_STATED = 4
 ENDED, ENCRYPTED, TABLES, DATA_HUNK = 0xFF, 0x00, 0x01, 0x02
@@ -26,6 +27,7 @@ class Loaded:
     words: int = 0
     fields: tuple[int, ...] = (0, 0, 0, 0, NOT_STATED)
     tables: Tables = field(default_factory=Tables)
+    flags: bytes = bytes(16)
 
 
 @dataclass
@@ -92,6 +94,25 @@ def compatibility(flags: bytes) -> tuple[int, ...]:
     return (*(bits >> first & 3 for first in (0, 2, 4, 6)), tutorvision)
 
 
+def jlp_field(flags: bytes) -> int:
+    """Give flag bits 16 and 17 (001, JLP Accelerator Enable)."""
+    return flags[2] & 3
+
+
+def flash_size(flags: bytes) -> int:
+    """Give flag bits 22 to 31, the sectors of flash (001, JLP Flash Save Game Size; READINGS LW-6)."""
+    return int.from_bytes(flags[:4], "little") >> 22
+
+
+def check_features(flags: bytes, tables: Tables, words_lent: int) -> None:
+    """Ask 10, then 11 (02, W-206; READINGS LW-1, LW-3)."""
+    chapter_1 = any(tables.flips[16 + page] & PFE for page in range(16))
+    if chapter_1 or flags[4] & 1 or jlp_field(flags) >= 2 and flash_size(flags):
+        raise Refused(10, 0)
+    if jlp_field(flags) and words_lent < JLP_WORDS:
+        raise Refused(11, 0)
+
+
 def accept(image: bytes, ram: MutableSequence[int]) -> Loaded:
     """Ask everything, and only then store the hunks in file order (01, Load order)."""
     check_header(image)
@@ -108,13 +129,12 @@ def accept(image: bytes, ram: MutableSequence[int]) -> Loaded:
     if found is None:
         raise Refused(8, len(image))
     flags = image[4:20]
-    if unsupported(flags, found):
-        raise Refused(10, 0)
+    check_features(flags, found, lent(ram))
     for address, words in hunks:
         for place, word in enumerate(words):
             ram[address + place] = word
     stored = sum(len(words) for _, words in hunks)
-    return Loaded(0, 0, blocks, stored, compatibility(flags), found)
+    return Loaded(0, 0, blocks, stored, compatibility(flags), found, flags)
 
 
 def load(image: bytes, ram: MutableSequence[int]) -> Loaded:

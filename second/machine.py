@@ -2,6 +2,7 @@
 
 from typing import MutableSequence, Optional
 
+from jlp import Jlp
 from load import LOCUTUS_WORDS, lent
 from tables import BANKSW, NARROW, PFE, READ, WRITE, Tables
 
@@ -41,14 +42,16 @@ def stored(old: int, value: int, narrow: bool) -> int:
 
 
 class Machine:
-    """Initial and active mapping and permissions, the one flip table, and how many are readable (01; 02, W-211)."""
+    """Initial and active tables, the one flip table, how many are readable, and JLP (01; 02, W-211, W-206)."""
 
-    def __init__(self, tables: Tables) -> None:
+    def __init__(self, tables: Tables, flags: bytes = bytes(16)) -> None:
         self.initial = tables
+        self.jlp = Jlp(flags)
         self.reset()
 
     def reset(self) -> None:
-        """Copy initial mapping and permissions to active (01, The machine)."""
+        """Copy initial mapping and permissions to active, and set the accelerators' switch (01; 02, W-206)."""
+        self.jlp.reset()
         self.mapping = list(self.initial.mapping)
         self.permissions = list(self.initial.permissions)
         self.readable = self.initial.readable()
@@ -58,7 +61,9 @@ class Machine:
         return (self.mapping[address >> 8] * 256 + address % 256) % LOCUTUS_WORDS
 
     def read(self, ram: MutableSequence[int], address: int) -> Optional[int]:
-        """Give the word read, or none for silence (01, The machine)."""
+        """Give the word read, or none for silence (01, The machine; 02, W-206)."""
+        if self.jlp.has(address):
+            return self.jlp.read(ram, address)
         location = self.location(address)
         readable = self.permissions[address >> 8] & READ
         if readable and location < lent(ram) and not silent(address):
@@ -70,7 +75,12 @@ class Machine:
         return entry is not None and entry >= 32 and self.initial.flips[entry] & PFE != 0
 
     def write(self, ram: MutableSequence[int], address: int, value: int) -> int:
-        """Switch, flip or store, only one of them, and count the mapping entries assigned (01; 02, W-202, W-212)."""
+        """Give the write to its one taker, and count the mapping entries assigned (READINGS ALL-1; 02, W-212)."""
+        if self.jlp.switched(address, value):
+            return 0
+        if self.jlp.has(address):
+            self.jlp.write(ram, address, value)
+            return 0
         half_page, entry = half_page_of(address), asked_entry(address, value)
         if half_page is not None and self.permissions[8 * half_page] & BANKSW:
             return self.switch(half_page, value % 256)

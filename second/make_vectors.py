@@ -5,6 +5,8 @@ from collections import Counter
 from pathlib import Path
 
 import cases_images
+import cases_jlp
+import cases_machine
 import cases_titles
 from generator import Generator
 
@@ -14,7 +16,8 @@ FAMILIES = {
     "sums": cases_images.sums_cases,
     "load": cases_images.load_cases,
     "card": cases_images.card_cases,
-    "machine": cases_images.machine_cases,
+    "machine": cases_machine.machine_cases,
+    "jlp": cases_jlp.jlp_cases,
     "write": cases_images.write_cases,
     "cfg": cases_titles.cfg_cases,
     "build": cases_titles.build_cases,

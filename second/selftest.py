@@ -8,9 +8,11 @@ import hunk
 from builder import build, checked_entries, make_image
 from card import card
 from cases_images import random_forms
+from cases_jlp import CORNERS, CRC_TABLE
 from checksums import CRC32, CRC32_4, DOWCRC, ONES, bit_by_bit, crc32, crc32_4, dowcrc, run
 from encode import bad_hunk, random_draft, random_hunk, random_tables
 from generator import Generator, fill_bytes, fill_words
+from jlp import Jlp, crc_step, signed
 from load import NOT_STATED, compatibility, load
 from machine import Machine, asked_entry, flipped, half_page_of, stored
 from plain import PlainCartridge
@@ -179,6 +181,40 @@ def check_forms(g: Generator, rounds: int) -> Iterator[Check]:
         yield "same cuts", [len(more or []) for _, more in hunk.data_blocks(packed)] == [62, 62, 62, 62, 8]
 
 
+def crc_by_000(crc: int, word: int) -> int:
+    """Take a word into the CRC as 000's assembly does, by its printed table (000, Reference Code)."""
+    crc ^= word
+    for _ in range(2):
+        index = crc & 0xFF
+        crc = (crc >> 8 | crc << 8 & 0xFF00) ^ CRC_TABLE[index]
+    return crc
+
+
+def check_jlp(g: Generator, rounds: int) -> Iterator[Check]:
+    """Run the CRC by 000's table, and arithmetic by what it must satisfy (000; 02, W-206)."""
+    for byte in range(256):
+        yield "CRC table", crc_step(0, byte << 8) == CRC_TABLE[byte] ^ byte << 8
+    for _ in range(rounds):
+        crc, word = g.below(65536), g.below(65536)
+        yield "CRC by 000's assembly", crc_step(crc, word) == crc_by_000(crc, word)
+        jlp, a, b = Jlp(b"\x00\x00\x01" + bytes(13)), g.pick([g.below(65536), g.pick(CORNERS)]), g.pick([g.below(65536), g.pick(CORNERS)])
+        sa, sb = int.from_bytes(a.to_bytes(2, "big"), "big", signed=True), int.from_bytes(b.to_bytes(2, "big"), "big", signed=True)
+        for function, (x, y) in enumerate(((sa, sb), (sa, b), (a, sb), (a, b), (sa, sb), (a, b))):
+            jlp.low, jlp.high = 0x1234, 0x5678
+            for address, value in g.shuffled([(0x9F80 + 2 * function, a), (0x9F81 + 2 * function, b)]):
+                jlp.write([], address, value)
+            if function < 4:
+                yield "product", (jlp.high << 16 | jlp.low) == x * y & 0xFFFFFFFF
+            elif b == 0:
+                yield "divisor 0", (jlp.low, jlp.high) == (0x1234, 0x5678)
+            elif (x, y) == (-32768, -1):
+                yield "-32,768 by -1", (jlp.low, jlp.high) == (0x8000, 0)
+            else:
+                quotient = signed(jlp.low) if function == 4 else jlp.low
+                rest = signed(jlp.high) if function == 4 else jlp.high
+                yield "division", quotient * y + rest == x and abs(rest) < abs(y) and rest * x >= 0
+
+
 def built(bin_length: int, text: str) -> tuple:
     """Build lines after [mapping], and load the image (01, Bench cases 6 and 7)."""
     buffer, ram = bytearray(700_000), [7] * 524_288
@@ -254,7 +290,8 @@ def main() -> None:
     """Run every check, and say how many there were (01, Bench cases)."""
     g, ran = Generator(2019), 0
     for checks in (check_sums(), check_hunks(), check_cases_1_to_5(), check_cases_6_to_8(),
-                   check_faults(g, 1000), check_forms(g, 1000), check_fields(), check_rows(), check_switches(g, 300), check_titles(g, 200),
+                   check_faults(g, 1000), check_forms(g, 1000), check_fields(), check_rows(), check_switches(g, 300), check_jlp(g, 2000),
+                   check_titles(g, 200),
                    check_round_trips(g, 500)):
         for name, passed in checks:
             ran += 1

@@ -38,11 +38,3 @@ def read_tables(payload: bytes) -> Tables:
         list(payload[512:768]),
         [word_at(payload, 768 + 2 * entry) for entry in range(256)],
     )
-
-
-def unsupported(flags: bytes, tables: Tables) -> bool:
-    """Tell whether flags or tables ask for what we have not (01, refusal 10; 02, W-202)."""
-    jlp = flags[2] & 3 != 0
-    mapper = flags[4] & 1 != 0
-    chapter_1 = any(tables.flips[16 + page] & PFE for page in range(16))
-    return jlp or mapper or chapter_1

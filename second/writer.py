@@ -5,9 +5,9 @@ from typing import MutableSequence, Sequence
 
 from checksums import crc32_4, dowcrc
 from hunk import encode
-from load import DATA_HUNK, ENDED, IMAGE_LIMIT, MAGIC, TABLES, lent
+from load import DATA_HUNK, ENDED, IMAGE_LIMIT, MAGIC, TABLES, check_features, lent
 from refusal import Refused
-from tables import Tables, unsupported
+from tables import Tables
 
 
 @dataclass
@@ -50,18 +50,19 @@ def put(image: bytes, buffer: bytearray) -> int:
 
 def write(flags: bytes, uid: bytes, tables: Tables, ram: MutableSequence[int],
           marks: Sequence[bool], buffer: bytearray) -> Written:
-    """Write a hunk for each marked paragraph, refusing 10, 9, 1, 29 in order (01)."""
-    if unsupported(flags, tables):
-        return Written(10, 0)
-    marked = [paragraph for paragraph in range(2048) if marks[paragraph]]
-    for paragraph in marked:
-        if paragraph * 256 + 256 > lent(ram):
-            return Written(9, paragraph)
-    hunks = [(p, list(ram[p * 256:p * 256 + 256])) for p in marked]
-    image = compose(flags, uid, tables, hunks)
-    if len(image) > IMAGE_LIMIT:
-        return Written(1, 0)
+    """Write a hunk for each marked paragraph, refusing 10, 11, 9, 1, 29 in order (01; 02, W-206)."""
+    length = 0
     try:
+        check_features(flags, tables, lent(ram))
+        marked = [paragraph for paragraph in range(2048) if marks[paragraph]]
+        for paragraph in marked:
+            if paragraph * 256 + 256 > lent(ram):
+                raise Refused(9, paragraph)
+        hunks = [(p, list(ram[p * 256:p * 256 + 256])) for p in marked]
+        image = compose(flags, uid, tables, hunks)
+        if len(image) > IMAGE_LIMIT:
+            raise Refused(1, 0)
+        length = len(image)
         return Written(0, 0, put(image, buffer))
     except Refused as refused:
-        return Written(refused.number, refused.place, len(image))
+        return Written(refused.number, refused.place, length)
