@@ -61,7 +61,66 @@ static bool is_silent(uint16_t at) {
     return at < 0x500 || at / 4096 == 1 || at / 4096 == 3;
 }
 
+/* ---- the accelerators: on for fields 1 and 3, in $8000-$9FFF ---- */
+
+static Jlp fresh_jlp(uint16_t field) {
+    return (Jlp){.field = field, .on = field == 1 || field == 3};
+}
+
+static bool in_window(uint16_t at) {
+    return at / 0x2000 == 4;
+}
+
+static bool in_jlp_ram(uint16_t at) {
+    return at >= 0x8040 && at <= 0x9F7F;
+}
+
+static void divide(Jlp *j, int32_t a, int32_t b) {
+    if (b == 0)
+        return;
+    j->first = a / b;
+    j->second = a % b;
+}
+
+/* Operand k is written, and its own function computes. */
+static void operate(Jlp *j, int k, uint16_t value) {
+    j->operands[k] = value;
+    uint16_t a = j->operands[k & ~1], b = j->operands[k | 1];
+    if (k >= 8)
+        return k < 10 ? divide(j, (int16_t)a, (int16_t)b) : divide(j, a, b);
+    uint32_t x = k < 4 ? (uint32_t)(int16_t)a : a, y = k < 2 || k / 2 == 2 ? (uint32_t)(int16_t)b : b, p = x * y;
+    j->first = p;
+    j->second = p >> 16;
+}
+
+static uint16_t crc_word(uint16_t crc, uint16_t word) {
+    crc ^= word;
+    for (int k = 0; k < 16; k++)
+        crc = crc & 1 ? crc >> 1 ^ 0xAD52 : crc >> 1;
+    return crc;
+}
+
+static void write_register(Jlp *j, uint16_t at, uint16_t value) {
+    if (at == 0x8034 && value == 0x6A7A)
+        j->on = 0;
+    else if (at >= 0x9F80 && at <= 0x9F8B)
+        operate(j, at - 0x9F80, value);
+    else if (at == 0x9FFC)
+        j->crc = crc_word(j->crc, value);
+    else if (at == 0x9FFD)
+        j->crc = value;
+}
+
+static uint32_t read_register(const Jlp *j, uint16_t at) {
+    return at == 0x9F8E ? j->first : at == 0x9F8F ? j->second : at == 0x9FFD ? j->crc : SILENCE;
+}
+
 static uint32_t read_word(const Cartridge *c, const uint16_t *ram, size_t words, uint16_t at) {
+    if (c->jlp.on && in_window(at)) {
+        if (!in_jlp_ram(at))
+            return read_register(&c->jlp, at);
+        return at + 0x8000u < words ? ram[at + 0x8000u] : SILENCE;
+    }
     uint32_t l = location(c->mapping[at / 256], at);
     if (!(c->permissions[at / 256] & READ) || l >= words || is_silent(at))
         return SILENCE;
@@ -89,6 +148,18 @@ static uint8_t bankswitch(Cartridge *c, int h, uint8_t first) {
 
 static uint8_t write_word(Cartridge *c, uint16_t *ram, size_t words, uint16_t at, uint16_t value) {
     int x = at / 4096;
+    Jlp *j = &c->jlp;
+    if (at == 0x8033 && value == 0x4A5A && j->field) {
+        j->on = 1;
+        return 0;
+    }
+    if (j->on && in_window(at)) {
+        if (!in_jlp_ram(at))
+            write_register(j, at, value);
+        else if (at + 0x8000u < words)
+            ram[at + 0x8000u] = value;
+        return 0;
+    }
     if (at / 32 == 2) {
         int h = at % 16 * 2 + at / 16 % 2;
         if (c->permissions[8 * h] & BANKSW)
@@ -195,11 +266,15 @@ static Cartridge cartridge_of(const uint8_t *s) {
     return c;
 }
 
-static bool not_had(const uint8_t *flags, const Cartridge *c) {
+/* Refusal 10, or 11. */
+static int not_had(const uint8_t *flags, const Cartridge *c, size_t words) {
     bool flipped = false;
     for (int i = 16; i < 32; i++)
         flipped = flipped || c->flips[i] & PFE;
-    return flags[2] & 3 || flags[4] & 1 || flipped;
+    int field = flags[2] & 3, size = flags[2] / 64 + 4 * flags[3];
+    if ((field >= 2 && size) || flags[4] & 1 || flipped)
+        return 10;
+    return field && words < 73600 ? 11 : 0;
 }
 
 /* TutorVision's number where an image states nothing of it. */
@@ -255,8 +330,10 @@ Loading c_load(const uint8_t *s, size_t n, uint16_t *ram, size_t words) {
     if (!tables)
         return refused_load(8, n);
     Loading r = {.blocks = blocks, .words = stored, .cartridge = cartridge_of(s + tables + 8)};
-    if (not_had(s + 4, &r.cartridge))
-        return refused_load(10, 0);
+    int refused = not_had(s + 4, &r.cartridge, words);
+    if (refused)
+        return refused_load(refused, 0);
+    r.cartridge.jlp = fresh_jlp(s[6] & 3);
     static const int field[5] = {0, 2, 4, 6, 10};
     for (int i = 0; i < 5; i++)
         r.compat[i] = s[4 + field[i] / 8] >> field[i] % 8 & 3;

@@ -14,12 +14,17 @@ uint32_t c_crc324(const uint8_t *s, size_t n);
 uint32_t c_crc32(const uint8_t *s, size_t n);
 
 typedef struct {
+    uint16_t field, on, operands[12], first, second, crc;
+} Jlp;
+
+typedef struct {
     uint16_t initial_mapping[256];
     uint8_t initial_permissions[256];
     uint16_t mapping[256];
     uint8_t permissions[256];
     uint16_t flips[256];
     uint16_t readable;
+    Jlp jlp;
 } Cartridge;
 
 void c_reads(const Cartridge *c, const uint16_t *ram, size_t words, const uint16_t *at, size_t n, uint32_t *out);

@@ -17,7 +17,7 @@ static size_t cfg_length;
 static uint8_t image[ROOM], packed[ROOM];
 static size_t image_length, packed_length;
 static uint16_t read_at[SCRIPT], write_at[SCRIPT], value[SCRIPT];
-static uint16_t switch_at[SCRIPT], switch_value[SCRIPT];
+static uint16_t switch_at[SCRIPT], switch_value[SCRIPT], jlp_at[SCRIPT], operand_at[SCRIPT];
 
 static uint32_t random_bits(void) {
     static uint32_t x = 12345;
@@ -41,9 +41,11 @@ static void make_cfg(void) {
 }
 
 /* Reads anywhere; writes anywhere, and every sixteenth asks for a page; the same, where every sixteenth switches a half-page
-   of chapters 8 to 10. */
+   of chapters 8 to 10; in JLP RAM; and to the operands of the four multiplies. */
 static void make_scripts(void) {
     for (int i = 0; i < SCRIPT; i++) {
+        jlp_at[i] = 0x8040 + random_bits() % 0x1F40;
+        operand_at[i] = 0x9F80 + random_bits() % 8;
         switch_at[i] = random_bits();
         switch_value[i] = random_bits();
         if (i % 16 == 0)
@@ -119,7 +121,7 @@ static Built built;
 static Building building;
 static uint8_t made[2][ROOM];
 static uint16_t ram[2][WORDS];
-static Cartridge cartridge[2], banked[2];
+static Cartridge cartridge[2], banked[2], accelerated[2];
 static uint32_t heard[2][SCRIPT];
 static uint8_t assigned[2][SCRIPT];
 
@@ -140,7 +142,7 @@ static bool same_load(void) {
     const Cartridge *c = &loading.cartridge;
     return loaded.number == 0 && loading.number == 0 && loaded.blocks == loading.blocks && loaded.words == loading.words
         && !memcmp(loaded.compat, loading.compat, 5) && !memcmp(loaded.mapping, c->mapping, sizeof c->mapping)
-        && loaded.readable == c->readable && !memcmp(loaded.permissions, c->permissions, sizeof c->permissions) && !memcmp(loaded.flips, c->flips, sizeof c->flips)
+        && loaded.readable == c->readable && !memcmp(loaded.accelerators, &c->jlp, sizeof c->jlp) && !memcmp(loaded.permissions, c->permissions, sizeof c->permissions) && !memcmp(loaded.flips, c->flips, sizeof c->flips)
         && !memcmp(ram[0], ram[1], sizeof ram[0]);
 }
 
@@ -155,16 +157,20 @@ static bool same_build(void) {
         && !memcmp(made[0], made[1], ROOM);
 }
 
+/* C's struct of the accelerators is the 17 words. */
+static const uint16_t *words_of(const Cartridge *c) { return &c->jlp.field; }
+static uint16_t *lent_words_of(Cartridge *c) { return &c->jlp.field; }
+
 static void proved_reads(void) {
     const Cartridge *c = &cartridge[0];
     for (int i = 0; i < TIMES; i++)
-        luigi_reads(c->mapping, c->permissions, ram[0], WORDS, read_at, SCRIPT, heard[0], SCRIPT);
+        luigi_reads(c->mapping, c->permissions, words_of(c), ram[0], WORDS, read_at, SCRIPT, heard[0], SCRIPT);
 }
 
 static void proved_reads_by_value(void) {
     const Cartridge *c = &cartridge[0];
     for (int i = 0; i < TIMES; i++)
-        luigi_reads_by_value(c->mapping, c->permissions, c->flips, ram[0], WORDS, read_at, SCRIPT, heard[0], SCRIPT);
+        luigi_reads_by_value(c->mapping, c->permissions, c->flips, c->jlp.field, ram[0], WORDS, read_at, SCRIPT, heard[0], SCRIPT);
 }
 
 static void plain_reads(void) {
@@ -177,17 +183,18 @@ static bool same_heard(void) { return !memcmp(heard[0], heard[1], sizeof heard[0
 static void proved_writes(void) {
     Cartridge *c = &cartridge[0];
     for (int i = 0; i < TIMES; i++)
-        luigi_writes(c->mapping, c->permissions, c->flips, &c->readable, ram[0], WORDS, write_at, SCRIPT, value, SCRIPT, assigned[0], SCRIPT);
+        luigi_writes(c->mapping, c->permissions, c->flips, &c->readable, lent_words_of(c), ram[0], WORDS, write_at, SCRIPT, value, SCRIPT, assigned[0], SCRIPT);
 }
 
 static void proved_writes_by_value(void) {
     Cartridge *c = &cartridge[0];
     for (int i = 0; i < TIMES; i++) {
         Active a;
-        luigi_writes_by_value(&a, c->mapping, c->permissions, c->flips, ram[0], WORDS, write_at, SCRIPT, value, SCRIPT);
+        luigi_writes_by_value(&a, c->mapping, c->permissions, c->flips, c->jlp.field, ram[0], WORDS, write_at, SCRIPT, value, SCRIPT);
         memcpy(c->mapping, a.mapping, sizeof a.mapping);
         memcpy(c->permissions, a.permissions, sizeof a.permissions);
         c->readable = a.readable;
+        memcpy(&c->jlp, a.accelerators, sizeof c->jlp);
     }
 }
 
@@ -207,7 +214,7 @@ static bool same_writes(void) { return same_worlds() && same_numbers(); }
 static void proved_switches(void) {
     Cartridge *c = &banked[0];
     for (int i = 0; i < TIMES; i++)
-        luigi_writes(c->mapping, c->permissions, c->flips, &c->readable, ram[0], WORDS, switch_at, SCRIPT, switch_value, SCRIPT, assigned[0], SCRIPT);
+        luigi_writes(c->mapping, c->permissions, c->flips, &c->readable, lent_words_of(c), ram[0], WORDS, switch_at, SCRIPT, switch_value, SCRIPT, assigned[0], SCRIPT);
 }
 
 static void plain_switches(void) {
@@ -215,10 +222,39 @@ static void plain_switches(void) {
         c_writes(&banked[1], ram[1], WORDS, switch_at, switch_value, SCRIPT, assigned[1]);
 }
 
-static bool same_banked(void) {
-    return !memcmp(&banked[0], &banked[1], sizeof banked[0]) && !memcmp(ram[0], ram[1], sizeof ram[0])
-        && !memcmp(assigned[0], assigned[1], sizeof assigned[0]);
+static bool same_after(const Cartridge *c) {
+    return !memcmp(&c[0], &c[1], sizeof *c) && !memcmp(ram[0], ram[1], sizeof ram[0]) && !memcmp(assigned[0], assigned[1], sizeof assigned[0]);
 }
+
+static bool same_banked(void) { return same_after(banked); }
+static bool same_accelerated(void) { return same_after(accelerated); }
+
+static void proved_jlp_reads(void) {
+    const Cartridge *c = &accelerated[0];
+    for (int i = 0; i < TIMES; i++)
+        luigi_reads(c->mapping, c->permissions, words_of(c), ram[0], WORDS, jlp_at, SCRIPT, heard[0], SCRIPT);
+}
+
+static void plain_jlp_reads(void) {
+    for (int i = 0; i < TIMES; i++)
+        c_reads(&accelerated[1], ram[1], WORDS, jlp_at, SCRIPT, heard[1]);
+}
+
+static void proved_jlp(const uint16_t *at) {
+    Cartridge *c = &accelerated[0];
+    for (int i = 0; i < TIMES; i++)
+        luigi_writes(c->mapping, c->permissions, c->flips, &c->readable, lent_words_of(c), ram[0], WORDS, at, SCRIPT, value, SCRIPT, assigned[0], SCRIPT);
+}
+
+static void plain_jlp(const uint16_t *at) {
+    for (int i = 0; i < TIMES; i++)
+        c_writes(&accelerated[1], ram[1], WORDS, at, value, SCRIPT, assigned[1]);
+}
+
+static void proved_jlp_writes(void) { proved_jlp(jlp_at); }
+static void plain_jlp_writes(void) { plain_jlp(jlp_at); }
+static void proved_multiplies(void) { proved_jlp(operand_at); }
+static void plain_multiplies(void) { plain_jlp(operand_at); }
 
 /* ---- measuring ---- */
 
@@ -241,6 +277,9 @@ static const Row rows[] = {
     {"10 million bus reads", 9, proved_reads, plain_reads, same_heard, 1e7},
     {"10 million bus writes, every 16th a flip", 9, proved_writes, plain_writes, same_writes, 1e7},
     {"10 million writes with switches, every 16th a bankswitch", 9, proved_switches, plain_switches, same_banked, 1e7},
+    {"10 million reads of JLP RAM", 9, proved_jlp_reads, plain_jlp_reads, same_heard, 1e7},
+    {"10 million writes to JLP RAM", 9, proved_jlp_writes, plain_jlp_writes, same_accelerated, 1e7},
+    {"10 million multiplies by JLP", 9, proved_multiplies, plain_multiplies, same_accelerated, 1e7},
     {"10 million bus reads, the cartridge by value", 3, proved_reads_by_value, plain_reads, same_heard, 1e7},
     {"10 million bus writes, the cartridge by value", 3, proved_writes_by_value, plain_writes, same_worlds, 1e7},
 };
@@ -284,6 +323,8 @@ int main(void) {
     Loading l = c_load(image, image_length, ram[1], WORDS);
     memcpy(ram[0], ram[1], sizeof ram[0]);
     cartridge[0] = cartridge[1] = l.cartridge;
+    accelerated[0] = accelerated[1] = l.cartridge;
+    accelerated[0].jlp = accelerated[1].jlp = (Jlp){.field = 1, .on = 1};
     for (int p = 16 * 8; p < 16 * 11; p += 8)
         l.cartridge.permissions[p] |= 8; /* BANKSW */
     banked[0] = banked[1] = l.cartridge;

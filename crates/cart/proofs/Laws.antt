@@ -1,20 +1,24 @@
 -- One law for each return that makes a cartridge or a count, its premises as the code's calls give them.
 use Prim.Native.Nat.{ℕ}
-use mathlib.Core.Path.{_≡_}
+use mathlib.Core.Path.{_≡_, _∙_}
 use mathlib.Core.List.{List}
 use Rattle.places.specs.declared.Console.{Console}
 use Rattle.switches.specs.Flips.{Active, active, flipFrom, flipSize, flipped}
+use Rattle.jlp.specs.declared.Jlp.{Jlp}
+use Rattle.jlp.specs.Accelerators.{freshJlp, resetJlp, writtenJlp}
 use Rattle.cart.specs.declared.Cartridge.{Cartridge}
 use Rattle.cart.specs.Readable.{readableIn, readableOf, recounted}
 use Rattle.cart.specs.Writes.{leaves, assigned, leavesReadable}
 use Rattle.cart.specs.Cartridges.{assembled, initialOf, activeOf, fresh, withActive, writtenOf, resetOf}
 
 -- a cartridge as loaded, and one that is reset, each with its count
-pub fresh-is : (m p f : List ℕ) (k : ℕ) (r : Cartridge) → k ≡ readableOf p → r ≡ assembled (active m p) (active m p) f k → r ≡ fresh m p f
-fresh-is m p f k r e h = rw (← e) h
+pub fresh-is : (field : ℕ) (m p f : List ℕ) (k : ℕ) (j : Jlp) (r : Cartridge) → k ≡ readableOf p → j ≡ freshJlp field
+    → r ≡ assembled (active m p) (active m p) f k j → r ≡ fresh field m p f
+fresh-is field m p f k j r e g h = rw (← e, ← g) h
 
-pub reset-is : (c : Cartridge) (k : ℕ) (r : Cartridge) → k ≡ readableOf (c .«initial_permissions») → r ≡ withActive c (initialOf c) k → r ≡ resetOf c
-reset-is c k r e h = rw (← e) h
+pub reset-is : (c : Cartridge) (k : ℕ) (j : Jlp) (r : Cartridge) → k ≡ readableOf (c .«initial_permissions») → j ≡ resetJlp (c .jlp)
+    → r ≡ withActive c (initialOf c) k j → r ≡ resetOf c
+reset-is c k j r e g h = rw (← e, ← g) h
 
 -- the paragraphs of a flip entry, counted
 pub part-is : (p : List ℕ) (n a s r : ℕ) → a ≡ flipFrom n → s ≡ flipSize n → r ≡ readableIn p a s → r ≡ readableIn p (flipFrom n) (flipSize n)
@@ -27,8 +31,8 @@ pub flip-recounts : (a : Active) (flips : List ℕ) (n kept before after r : ℕ
 flip-recounts a flips n kept before after r q e f g h = rw (← f, ← e, ← g) h
 
 -- what a write answers, from what the lent tables and the number have become
-pub written-is : (c : Cartridge) (at : Console) (v : ℕ) (m p : List ℕ) (n k : ℕ) (d : Cartridge)
-    → m ≡ leaves (activeOf c) (c .flips) at v .mapping → p ≡ leaves (activeOf c) (c .flips) at v .permissions
-    → n ≡ assigned (activeOf c) (c .flips) at v → k ≡ leavesReadable (activeOf c) (c .flips) (c .readable) at v
-    → d ≡ withActive c (active m p) k → record { cartridge = d; assigned = n } ≡ writtenOf c at v
-written-is c at v m p n k d e f g i h = rw (h, e, f, g, i)
+pub written-is : (c : Cartridge) (at : Console) (v : ℕ) (m p : List ℕ) (n k : ℕ) (j : Jlp) (d : Cartridge)
+    → m ≡ leaves (c .jlp) (activeOf c) (c .flips) at v .mapping → p ≡ leaves (c .jlp) (activeOf c) (c .flips) at v .permissions
+    → n ≡ assigned (c .jlp) (activeOf c) (c .flips) at v → k ≡ leavesReadable (c .jlp) (activeOf c) (c .flips) (c .readable) at v
+    → j ≡ writtenJlp (c .jlp) at v → d ≡ withActive c (active m p) k j → record { cartridge = d; assigned = n } ≡ writtenOf c at v
+written-is c at v m p n k j d e f g i l h = rw (h, e, f, g, i, l)

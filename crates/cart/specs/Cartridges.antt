@@ -1,11 +1,13 @@
--- The cartridge: the initial and the active tables and the flip table; what it answers, and what a write and a reset leave of it
--- (01, The machine; 02, W-211).
+-- The cartridge: the initial and the active tables, the flip table, the readable paragraphs and the accelerators; what it answers, and
+-- what a write and a reset leave of it (01, The machine; 02, W-206 and W-211).
 use Prim.Native.Nat.{ℕ}
 use mathlib.Core.List.{List}
 use lib.ListN.{replicate}
 use Rattle.places.specs.declared.Console.{Console}
 use Rattle.places.specs.Limits.{paragraphs, flipEntries}
 use Rattle.switches.specs.Flips.{Active, active}
+use Rattle.jlp.specs.declared.Jlp.{Jlp}
+use Rattle.jlp.specs.Accelerators.{freshJlp, resetJlp, writtenJlp}
 use Rattle.cart.specs.declared.Answer.{Answer}
 use Rattle.cart.specs.declared.Cartridge.{Cartridge}
 use Rattle.cart.specs.declared.Written.{Written}
@@ -13,9 +15,9 @@ use Rattle.cart.specs.Readable.{readableOf}
 use Rattle.cart.specs.Reads.{readBy}
 use Rattle.cart.specs.Writes.{leaves, leavesRam, assigned, leavesReadable}
 
--- a cartridge of these tables, that keeps this number of readable paragraphs: every cartridge is made here
-abbrev pub assembled : Active → Active → List ℕ → ℕ → Cartridge
-assembled initial now flips readable =
+-- a cartridge of these tables, that keeps this number of readable paragraphs and these accelerators: every cartridge is made here
+abbrev pub assembled : Active → Active → List ℕ → ℕ → Jlp → Cartridge
+assembled initial now flips readable jlp =
     record {
       «initial_mapping» = initial .mapping;
       «initial_permissions» = initial .permissions;
@@ -23,6 +25,7 @@ assembled initial now flips readable =
       permissions = now .permissions;
       flips = flips;
       readable = readable;
+      jlp = jlp;
     }
 
 -- its initial and its active tables
@@ -32,32 +35,35 @@ initialOf c = active (c .«initial_mapping») (c .«initial_permissions»)
 abbrev pub activeOf : Cartridge → Active
 activeOf c = active (c .mapping) (c .permissions)
 
--- as loaded: the active tables are the initial ones
-abbrev pub fresh : List ℕ → List ℕ → List ℕ → Cartridge
-fresh mapping permissions flips = assembled (active mapping permissions) (active mapping permissions) flips (readableOf permissions)
+-- as loaded with this JLP field: the active tables are the initial ones
+abbrev pub fresh : ℕ → List ℕ → List ℕ → List ℕ → Cartridge
+fresh field mapping permissions flips =
+    assembled (active mapping permissions) (active mapping permissions) flips (readableOf permissions) (freshJlp field)
 
--- with other active tables, and this number of readable paragraphs
-abbrev pub withActive : Cartridge → Active → ℕ → Cartridge
-withActive c a readable = assembled (initialOf c) a (c .flips) readable
+-- with other active tables, this number of readable paragraphs, and these accelerators
+abbrev pub withActive : Cartridge → Active → ℕ → Jlp → Cartridge
+withActive c a readable jlp = assembled (initialOf c) a (c .flips) readable jlp
 
--- a read, a write, and what it leaves of the RAM
+-- a read, a write, and what it leaves of the RAM; the accelerators go by their own law, whoever takes the write
 abbrev pub readOf : Cartridge → List ℕ → Console → Answer
-readOf c ram at = readBy (activeOf c) ram at
+readOf c ram at = readBy (c .jlp) (activeOf c) ram at
 
 abbrev pub writeOf : Cartridge → Console → ℕ → Cartridge
-writeOf c at v = withActive c (leaves (activeOf c) (c .flips) at v) (leavesReadable (activeOf c) (c .flips) (c .readable) at v)
+writeOf c at v =
+    withActive c (leaves (c .jlp) (activeOf c) (c .flips) at v) (leavesReadable (c .jlp) (activeOf c) (c .flips) (c .readable) at v)
+    (writtenJlp (c .jlp) at v)
 
 -- what `write` answers: the cartridge, and how many active mapping entries were assigned (02, W-212)
 abbrev pub writtenOf : Cartridge → Console → ℕ → Written
-writtenOf c at v = record { cartridge = writeOf c at v; assigned = assigned (activeOf c) (c .flips) at v }
+writtenOf c at v = record { cartridge = writeOf c at v; assigned = assigned (c .jlp) (activeOf c) (c .flips) at v }
 
 abbrev pub writeRamOf : Cartridge → List ℕ → Console → ℕ → List ℕ
-writeRamOf c ram at v = leavesRam (activeOf c) (c .flips) ram at v
+writeRamOf c ram at v = leavesRam (c .jlp) (activeOf c) (c .flips) ram at v
 
--- reset copies the initial tables to the active ones, and counts
+-- reset copies the initial tables to the active ones, and counts; the accelerators go on or off by the field
 abbrev pub resetOf : Cartridge → Cartridge
-resetOf c = withActive c (initialOf c) (readableOf (c .«initial_permissions»))
+resetOf c = withActive c (initialOf c) (readableOf (c .«initial_permissions»)) (resetJlp (c .jlp))
 
 -- the cartridge of a refused load
 abbrev pub noCartridge : Cartridge
-noCartridge = fresh (replicate paragraphs 0) (replicate paragraphs 0) (replicate flipEntries 0)
+noCartridge = fresh 0 (replicate paragraphs 0) (replicate paragraphs 0) (replicate flipEntries 0)

@@ -1,6 +1,6 @@
--- The word of RAM that an address reaches: its location, and what may be done with it (01, The machine).
+-- The word of RAM that an address reaches: its location, and what may be done with it (01, The machine; 02, W-206).
 use Prim.Native.Nat.{ℕ, _+_, _*_, _/_, _%_}
-use mathlib.Core.Bool.{Bool}
+use mathlib.Core.Bool.{Bool, true, false}
 use mathlib.Core.List.{List}
 use lib.Dec.{eqb, ltb}
 use lib.ListN.{getD}
@@ -9,6 +9,7 @@ use Rattle.places.specs.declared.Locutus.{Locutus}
 use Rattle.places.specs.Limits.{lent, lentLimit, paragraphSize}
 use Rattle.places.specs.Places.{locutus}
 use Rattle.switches.specs.Flips.{Active}
+use Rattle.jlp.specs.Window.{ramLocation}
 use Rattle.cart.specs.declared.Rights.{Rights}
 use Rattle.cart.specs.declared.Cell.{Cell}
 
@@ -39,6 +40,10 @@ cellAt a at =
       location = locate (getD (a .mapping) (paragraph at) 0) at;
       rights = rightsOf (getD (a .permissions) (paragraph at) 0);
     }
+
+-- the word of JLP RAM at an address: all 16 bits, read and written whatever the tables say (02, W-206)
+abbrev pub windowCell : Console → Cell
+windowCell at = record { location = ramLocation at; rights = record { read = true; write = true; narrow = false } }
 
 -- a location lies in the lent RAM
 abbrev pub lies : Locutus → List ℕ → Bool

@@ -1,4 +1,4 @@
--- A write: who takes it, then what it leaves of the active tables and of the RAM (01, The machine; 02, W-202, W-211 and W-212).
+-- A write: who takes it, then what it leaves of the active tables and of the RAM (01, The machine; 02, W-202, W-206, W-211 and W-212).
 use Prim.Native.Nat.{ℕ, _+_, _*_, _/_, _%_}
 use mathlib.Core.Bool.{Bool, cond, _&&_}
 use mathlib.Core.List.{List}
@@ -10,11 +10,22 @@ use Rattle.switches.specs.declared.Request.{Request}
 use Rattle.switches.specs.declared.Request.the-variants.{Entry, Nothing}
 use Rattle.switches.specs.Flips.{Active, asks, acts, flipFrom, flipSize, flipped}
 use Rattle.switches.specs.Banks.{halfPageParagraphs, registerAt, banked, bankswitched}
+use Rattle.jlp.specs.declared.Jlp.{Jlp}
+use Rattle.jlp.specs.Window.{inRam}
+use Rattle.jlp.specs.Accelerators.{takes}
 use Rattle.cart.specs.declared.Cell.{Cell}
 use Rattle.cart.specs.declared.Taker.{Taker}
-use Rattle.cart.specs.declared.Taker.the-variants.{Bank, Flip, Ram}
-use Rattle.cart.specs.Cells.{cellAt, lies}
+use Rattle.cart.specs.declared.Taker.the-variants.{Accelerators, Bank, Flip, Ram}
+use Rattle.cart.specs.Cells.{cellAt, windowCell, lies}
 use Rattle.cart.specs.Readable.{readableIn, recounted}
+
+-- in the accelerators' window a write is their RAM's, or one to their registers
+abbrev pub windowTaker : Console → Taker
+windowTaker at = cond (inRam at) (Ram (windowCell at)) Accelerators
+
+-- a write that the accelerators take goes to their window; any other is the next taker's
+abbrev pub jlpTaker : Jlp → Console → ℕ → Taker → Taker
+jlpTaker j at v next = cond (takes j at v) (windowTaker at) next
 
 -- a write to the register of a half-page that may be switched is that half-page's, by the value's low 8 bits; any other is the next taker's
 abbrev pub bankTaker : List ℕ → Register → ℕ → Taker → Taker
@@ -26,9 +37,13 @@ abbrev pub flipTaker : List ℕ → Request → Taker → Taker
 flipTaker flips (Entry n) next = cond (acts flips n) (Flip n) next
 flipTaker flips Nothing next = next
 
--- who takes a write, by the active tables and the flip table: the first that it asks, else the word that the address reaches
-abbrev pub takerOf : Active → List ℕ → Console → ℕ → Taker
-takerOf a flips at v = bankTaker (a .permissions) (registerAt at) v (flipTaker flips (asks at v) (Ram (cellAt a at)))
+-- who takes a write by the active tables and the flip table: the first that it asks, else the word that the address reaches
+abbrev pub mappedTaker : Active → List ℕ → Console → ℕ → Taker
+mappedTaker a flips at v = bankTaker (a .permissions) (registerAt at) v (flipTaker flips (asks at v) (Ram (cellAt a at)))
+
+-- who takes a write: before all others the accelerators
+abbrev pub takerOf : Jlp → Active → List ℕ → Console → ℕ → Taker
+takerOf j a flips at v = jlpTaker j at v (mappedTaker a flips at v)
 
 -- the word that a store leaves: NARROW replaces the low 8 bits only
 abbrev pub storedWord : Bool → ℕ → ℕ → ℕ
@@ -41,39 +56,43 @@ stored c ram v =
     (set ram (c .location .0) (storedWord (c .rights .narrow) (getD ram (c .location .0) 0) v))
     ram
 
--- what each taker leaves of the active tables, by the flip table, and of the RAM: a write that switches or flips stores nothing
+-- what each taker leaves of the active tables, by the flip table, and of the RAM: only the RAM stores
 abbrev pub leftBy : Taker → Active → List ℕ → Active
+leftBy Accelerators a flips = a
 leftBy (Bank p first) a flips = bankswitched p first a
 leftBy (Flip n) a flips = flipped flips n a
 leftBy (Ram c) a flips = a
 
 abbrev pub ramBy : Taker → List ℕ → ℕ → List ℕ
+ramBy Accelerators ram v = ram
 ramBy (Bank p first) ram v = ram
 ramBy (Flip n) ram v = ram
 ramBy (Ram c) ram v = stored c ram v
 
 -- how many active mapping entries each taker assigns, whatever they held before (02, W-212)
 abbrev pub assignedBy : Taker → ℕ
+assignedBy Accelerators = 0
 assignedBy (Bank p first) = halfPageParagraphs
 assignedBy (Flip n) = flipSize n
 assignedBy (Ram c) = 0
 
 -- what each taker leaves of the number of readable paragraphs that is kept: only a flip changes it (02, W-211)
 abbrev pub readableBy : Taker → Active → List ℕ → ℕ → ℕ
+readableBy Accelerators a flips kept = kept
 readableBy (Bank p first) a flips kept = kept
 readableBy (Flip n) a flips kept =
     recounted kept (readableIn (a .permissions) (flipFrom n) (flipSize n)) (readableIn (flipped flips n a .permissions) (flipFrom n) (flipSize n))
 readableBy (Ram c) a flips kept = kept
 
 -- what a write leaves, and how many active mapping entries it assigned
-unfoldable pub leaves : Active → List ℕ → Console → ℕ → Active
-leaves a flips at v = leftBy (takerOf a flips at v) a flips
+unfoldable pub leaves : Jlp → Active → List ℕ → Console → ℕ → Active
+leaves j a flips at v = leftBy (takerOf j a flips at v) a flips
 
-unfoldable pub leavesRam : Active → List ℕ → List ℕ → Console → ℕ → List ℕ
-leavesRam a flips ram at v = ramBy (takerOf a flips at v) ram v
+unfoldable pub leavesRam : Jlp → Active → List ℕ → List ℕ → Console → ℕ → List ℕ
+leavesRam j a flips ram at v = ramBy (takerOf j a flips at v) ram v
 
-unfoldable pub assigned : Active → List ℕ → Console → ℕ → ℕ
-assigned a flips at v = assignedBy (takerOf a flips at v)
+unfoldable pub assigned : Jlp → Active → List ℕ → Console → ℕ → ℕ
+assigned j a flips at v = assignedBy (takerOf j a flips at v)
 
-unfoldable pub leavesReadable : Active → List ℕ → ℕ → Console → ℕ → ℕ
-leavesReadable a flips kept at v = readableBy (takerOf a flips at v) a flips kept
+unfoldable pub leavesReadable : Jlp → Active → List ℕ → ℕ → Console → ℕ → ℕ
+leavesReadable j a flips kept at v = readableBy (takerOf j a flips at v) a flips kept

@@ -1,4 +1,4 @@
-// The cartridge that answers the console: reads, writes and resets over lent RAM (01, "The machine").
+// The cartridge that answers the console: reads, writes and resets over lent RAM (01, "The machine"; 02, W-206).
 ghost use mathlib.Core.Path.{_≡_};
 ghost use Prim.Native.Nat.{_+_, _%_, _≤_};
 ghost use Rattle.places.specs.Limits.{paragraphs};
@@ -6,11 +6,13 @@ ghost use Rattle.switches.specs.Flips.{active, asks, flipFrom, flipSize, flippe
 ghost use Rattle.switches.specs.Banks.{registerAt};
 ghost use Rattle.cart.specs.declared.Taker.the-variants.{Ram};
 ghost use Rattle.cart.specs.Code.Takers.{bankedOnly, actingOnly};
-ghost use Rattle.cart.specs.Cells.{locate, rightsOf, cellAt};
+ghost use Rattle.cart.specs.Cells.{locate, rightsOf, cellAt, windowCell};
 ghost use Rattle.cart.specs.Readable.{readableIn, readableOf, recounted};
-ghost use Rattle.cart.specs.Reads.{fetched, sourceOf, readBy};
-ghost use Rattle.cart.specs.Writes.{storedWord, stored, flipTaker, takerOf, leftBy, assignedBy, readableBy, leaves, leavesRam, assigned, leavesReadable};
+ghost use Rattle.cart.specs.Reads.{fetched, registerSource, windowSource, mappedSource, sourceOf, readBy};
+ghost use Rattle.cart.specs.Writes.{storedWord, stored, flipTaker, mappedTaker, windowTaker, takerOf, leftBy, assignedBy, readableBy, leaves, leavesRam, assigned, leavesReadable};
 ghost use Rattle.cart.specs.Cartridges.{assembled, fresh, withActive, readOf, writtenOf, writeRamOf, resetOf};
+use jlp::Heard;
+use jlp::Jlp;
 use places::Console;
 use places::FLIP_ENTRIES;
 use places::LENT_LIMIT;
@@ -20,7 +22,7 @@ use places::PARAGRAPHS;
 use switches::Register;
 use switches::Request;
 
-// The tables as loaded, the tables as they act now, the flip table, and how many paragraphs can be read now.
+// The tables as loaded, the tables as they act now, the flip table, how many paragraphs can be read now, and the accelerators.
 pub struct Cartridge {
     pub initial_mapping: [u16; PARAGRAPHS],
     pub initial_permissions: [u8; PARAGRAPHS],
@@ -28,6 +30,7 @@ pub struct Cartridge {
     pub permissions: [u8; PARAGRAPHS],
     pub flips: [u16; FLIP_ENTRIES],
     pub readable: u16,
+    pub jlp: Jlp,
 }
 
 // What a write leaves of the cartridge, and how many active mapping entries it assigned.
@@ -49,9 +52,10 @@ pub struct Cell {
     pub rights: Rights,
 }
 
-// Who answers a read: nobody, or a word of the RAM.
+// Who answers a read: nobody, a register that holds this word, or a word of the RAM.
 pub enum Source {
     Nobody,
+    Latched(u16),
     Ram(Cell),
 }
 
@@ -61,9 +65,10 @@ pub enum Answer {
     Silence,
 }
 
-// Who takes a write: the half-page with this first paragraph, which is switched to this paragraph number; the flip entry of this
+// Who takes a write: the accelerators' registers; the half-page with this first paragraph, which is switched to this paragraph number; the flip entry of this
 // number; or a word of the RAM.
 pub enum Taker {
+    Accelerators,
     Bank(u8, u8),
     Flip(u8),
     Ram(Cell),
@@ -120,13 +125,42 @@ fn cell_at<'a>(
     }
 }
 
-// Who answers a read: nobody in the three silent ranges, else the word that the address reaches.
-fn source_of<'a>(
+// The word of JLP RAM at an address of the accelerators' window.
+fn window_cell(at: Console) -> Cell
+    ensures { λ r. ⌜ r ≡ windowCell at ⌝ }
+{
+    let location = jlp::location(at);
+    let rights = allowing(false, true, true);
+    Cell { location, rights }
+}
+
+// A register's word, or nobody.
+fn register_source(heard: Heard) -> Source
+    ensures { λ r. ⌜ r ≡ registerSource heard ⌝ }
+{
+    match heard {
+        Heard::Word(w) => Source::Latched(w),
+        Heard::Silence => Source::Nobody,
+    }
+}
+
+// In the accelerators' window: their RAM, or a register that answers, or nobody.
+fn window_source(j: Jlp, at: Console) -> Source
+    ensures { λ r. ⌜ r ≡ windowSource j at ⌝ }
+{
+    if jlp::in_ram(at) {
+        return Source::Ram(window_cell(at));
+    }
+    register_source(jlp::read(j, at))
+}
+
+// By the tables: nobody in the three silent ranges, else the word that the address reaches.
+fn mapped_source<'a>(
     mapping: &'a [u16; PARAGRAPHS],
     permissions: &'a [u8; PARAGRAPHS],
     at: Console,
 ) -> Source
-    ensures { λ r. ⌜ r ≡ sourceOf (active (now (mapping .entry)) (now (permissions .entry))) at ⌝ }
+    ensures { λ r. ⌜ r ≡ mappedSource (active (now (mapping .entry)) (now (permissions .entry))) at ⌝ }
 {
     let a = at.0;
     if a < 0x500 {
@@ -139,6 +173,24 @@ fn source_of<'a>(
         return Source::Nobody;
     }
     Source::Ram(cell_at(mapping, permissions, at))
+}
+
+// Who answers a read: in their window the accelerators, while they are on.
+fn source_of<'a>(
+    mapping: &'a [u16; PARAGRAPHS],
+    permissions: &'a [u8; PARAGRAPHS],
+    j: Jlp,
+    at: Console,
+) -> Source
+    ensures { λ r. ⌜ r ≡ sourceOf j (active (now (mapping .entry)) (now (permissions .entry))) at ⌝ }
+{
+    if !j.on {
+        return mapped_source(mapping, permissions, at);
+    }
+    if !jlp::in_window(at) {
+        return mapped_source(mapping, permissions, at);
+    }
+    window_source(j, at)
 }
 
 // The word of a cell that may be read and lies in the lent RAM.
@@ -155,17 +207,19 @@ fn fetch(cell: Cell, ram: &[u16]) -> Answer
     Answer::Word(ram[i])
 }
 
-// A read by the active tables alone, lent: nothing of the cartridge is copied.
+// A read by the active tables, lent, and the accelerators: no table of the cartridge is copied.
 pub fn read_by<'a>(
     mapping: &'a [u16; PARAGRAPHS],
     permissions: &'a [u8; PARAGRAPHS],
+    j: Jlp,
     ram: &[u16],
     at: Console,
 ) -> Answer
-    ensures { λ r. ⌜ r ≡ readBy (active (now (mapping .entry)) (now (permissions .entry))) (now (ram .entry)) at ⌝ }
+    ensures { λ r. ⌜ r ≡ readBy j (active (now (mapping .entry)) (now (permissions .entry))) (now (ram .entry)) at ⌝ }
 {
-    match source_of(mapping, permissions, at) {
+    match source_of(mapping, permissions, j, at) {
         Source::Nobody => Answer::Silence,
+        Source::Latched(w) => Answer::Word(w),
         Source::Ram(cell) => fetch(cell, ram),
     }
 }
@@ -173,7 +227,8 @@ pub fn read_by<'a>(
 pub fn read(c: Cartridge, ram: &[u16], at: Console) -> Answer
     ensures { λ r. ⌜ r ≡ readOf c (now (ram .entry)) at ⌝ }
 {
-    read_by(&c.mapping, &c.permissions, ram, at)
+    let j = c.jlp;
+    read_by(&c.mapping, &c.permissions, j, ram, at)
 }
 
 // The half-page whose register an address is, where it may be switched.
@@ -222,20 +277,47 @@ fn unbanked_taker<'a>(
     }
 }
 
-// Who takes a write: the first that it asks, else the word that the address reaches.
-fn taker_of<'a>(
+// By the tables: the first that a write asks, else the word that the address reaches.
+fn mapped_taker<'a>(
     mapping: &'a [u16; PARAGRAPHS],
     permissions: &'a [u8; PARAGRAPHS],
     flips: &'a [u16; FLIP_ENTRIES],
     at: Console,
     value: u16,
 ) -> Taker
-    ensures { λ t. ⌜ t ≡ takerOf (active (now (mapping .entry)) (now (permissions .entry))) (now (flips .entry)) at value ⌝ }
+    ensures { λ t. ⌜ t ≡ mappedTaker (active (now (mapping .entry)) (now (permissions .entry))) (now (flips .entry)) at value ⌝ }
 {
     match bank_of(permissions, at) {
         Register::HalfPage(p) => Taker::Bank(p, (value % 256) as u8),
         Register::Elsewhere => unbanked_taker(mapping, permissions, flips, at, value),
     }
+}
+
+// In the accelerators' window: their RAM, or their registers.
+fn window_taker(at: Console) -> Taker
+    ensures { λ t. ⌜ t ≡ windowTaker at ⌝ }
+{
+    if jlp::in_ram(at) {
+        return Taker::Ram(window_cell(at));
+    }
+    Taker::Accelerators
+}
+
+// Who takes a write: before all others the accelerators.
+fn taker_of<'a>(
+    mapping: &'a [u16; PARAGRAPHS],
+    permissions: &'a [u8; PARAGRAPHS],
+    flips: &'a [u16; FLIP_ENTRIES],
+    j: Jlp,
+    at: Console,
+    value: u16,
+) -> Taker
+    ensures { λ t. ⌜ t ≡ takerOf j (active (now (mapping .entry)) (now (permissions .entry))) (now (flips .entry)) at value ⌝ }
+{
+    if jlp::takes(j, at, value) {
+        return window_taker(at);
+    }
+    mapped_taker(mapping, permissions, flips, at, value)
 }
 
 // The word that a store leaves: a narrow one replaces the low 8 bits only.
@@ -325,7 +407,7 @@ fn flip_counted(
     assigned
 }
 
-// What a taker that is no word of the RAM leaves of the lent tables and of the number: apart, so that the way of a store stays short.
+// What a taker leaves of the lent tables and of the number, and answers: apart, so that the way of a store stays short.
 fn shift<'a>(
     mapping: &'a mut [u16; PARAGRAPHS],
     permissions: &'a mut [u8; PARAGRAPHS],
@@ -339,30 +421,37 @@ fn shift<'a>(
         × (now (permissions .exit) ≡ leftBy t (active (now (mapping .entry)) (now (permissions .entry))) (now (flips .entry)) .permissions) ⌝ }
 {
     match t {
+        Taker::Accelerators => 0,
         Taker::Bank(p, first) => switches::bankswitch(mapping, p, first),
         Taker::Flip(n) => flip_counted(mapping, permissions, flips, readable, n),
         Taker::Ram(cell) => 0,
     }
 }
 
-// A write by the active tables, the flip table and the number of readable paragraphs, all lent: nothing of the cartridge is copied. It
-// answers how many entries of the mapping it has assigned.
+// A write by the active tables, the flip table and the number of readable paragraphs, all lent, and the accelerators as they are before it:
+// no table of the cartridge is copied.
 pub fn write_by<'a>(
     mapping: &'a mut [u16; PARAGRAPHS],
     permissions: &'a mut [u8; PARAGRAPHS],
     flips: &'a [u16; FLIP_ENTRIES],
     readable: &'a mut u16,
+    j: Jlp,
     ram: &mut [u16],
     at: Console,
     value: u16,
 ) -> u8
-    ensures { λ r. ⌜ (r ≡ assigned (active (now (mapping .entry)) (now (permissions .entry))) (now (flips .entry)) at value)
-        × (now (readable .exit) ≡ leavesReadable (active (now (mapping .entry)) (now (permissions .entry))) (now (flips .entry)) (now (readable .entry)) at value)
-        × (now (mapping .exit) ≡ leaves (active (now (mapping .entry)) (now (permissions .entry))) (now (flips .entry)) at value .mapping)
-        × (now (permissions .exit) ≡ leaves (active (now (mapping .entry)) (now (permissions .entry))) (now (flips .entry)) at value .permissions)
-        × (now (ram .exit) ≡ leavesRam (active (now (mapping .entry)) (now (permissions .entry))) (now (flips .entry)) (now (ram .entry)) at value) ⌝ }
+    ensures { λ r. ⌜ (r ≡ assigned j (active (now (mapping .entry)) (now (permissions .entry))) (now (flips .entry)) at value)
+        × (now (readable .exit) ≡ leavesReadable j (active (now (mapping .entry)) (now (permissions .entry))) (now (flips .entry)) (now (readable .entry)) at value)
+        × (now (mapping .exit) ≡ leaves j (active (now (mapping .entry)) (now (permissions .entry))) (now (flips .entry)) at value .mapping)
+        × (now (permissions .exit) ≡ leaves j (active (now (mapping .entry)) (now (permissions .entry))) (now (flips .entry)) at value .permissions)
+        × (now (ram .exit) ≡ leavesRam j (active (now (mapping .entry)) (now (permissions .entry))) (now (flips .entry)) (now (ram .entry)) at value) ⌝ }
 {
-    match taker_of(mapping, permissions, flips, at, value) {
+    match taker_of(mapping, permissions, flips, j, at, value) {
+        Taker::Ram(cell) => {
+            store(cell, ram, value);
+            0
+        }
+        Taker::Accelerators => 0,
         Taker::Bank(p, first) => shift(
             mapping,
             permissions,
@@ -371,14 +460,10 @@ pub fn write_by<'a>(
             Taker::Bank(p, first),
         ),
         Taker::Flip(n) => shift(mapping, permissions, flips, readable, Taker::Flip(n)),
-        Taker::Ram(cell) => {
-            store(cell, ram, value);
-            0
-        }
     }
 }
 
-// A cartridge of these tables, that keeps this number of readable paragraphs: every cartridge is made here.
+// A cartridge of these tables, that keeps this number of readable paragraphs and these accelerators: every cartridge is made here.
 fn assembled(
     initial_mapping: [u16; PARAGRAPHS],
     initial_permissions: [u8; PARAGRAPHS],
@@ -386,8 +471,9 @@ fn assembled(
     permissions: [u8; PARAGRAPHS],
     flips: [u16; FLIP_ENTRIES],
     readable: u16,
+    j: Jlp,
 ) -> Cartridge
-    ensures { λ r. ⌜ r ≡ assembled (active «initial_mapping» «initial_permissions») (active mapping permissions) flips readable ⌝ }
+    ensures { λ r. ⌜ r ≡ assembled (active «initial_mapping» «initial_permissions») (active mapping permissions) flips readable j ⌝ }
 {
     Cartridge {
         initial_mapping,
@@ -396,29 +482,41 @@ fn assembled(
         permissions,
         flips,
         readable,
+        jlp: j,
     }
 }
 
-// A cartridge as loaded: the active tables are the initial ones.
+// A cartridge as loaded with this JLP field: the active tables are the initial ones.
 pub fn fresh(
+    field: u8,
     mapping: [u16; PARAGRAPHS],
     permissions: [u8; PARAGRAPHS],
     flips: [u16; FLIP_ENTRIES],
 ) -> Cartridge
-    ensures { λ r. ⌜ r ≡ fresh mapping permissions flips ⌝ }
+    ensures { λ r. ⌜ r ≡ fresh field mapping permissions flips ⌝ }
 {
     let readable = readable_of(&permissions);
-    assembled(mapping, permissions, mapping, permissions, flips, readable)
+    let j = jlp::fresh(field);
+    assembled(
+        mapping,
+        permissions,
+        mapping,
+        permissions,
+        flips,
+        readable,
+        j,
+    )
 }
 
-// The cartridge with other active tables, and this number of readable paragraphs.
+// The cartridge with other active tables, this number of readable paragraphs, and these accelerators.
 fn with_active(
     c: Cartridge,
     mapping: [u16; PARAGRAPHS],
     permissions: [u8; PARAGRAPHS],
     readable: u16,
+    j: Jlp,
 ) -> Cartridge
-    ensures { λ r. ⌜ r ≡ withActive c (active mapping permissions) readable ⌝ }
+    ensures { λ r. ⌜ r ≡ withActive c (active mapping permissions) readable j ⌝ }
 {
     let initial_mapping = c.initial_mapping;
     let initial_permissions = c.initial_permissions;
@@ -430,6 +528,7 @@ fn with_active(
         permissions,
         flips,
         readable,
+        j,
     )
 }
 
@@ -439,9 +538,11 @@ pub fn write(c: Cartridge, ram: &mut [u16], at: Console, value: u16) -> Written
     let mut m = c.mapping;
     let mut p = c.permissions;
     let mut readable = c.readable;
-    let assigned = write_by(&mut m, &mut p, &c.flips, &mut readable, ram, at, value);
+    let j = c.jlp;
+    let assigned = write_by(&mut m, &mut p, &c.flips, &mut readable, j, ram, at, value);
+    let k = jlp::write(j, at, value);
     Written {
-        cartridge: with_active(c, m, p, readable),
+        cartridge: with_active(c, m, p, readable, k),
         assigned,
     }
 }
@@ -452,5 +553,6 @@ pub fn reset(c: Cartridge) -> Cartridge
     let m = c.initial_mapping;
     let p = c.initial_permissions;
     let readable = readable_of(&p);
-    with_active(c, m, p, readable)
+    let j = c.jlp;
+    with_active(c, m, p, readable, jlp::reset(j))
 }

@@ -33,10 +33,10 @@ one-build κs a y z e f p q = same (p .0) (q .0)
 pub one-build-out : OneLent luigi-build.Learnt (λ κs e. now (e .1 .1 .0))
 one-build-out κs a y z e f p q = same (p .1) (q .1)
 
-pub one-reads : OneLent luigi-reads.Learnt (λ κs e. now (e .1 .1 .1 .1 .0))
+pub one-reads : OneLent luigi-reads.Learnt (λ κs e. now (e .1 .1 .1 .1 .1 .0))
 one-reads κs a y z e f = same
 
-pub one-reads-by-value : OneLent luigi-reads-by-value.Learnt (λ κs e. now (e .1 .1 .1 .1 .1 .0))
+pub one-reads-by-value : OneLent luigi-reads-by-value.Learnt (λ κs e. now (e .1 .1 .1 .1 .1 .1 .0))
 one-reads-by-value κs a y z e f = same
 
 pub one-writes-readable : OneLent luigi-writes.Learnt (λ κs e. now (e .1 .1 .1 .0))
@@ -48,14 +48,17 @@ one-writes-mapping κs a y z e f p q = same (p .1) (q .1)
 pub one-writes-permissions : OneLent luigi-writes.Learnt (λ κs e. now (e .1 .0))
 one-writes-permissions κs a y z e f p q = same (p .2) (q .2)
 
-pub one-writes-ram : OneLent luigi-writes.Learnt (λ κs e. now (e .1 .1 .1 .1 .0))
-one-writes-ram κs a y z e f p q = same (p .3) (q .3)
+pub one-writes-accelerators : OneLent luigi-writes.Learnt (λ κs e. now (e .1 .1 .1 .1 .0))
+one-writes-accelerators κs a y z e f p q = same (p .3) (q .3)
 
-pub one-writes-assigned : OneLent luigi-writes.Learnt (λ κs e. now (e .1 .1 .1 .1 .1 .1 .1 .0))
-one-writes-assigned κs a y z e f p q = same (p .4) (q .4)
+pub one-writes-ram : OneLent luigi-writes.Learnt (λ κs e. now (e .1 .1 .1 .1 .1 .0))
+one-writes-ram κs a y z e f p q = same (p .4) (q .4)
+
+pub one-writes-assigned : OneLent luigi-writes.Learnt (λ κs e. now (e .1 .1 .1 .1 .1 .1 .1 .1 .0))
+one-writes-assigned κs a y z e f p q = same (p .5) (q .5)
 
 pub one-writes-by-value : OneAnswer luigi-writes-by-value.Learnt
 one-writes-by-value κs a y z e f p q = same (p .0) (q .0)
 
-pub one-writes-by-value-ram : OneLent luigi-writes-by-value.Learnt (λ κs e. now (e .1 .1 .1 .0))
+pub one-writes-by-value-ram : OneLent luigi-writes-by-value.Learnt (λ κs e. now (e .1 .1 .1 .1 .0))
 one-writes-by-value-ram κs a y z e f p q = same (p .1) (q .1)

@@ -1,3 +1,4 @@
+pub mod Accelerators
 pub mod Loads
 pub mod Builds
 pub mod Runs

@@ -5,6 +5,7 @@ use Rattle.header.specs.declared.Compat.{Compat}
 use Rattle.header.specs.Flags.{numberOf}
 use Rattle.load.specs.declared.Loading.{Loading}
 use Rattle.exports.specs.declared.Loaded.{Loaded}
+use Rattle.exports.specs.Accelerators.{wordsOf}
 
 -- the compatibility fields in 01's order; C has numbers only, and 4 is TutorVision's "not stated"
 abbrev pub fieldsOf : Compat → List ℕ
@@ -22,4 +23,5 @@ loadedOf l =
       permissions = l .cartridge .permissions;
       flips = l .cartridge .flips;
       readable = l .cartridge .readable;
+      accelerators = wordsOf (l .cartridge .jlp);
     }

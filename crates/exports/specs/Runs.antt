@@ -6,6 +6,7 @@ use Rattle.basics.specs.Lists.{laid}
 use Rattle.places.specs.declared.Console.{Console}
 use Rattle.places.specs.Places.{console}
 use Rattle.switches.specs.Flips.{active}
+use Rattle.jlp.specs.declared.Jlp.{Jlp}
 use Rattle.cart.specs.declared.Cartridge.{Cartridge}
 use Rattle.cart.specs.declared.Answer.{Answer}
 use Rattle.cart.specs.declared.Answer.the-variants.{Word, Silence}
@@ -14,14 +15,15 @@ use Rattle.cart.specs.Writes.{assigned}
 use Rattle.cart.specs.Cartridges.{assembled, activeOf}
 use Rattle.cart.specs.Run.{Access, Write, World, after}
 use Rattle.exports.specs.declared.Active.{Active}
+use Rattle.exports.specs.Accelerators.{wordsOf}
 
--- the tables that act, and how many paragraphs can be read
+-- the tables that act, how many paragraphs can be read, and the accelerators
 abbrev pub activeAs : Cartridge → Active
-activeAs c = record { mapping = c .mapping; permissions = c .permissions; readable = c .readable }
+activeAs c = record { mapping = c .mapping; permissions = c .permissions; readable = c .readable; accelerators = wordsOf (c .jlp) }
 
--- a cartridge of lent tables, that keeps this number of readable paragraphs
-abbrev pub carried : List ℕ → List ℕ → List ℕ → ℕ → Cartridge
-carried mapping permissions flips readable = assembled (active mapping permissions) (active mapping permissions) flips readable
+-- a cartridge of lent tables, that keeps this number of readable paragraphs and these accelerators
+abbrev pub carried : List ℕ → List ℕ → List ℕ → ℕ → Jlp → Cartridge
+carried mapping permissions flips readable j = assembled (active mapping permissions) (active mapping permissions) flips readable j
 
 -- an answer as one number: a word as it is, silence above every word
 abbrev pub heard : Answer → ℕ
@@ -32,12 +34,12 @@ abbrev pub address : List ℕ → ℕ → Console
 address at i = console (getD at i 0)
 
 -- the answers to reads at the first n addresses, laid over the first n words of a buffer
-unfoldable pub answered : List ℕ → List ℕ → List ℕ → List ℕ → ℕ → List ℕ → List ℕ
-answered mapping permissions ram at n out = laid 0 n (λ i. heard (readBy (active mapping permissions) ram (address at i))) out
+unfoldable pub answered : Jlp → List ℕ → List ℕ → List ℕ → List ℕ → ℕ → List ℕ → List ℕ
+answered j mapping permissions ram at n out = laid 0 n (λ i. heard (readBy j (active mapping permissions) ram (address at i))) out
 
 -- as many answers as there are both addresses and places for them
-abbrev pub answersIn : List ℕ → List ℕ → List ℕ → List ℕ → List ℕ → List ℕ
-answersIn mapping permissions ram at out = answered mapping permissions ram at (min (length at) (length out)) out
+abbrev pub answersIn : Jlp → List ℕ → List ℕ → List ℕ → List ℕ → List ℕ → List ℕ
+answersIn j mapping permissions ram at out = answered j mapping permissions ram at (min (length at) (length out)) out
 
 -- the first n writes
 unfoldable pub writes : List ℕ → List ℕ → ℕ → List Access
@@ -51,7 +53,7 @@ written c ram at v n = after (record { cartridge = c; ram = ram }) (writes at v 
 -- so many active mapping entries write i assigns, after those before it
 abbrev pub assignedAt : Cartridge → List ℕ → List ℕ → List ℕ → ℕ → ℕ
 assignedAt c ram at v i =
-    assigned (activeOf (written c ram at v i .cartridge)) (written c ram at v i .cartridge .flips) (address at i) (getD v i 0)
+    assigned (written c ram at v i .cartridge .jlp) (activeOf (written c ram at v i .cartridge)) (written c ram at v i .cartridge .flips) (address at i) (getD v i 0)
 
 -- those numbers of the first n writes, laid over the first n bytes of a buffer
 unfoldable pub numbered : Cartridge → List ℕ → List ℕ → List ℕ → ℕ → List ℕ → List ℕ

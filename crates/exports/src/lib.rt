@@ -4,9 +4,11 @@ ghost use mathlib.Core.Path.{_≡_};
 ghost use lib.ListN.{length};
 ghost use Rattle.places.specs.Limits.{lent};
 ghost use Rattle.sums.specs.Crc.{dowcrcOf, crc324Of, crc32Of};
+ghost use Rattle.jlp.specs.Accelerators.{freshJlp};
 ghost use Rattle.cart.specs.Cartridges.{fresh};
 ghost use Rattle.load.specs.Load.{loadingOf, loadRamOf};
 ghost use Rattle.build.specs.Building.{buildingOf, builtOf};
+ghost use Rattle.exports.specs.Accelerators.{oneIf, wordsOf, jlpFrom};
 ghost use Rattle.exports.specs.Loads.{fieldsOf, loadedOf};
 ghost use Rattle.exports.specs.Builds.{builtAs};
 ghost use Rattle.exports.specs.Runs.{activeAs, heard, answersIn, carried, numbered, numberedWrites, activeAfter, ramAfter};
@@ -14,6 +16,8 @@ use build::Building;
 use cart::Answer;
 use cart::Cartridge;
 use header::Compat;
+use jlp::Jlp;
+use jlp::Results;
 use load::Loading;
 use places::Console;
 use places::FLIP_ENTRIES;
@@ -41,6 +45,77 @@ pub extern "C" fn luigi_crc32(s: &[u8]) -> u32
     sums::crc32(s)
 }
 
+// As many words hold the accelerators where C lends them: the JLP field, 1 for on, the operands, the two results, the CRC.
+pub const ACCELERATOR_WORDS: usize = 17;
+
+fn one_if(b: bool) -> u16
+    ensures { λ r. ⌜ r ≡ oneIf b ⌝ }
+{
+    if b {
+        return 1;
+    }
+    0
+}
+
+fn words_of(j: Jlp) -> [u16; ACCELERATOR_WORDS]
+    ensures { λ r. ⌜ r ≡ wordsOf j ⌝ }
+{
+    let o = j.operands;
+    let results = j.results;
+    let field = j.field as u16;
+    let on = one_if(j.on);
+    [
+        field,
+        on,
+        o[0],
+        o[1],
+        o[2],
+        o[3],
+        o[4],
+        o[5],
+        o[6],
+        o[7],
+        o[8],
+        o[9],
+        o[10],
+        o[11],
+        results.first,
+        results.second,
+        j.crc,
+    ]
+}
+
+// Any words are some accelerators, on for every word but 0.
+fn jlp_from(w: &[u16; ACCELERATOR_WORDS]) -> Jlp
+    ensures { λ r. ⌜ r ≡ jlpFrom (now (w .entry)) ⌝ }
+{
+    let operands = [
+        w[2],
+        w[3],
+        w[4],
+        w[5],
+        w[6],
+        w[7],
+        w[8],
+        w[9],
+        w[10],
+        w[11],
+        w[12],
+        w[13],
+    ];
+    let results = Results {
+        first: w[14],
+        second: w[15],
+    };
+    Jlp {
+        field: (w[0] % 256) as u8,
+        on: w[1] != 0,
+        operands,
+        results,
+        crc: w[16],
+    }
+}
+
 // What a load answers, laid out as C's; the compatibility fields in 01's order, the last of them 4 where nothing is stated.
 #[repr(C)]
 pub struct Loaded {
@@ -53,6 +128,7 @@ pub struct Loaded {
     pub permissions: [u8; PARAGRAPHS],
     pub flips: [u16; FLIP_ENTRIES],
     pub readable: u16,
+    pub accelerators: [u16; ACCELERATOR_WORDS],
 }
 
 fn compat_of(c: Compat) -> [u8; 5]
@@ -76,6 +152,7 @@ fn answered(l: Loading) -> Loaded
     let mapping = cartridge.mapping;
     let permissions = cartridge.permissions;
     let flips = cartridge.flips;
+    let accelerators = words_of(cartridge.jlp);
     let r = l.refusal;
     Loaded {
         number: r.number,
@@ -87,6 +164,7 @@ fn answered(l: Loading) -> Loaded
         permissions,
         flips,
         readable: cartridge.readable,
+        accelerators,
     }
 }
 
@@ -127,26 +205,28 @@ pub extern "C" fn luigi_build(bin: &[u8], cfg: &[u8], out: &mut [u8]) -> Built
     built_as(build::build(bin, cfg, out))
 }
 
-// The active tables and how many paragraphs can be read, laid out as C's.
+// The active tables, how many paragraphs can be read, and the accelerators, laid out as C's.
 #[repr(C)]
 pub struct Active {
     pub mapping: [u16; PARAGRAPHS],
     pub permissions: [u8; PARAGRAPHS],
     pub readable: u16,
+    pub accelerators: [u16; ACCELERATOR_WORDS],
 }
 
-// A cartridge as it is loaded with these tables.
+// A cartridge as it is loaded with this JLP field and these tables.
 fn fresh<'a>(
+    field: u8,
     mapping: &'a [u16; PARAGRAPHS],
     permissions: &'a [u8; PARAGRAPHS],
     flips: &'a [u16; FLIP_ENTRIES],
 ) -> Cartridge
-    ensures { λ r. ⌜ r ≡ fresh (now (mapping .entry)) (now (permissions .entry)) (now (flips .entry)) ⌝ }
+    ensures { λ r. ⌜ r ≡ fresh field (now (mapping .entry)) (now (permissions .entry)) (now (flips .entry)) ⌝ }
 {
     let m = *mapping;
     let p = *permissions;
     let f = *flips;
-    cart::fresh(m, p, f)
+    cart::fresh(field, m, p, f)
 }
 
 fn active_as(c: Cartridge) -> Active
@@ -154,10 +234,12 @@ fn active_as(c: Cartridge) -> Active
 {
     let mapping = c.mapping;
     let permissions = c.permissions;
+    let accelerators = words_of(c.jlp);
     Active {
         mapping,
         permissions,
         readable: c.readable,
+        accelerators,
     }
 }
 
@@ -171,35 +253,38 @@ fn heard_as(a: Answer) -> u32
     }
 }
 
-// Reads at the addresses of `at`, one after the other, by these tables; the answers go to the first words of `out`.
+// Reads at the addresses of `at`, one after the other, by these tables and accelerators; the answers go to the first words of `out`.
 #[no_mangle]
 pub extern "C" fn luigi_reads<'a>(
     mapping: &'a [u16; PARAGRAPHS],
     permissions: &'a [u8; PARAGRAPHS],
+    accelerators: &'a [u16; ACCELERATOR_WORDS],
     ram: &[u16],
     at: &[u16],
     out: &mut [u32],
 )
-    ensures { λ _. ⌜ now (out .exit) ≡ answersIn (now (mapping .entry)) (now (permissions .entry)) (now (ram .entry)) (now (at .entry)) (now (out .entry)) ⌝ }
+    ensures { λ _. ⌜ now (out .exit) ≡ answersIn (jlpFrom (now (accelerators .entry))) (now (mapping .entry)) (now (permissions .entry)) (now (ram .entry)) (now (at .entry)) (now (out .entry)) ⌝ }
 {
+    let j = jlp_from(accelerators);
     for i in 0..basics::least(at.len(), out.len()) {
-        out[i] = heard_as(cart::read_by(mapping, permissions, ram, Console(at[i])));
+        out[i] = heard_as(cart::read_by(mapping, permissions, j, ram, Console(at[i])));
     }
 }
 
-// The same, with the cartridge by value at each read.
+// The same, with the cartridge by value at each read, as it is loaded with this JLP field.
 #[no_mangle]
 pub extern "C" fn luigi_reads_by_value<'a>(
     mapping: &'a [u16; PARAGRAPHS],
     permissions: &'a [u8; PARAGRAPHS],
     flips: &'a [u16; FLIP_ENTRIES],
+    field: u8,
     ram: &[u16],
     at: &[u16],
     out: &mut [u32],
 )
-    ensures { λ _. ⌜ now (out .exit) ≡ answersIn (now (mapping .entry)) (now (permissions .entry)) (now (ram .entry)) (now (at .entry)) (now (out .entry)) ⌝ }
+    ensures { λ _. ⌜ now (out .exit) ≡ answersIn (freshJlp field) (now (mapping .entry)) (now (permissions .entry)) (now (ram .entry)) (now (at .entry)) (now (out .entry)) ⌝ }
 {
-    let c = fresh(mapping, permissions, flips);
+    let c = fresh(field, mapping, permissions, flips);
     for i in 0..basics::least(at.len(), out.len()) {
         out[i] = heard_as(cart::read(c, ram, Console(at[i])));
     }
@@ -211,36 +296,37 @@ fn least_of(a: usize, b: usize, c: usize) -> usize
     basics::least(basics::least(a, b), c)
 }
 
-// Writes of the words of `value` to the addresses of `at`, one after the other, by these tables and the number of paragraphs that can be read;
-// how many mapping entries each has assigned goes to the first bytes of `assigned`.
+// Writes of the words of `value` to the addresses of `at`, one after the other, by these tables, the number of paragraphs that can be read and the
+// accelerators; how many mapping entries each has assigned goes to the first bytes of `assigned`.
 #[no_mangle]
 pub extern "C" fn luigi_writes(
     mapping: &mut [u16; PARAGRAPHS],
     permissions: &mut [u8; PARAGRAPHS],
     flips: &[u16; FLIP_ENTRIES],
     readable: &mut u16,
+    accelerators: &mut [u16; ACCELERATOR_WORDS],
     ram: &mut [u16],
     at: &[u16],
     value: &[u16],
     assigned: &mut [u8],
 )
-    ensures { λ _. ⌜ (now (readable .exit) ≡ activeAfter (carried (now (mapping .entry)) (now (permissions .entry)) (now (flips .entry)) (now (readable .entry))) (now (ram .entry)) (now (at .entry)) (now (value .entry)) (numberedWrites (now (at .entry)) (now (value .entry)) (now (assigned .entry))) .readable)
-        × (now (mapping .exit) ≡ activeAfter (carried (now (mapping .entry)) (now (permissions .entry)) (now (flips .entry)) (now (readable .entry))) (now (ram .entry)) (now (at .entry)) (now (value .entry)) (numberedWrites (now (at .entry)) (now (value .entry)) (now (assigned .entry))) .mapping)
-        × (now (permissions .exit) ≡ activeAfter (carried (now (mapping .entry)) (now (permissions .entry)) (now (flips .entry)) (now (readable .entry))) (now (ram .entry)) (now (at .entry)) (now (value .entry)) (numberedWrites (now (at .entry)) (now (value .entry)) (now (assigned .entry))) .permissions)
-        × (now (ram .exit) ≡ ramAfter (carried (now (mapping .entry)) (now (permissions .entry)) (now (flips .entry)) (now (readable .entry))) (now (ram .entry)) (now (at .entry)) (now (value .entry)) (numberedWrites (now (at .entry)) (now (value .entry)) (now (assigned .entry))))
-        × (now (assigned .exit) ≡ numbered (carried (now (mapping .entry)) (now (permissions .entry)) (now (flips .entry)) (now (readable .entry))) (now (ram .entry)) (now (at .entry)) (now (value .entry)) (numberedWrites (now (at .entry)) (now (value .entry)) (now (assigned .entry))) (now (assigned .entry))) ⌝ }
+    ensures { λ _. ⌜ (now (readable .exit) ≡ activeAfter (carried (now (mapping .entry)) (now (permissions .entry)) (now (flips .entry)) (now (readable .entry)) (jlpFrom (now (accelerators .entry)))) (now (ram .entry)) (now (at .entry)) (now (value .entry)) (numberedWrites (now (at .entry)) (now (value .entry)) (now (assigned .entry))) .readable)
+        × (now (mapping .exit) ≡ activeAfter (carried (now (mapping .entry)) (now (permissions .entry)) (now (flips .entry)) (now (readable .entry)) (jlpFrom (now (accelerators .entry)))) (now (ram .entry)) (now (at .entry)) (now (value .entry)) (numberedWrites (now (at .entry)) (now (value .entry)) (now (assigned .entry))) .mapping)
+        × (now (permissions .exit) ≡ activeAfter (carried (now (mapping .entry)) (now (permissions .entry)) (now (flips .entry)) (now (readable .entry)) (jlpFrom (now (accelerators .entry)))) (now (ram .entry)) (now (at .entry)) (now (value .entry)) (numberedWrites (now (at .entry)) (now (value .entry)) (now (assigned .entry))) .permissions)
+        × (now (accelerators .exit) ≡ activeAfter (carried (now (mapping .entry)) (now (permissions .entry)) (now (flips .entry)) (now (readable .entry)) (jlpFrom (now (accelerators .entry)))) (now (ram .entry)) (now (at .entry)) (now (value .entry)) (numberedWrites (now (at .entry)) (now (value .entry)) (now (assigned .entry))) .accelerators)
+        × (now (ram .exit) ≡ ramAfter (carried (now (mapping .entry)) (now (permissions .entry)) (now (flips .entry)) (now (readable .entry)) (jlpFrom (now (accelerators .entry)))) (now (ram .entry)) (now (at .entry)) (now (value .entry)) (numberedWrites (now (at .entry)) (now (value .entry)) (now (assigned .entry))))
+        × (now (assigned .exit) ≡ numbered (carried (now (mapping .entry)) (now (permissions .entry)) (now (flips .entry)) (now (readable .entry)) (jlpFrom (now (accelerators .entry)))) (now (ram .entry)) (now (at .entry)) (now (value .entry)) (numberedWrites (now (at .entry)) (now (value .entry)) (now (assigned .entry))) (now (assigned .entry))) ⌝ }
 {
+    let mut j = jlp_from(accelerators);
     for i in 0..least_of(at.len(), value.len(), assigned.len()) {
-        assigned[i] = cart::write_by(
-            mapping,
-            permissions,
-            flips,
-            readable,
-            ram,
-            Console(at[i]),
-            value[i],
-        );
+        let a = Console(at[i]);
+        let v = value[i];
+        assigned[i] = cart::write_by(mapping, permissions, flips, readable, j, ram, a, v);
+        if jlp::latches(j, a, v) {
+            j = jlp::write(j, a, v);
+        }
     }
+    *accelerators = words_of(j);
 }
 
 // The same without the numbers, with the cartridge by value at each write.
@@ -249,13 +335,14 @@ pub extern "C" fn luigi_writes_by_value<'a>(
     mapping: &'a [u16; PARAGRAPHS],
     permissions: &'a [u8; PARAGRAPHS],
     flips: &'a [u16; FLIP_ENTRIES],
+    field: u8,
     ram: &mut [u16],
     at: &[u16],
     value: &[u16],
 ) -> Active
-    ensures { λ r. ⌜ (r ≡ activeAfter (fresh (now (mapping .entry)) (now (permissions .entry)) (now (flips .entry))) (now (ram .entry)) (now (at .entry)) (now (value .entry)) (min (length (now (at .entry))) (length (now (value .entry))))) × (now (ram .exit) ≡ ramAfter (fresh (now (mapping .entry)) (now (permissions .entry)) (now (flips .entry))) (now (ram .entry)) (now (at .entry)) (now (value .entry)) (min (length (now (at .entry))) (length (now (value .entry))))) ⌝ }
+    ensures { λ r. ⌜ (r ≡ activeAfter (fresh field (now (mapping .entry)) (now (permissions .entry)) (now (flips .entry))) (now (ram .entry)) (now (at .entry)) (now (value .entry)) (min (length (now (at .entry))) (length (now (value .entry))))) × (now (ram .exit) ≡ ramAfter (fresh field (now (mapping .entry)) (now (permissions .entry)) (now (flips .entry))) (now (ram .entry)) (now (at .entry)) (now (value .entry)) (min (length (now (at .entry))) (length (now (value .entry))))) ⌝ }
 {
-    let mut c = fresh(mapping, permissions, flips);
+    let mut c = fresh(field, mapping, permissions, flips);
     for i in 0..basics::least(at.len(), value.len()) {
         let done = cart::write(c, ram, Console(at[i]), value[i]);
         let next = done.cartridge;

@@ -21,8 +21,12 @@ use Rattle.sums.specs.Crc.{dowcrcOf}
 use Rattle.header.specs.Header.{magic, version, reserved, versionAt, flagsAt, uidAt, reservedAt, sumAt, headerSize, flagsSize, uidSize, headOf, headerOf, wrongLength, wrongMagic, wrongVersion, wrongHeaderSum, headerRows, headerRefusal}
 use Rattle.header.specs.declared.TutorVision.{TutorVision}
 use Rattle.header.specs.declared.TutorVision.the-variants.{NotStated}
-use Rattle.header.specs.Flags.{settingOf, statedAt, compatOf}
+use Rattle.header.specs.Flags.{jlpField, settingOf, statedAt, compatOf}
 use Rattle.header.specs.Laws.Header.{length-head, length-header}
+
+-- the JLP field, from its byte
+pub field-byte : (flags : List ℕ) (x : ℕ) → x ≡ getD flags 2 0 → x % 4 ≡ jlpField flags
+field-byte flags x e = simp (← e, div-one)
 
 -- the compatibility fields, from two bytes
 pub compat-bytes : (flags : List ℕ) (x y : ℕ) → x ≡ getD flags 0 0 → y ≡ getD flags 1 0 → (t : TutorVision) → t ≡ statedAt (y % 4) (y / 4 % 4)

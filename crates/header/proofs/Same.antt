@@ -8,6 +8,8 @@ use Rattle.header.proofs.write.Reads as write
 use Rattle.header.proofs.compat_of.Reads as compat-of
 use Rattle.header.proofs.no_compat.Reads as no-compat
 use Rattle.header.proofs.number_of.Reads as number-of
+use Rattle.header.proofs.jlp_field.Reads as jlp-field
+use Rattle.header.proofs.flash_size.Reads as flash-size
 
 pub one-check : OneAnswer check.Learnt
 one-check κs a y z e f = same
@@ -26,3 +28,9 @@ one-no-compat κs a y z e f = same
 
 pub one-number-of : OneAnswer number-of.Learnt
 one-number-of κs a y z e f = same
+
+pub one-jlp-field : OneAnswer jlp-field.Learnt
+one-jlp-field κs a y z e f = same
+
+pub one-flash-size : OneAnswer flash-size.Learnt
+one-flash-size κs a y z e f = same

@@ -1,5 +1,5 @@
 -- The 16 flag bytes of a header: flag n is bit n mod 8 of byte n div 8 (01, File layout; 001, Feature Flags).
-use Prim.Native.Nat.{ℕ, _/_, _^_, _%_}
+use Prim.Native.Nat.{ℕ, _+_, _*_, _/_, _^_, _%_}
 use mathlib.Core.List.{List}
 use mathlib.Core.Bool.{Bool, cond}
 use lib.Dec.{eqb}
@@ -14,6 +14,13 @@ flag flags n = eqb (getD flags (n / 8) 0 / 2 ^ (n % 8) % 2) 1
 -- the two-bit field that starts at flag n
 abbrev pub field : List ℕ → ℕ → ℕ
 field flags n = getD flags (n / 8) 0 / 2 ^ (n % 8) % 4
+
+-- the JLP field, and the size of the JLP flash in sectors: flags 16-17 and 22-31 (001, JLP Flags)
+abbrev pub jlpField : List ℕ → ℕ
+jlpField flags = field flags 16
+
+abbrev pub flashSize : List ℕ → ℕ
+flashSize flags = getD flags 2 0 / 64 + 4 * getD flags 3 0
 
 -- the setting that a field's two bits name (001, Compatibility Flags)
 unfoldable pub settingOf : ℕ → TutorVision

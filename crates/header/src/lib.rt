@@ -4,7 +4,7 @@ ghost use mathlib.Core.Path.{_≡_};
 ghost use lib.ListN.{length};
 ghost use Rattle.basics.specs.Lists.{putFront};
 ghost use Rattle.header.specs.Header.{headerSize, flagsSize, uidSize, headerOf, wrongLength, wrongMagic, wrongVersion, wrongHeaderSum, headerRefusal};
-ghost use Rattle.header.specs.Flags.{settingOf, statedAt, numberOf, compatOf, noCompat};
+ghost use Rattle.header.specs.Flags.{jlpField, flashSize, settingOf, statedAt, numberOf, compatOf, noCompat};
 use basics::Refusal;
 use basics::byte_at;
 use basics::put_bytes;
@@ -90,6 +90,20 @@ pub fn number_of(t: TutorVision) -> u8
         TutorVision::Requires => 3,
         TutorVision::NotStated => 4,
     }
+}
+
+// The JLP field.
+pub fn jlp_field(flags: &[u8]) -> u8
+    ensures { λ r. ⌜ r ≡ jlpField (now (flags .entry)) ⌝ }
+{
+    byte_at(flags, 2) % 4
+}
+
+// The size of the JLP flash, in sectors.
+pub fn flash_size(flags: &[u8]) -> u16
+    ensures { λ r. ⌜ r ≡ flashSize (now (flags .entry)) ⌝ }
+{
+    byte_at(flags, 2) as u16 / 64 + 4 * (byte_at(flags, 3) as u16)
 }
 
 pub fn compat_of(flags: &[u8]) -> Compat

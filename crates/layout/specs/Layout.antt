@@ -86,7 +86,7 @@ flipTable lines = table flipEntries (λ n. flipEntry lines (n / chapterPages) (n
 
 -- the cartridge with these tables, as a load leaves it
 abbrev pub cartridgeOf : List Line → Cartridge
-cartridgeOf lines = fresh (mappingTable lines) (permissionsTable lines) (flipTable lines)
+cartridgeOf lines = fresh 0 (mappingTable lines) (permissionsTable lines) (flipTable lines)
 
 -- the word that a line has at an address when the image is written: the BIN's; declared RAM is written as zeros
 abbrev pub writtenBy : List ℕ → Entry → Console → ℕ

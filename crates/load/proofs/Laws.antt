@@ -14,14 +14,16 @@ use Rattle.basics.specs.Lists.{part}
 use Rattle.basics.specs.Refusals.{refuse, noRefusal, passes}
 use Rattle.basics.specs.Laws.Lists.{part-rest, drop-min, length-part}
 use Rattle.basics.specs.Laws.Octets.{Bytes, bytes-drop}
+use Rattle.places.specs.Limits.{lent}
 use Rattle.sums.specs.Crc.{c324Poly, crc324Of}
 use Rattle.sums.specs.Tables.{tablesOf, byTables}
 use Rattle.sums.specs.Laws.Tables.{c324-by}
 use Rattle.header.specs.declared.Compat.{Compat}
 use Rattle.header.specs.Header.{flagsOf}
-use Rattle.header.specs.Flags.{compatOf}
+use Rattle.header.specs.Flags.{jlpField, compatOf}
 use Rattle.cart.specs.declared.Cartridge.{Cartridge}
-use Rattle.tables.specs.Tables.{cartridgeOf, unsupported}
+use Rattle.tables.specs.Tables.{cartridgeOf, tablesRefusal}
+use Rattle.tables.specs.Laws.Tables.{cartridge-flips}
 use Rattle.hunk.specs.Hunk.{storeHunk}
 use Rattle.blocks.specs.declared.Frame.{Frame}
 use Rattle.blocks.specs.declared.Frame.the-variants.{Over, Cut, Framed}
@@ -35,7 +37,7 @@ use Rattle.blocks.specs.Laws.Judged.{standing, judged-standing, judged-within}
 use Rattle.load.specs.declared.Verdict.the-variants.{Refused, Loads}
 use Rattle.load.specs.declared.Loading.{Loading}
 use Rattle.load.specs.declared.Step.the-variants.{Ends, No, Next}
-use Rattle.load.specs.Code.Passes.{judgementOf, tablesAfter, onJudged, stepOf, endedAt, tablesAt, finishedOf, blockStored, eachStored, finishedRamOf}
+use Rattle.load.specs.Code.Passes.{judgementOf, tablesAfter, onJudged, stepOf, endedAt, tablesAt, endRefusal, finishedOf, blockStored, eachStored, finishedRamOf}
 use Rattle.load.specs.Load.{refused}
 
 -- what a block's payload is lent as
@@ -134,29 +136,36 @@ module _ (size tables blocks words : ℕ) where
   unfolding endedAt
   some-ended e = rw (ne-eqb _ _ e)
 
+-- the cartridge, by the field that was read
+pub cartridge-is : (s : List ℕ) (t field : ℕ) (c : Cartridge) → field ≡ jlpField (flagsOf s) → c ≡ cartridgeOf field (tablesAt s t) → c ≡ cartridgeOf (jlpField (flagsOf s)) (tablesAt s t)
+cartridge-is s t field c e g = rw (← e) g
+
 -- behind the passes
-module _ (s : List ℕ) (t blocks words : ℕ) (c : Cartridge) (ec : c ≡ cartridgeOf (tablesAt s t)) (b : Bool) (eb : b ≡ unsupported (flagsOf s) (c .flips)) where
-  ten-is : b ≡ unsupported (flagsOf s) (cartridgeOf (tablesAt s t) .flips)
-  ten-is = eb ∙ rw ec
+module _ (s ram : List ℕ) (t blocks words : ℕ) (c : Cartridge) (ec : c ≡ cartridgeOf (jlpField (flagsOf s)) (tablesAt s t))
+    (m : ℕ) (em : m ≡ lent ram) (r : Refusal) (er : r ≡ tablesRefusal (flagsOf s) (c .flips) m) where
+  end-is : r ≡ endRefusal s t (lent ram)
+  end-is =
+      rw (← em)
+      (er ∙ ap (λ (f : List ℕ). tablesRefusal (flagsOf s) f m) (ap (λ (d : Cartridge). d .flips) ec ∙ cartridge-flips (jlpField (flagsOf s)) (tablesAt s t)))
 
-  module _ (h : b ≡ true) where
-    pub refused-answer : (r : Refusal) → r ≡ refuse 10 0 → (l : Loading) → l ≡ refused r → l ≡ finishedOf s t blocks words
+  module _ (h : r .number ≡ 0 → ⊥) where
+    pub refused-answer : (l : Loading) → l ≡ refused r → l ≡ finishedOf s (lent ram) t blocks words
     unfolding finishedOf
-    refused-answer r er l el = el ∙ rw (← ten-is, h, er)
+    refused-answer l el = el ∙ rw (← end-is, ne-eqb _ _ h)
 
-    pub refused-ram : (ram : List ℕ) → ram ≡ finishedRamOf s t ram
+    pub refused-ram : ram ≡ finishedRamOf s t ram
     unfolding finishedRamOf
-    refused-ram ram = rw (← ten-is, h)
+    refused-ram = rw (← end-is, ne-eqb _ _ h)
 
-  module _ (h : b ≡ false) where
+  module _ (h : r .number ≡ 0) where
     pub loaded-answer : (n : Refusal) → n ≡ noRefusal → (k : Compat) → k ≡ compatOf (flagsOf s)
-        → record { refusal = n; cartridge = c; compat = k; blocks = blocks; words = words } ≡ finishedOf s t blocks words
+        → record { refusal = n; cartridge = c; compat = k; blocks = blocks; words = words } ≡ finishedOf s (lent ram) t blocks words
     unfolding finishedOf
-    loaded-answer n en k ek = rw (← ten-is, h, en, ec, ek)
+    loaded-answer n en k ek = rw (← end-is, eq-eqb _ _ h, en, ec, ek)
 
-    pub loaded-ram : (ram after : List ℕ) → after ≡ eachStored (blocksIn s) ram → after ≡ finishedRamOf s t ram
+    pub loaded-ram : (after : List ℕ) → after ≡ eachStored (blocksIn s) ram → after ≡ finishedRamOf s t ram
     unfolding finishedRamOf
-    loaded-ram ram after ea = ea ∙ rw (← ten-is, h)
+    loaded-ram after ea = ea ∙ rw (← end-is, eq-eqb _ _ h)
 
 pub judge-own : (m : ℕ) (earlier : Bool) (n : ℕ) (x : List ℕ) (r : Judged) → r ≡ judgedOf m earlier 0 n x → n ≡ crc324Of (payloadIn x) → r ≡ judgementOf m earlier 0 x
 judge-own m earlier n x r e k = e ∙ rw k

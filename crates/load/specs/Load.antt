@@ -8,7 +8,7 @@ use Rattle.basics.specs.Rows.{Row}
 use Rattle.basics.specs.Refusals.{refuse, noRefusal, firstRefusal, passes}
 use Rattle.places.specs.Limits.{lent}
 use Rattle.header.specs.Header.{headerRows, flagsOf}
-use Rattle.header.specs.Flags.{compatOf, noCompat}
+use Rattle.header.specs.Flags.{jlpField, compatOf, noCompat}
 use Rattle.cart.specs.declared.Cartridge.{Cartridge}
 use Rattle.cart.specs.Cartridges.{noCartridge}
 use Rattle.tables.specs.Tables.{tablesIn, cartridgeOf, tablesRows}
@@ -21,13 +21,13 @@ walkRows s m =
     judgeAll m false firstBlock (blocksIn s)
     ++ ((isCut s, refuse 5 (stopOf s)) ∷ (not (anyTables (blocksIn s)), refuse 8 (length s)) ∷ [])
 
--- the cartridge of the first tables block
-abbrev pub cartridgeIn : List (List ℕ) → Cartridge
-cartridgeIn xs = cartridgeOf (payloadOfTables xs)
+-- the cartridge of these flags and the first tables block
+abbrev pub cartridgeIn : List ℕ → List (List ℕ) → Cartridge
+cartridgeIn flags xs = cartridgeOf (jlpField flags) (payloadOfTables xs)
 
--- every refusal of an image that is loaded into m words of RAM: 1 to 4; the blocks; then 10, of the flags and the tables
+-- every refusal of an image that is loaded into m words of RAM: 1 to 4; the blocks; then 10 and 11, of the flags and the tables
 abbrev pub refusalRows : List ℕ → ℕ → List (Row Refusal)
-refusalRows s m = headerRows s ++ (walkRows s m ++ tablesRows (flagsOf s) (tablesIn (payloadOfTables (blocksIn s))))
+refusalRows s m = headerRows s ++ (walkRows s m ++ tablesRows (flagsOf s) (tablesIn (payloadOfTables (blocksIn s)) .flips) m)
 
 unfoldable pub refusalOf : List ℕ → ℕ → Refusal
 refusalOf s m = firstRefusal (refusalRows s m)
@@ -40,7 +40,7 @@ abbrev pub loadedOf : List ℕ → List (List ℕ) → Loading
 loadedOf flags xs =
     record {
       refusal = noRefusal;
-      cartridge = cartridgeIn xs;
+      cartridge = cartridgeIn flags xs;
       compat = compatOf flags;
       blocks = length xs;
       words = wordCount (hunksIn xs);

@@ -7,11 +7,13 @@ ghost use lib.Dec.{eqb};
 ghost use Rattle.places.specs.Limits.{lent};
 ghost use Rattle.sums.specs.Crc.{c324Poly, crc324Of};
 ghost use Rattle.sums.specs.Tables.{tablesOf};
-ghost use Rattle.header.specs.Header.{headerSize};
+ghost use Rattle.header.specs.Header.{headerSize, flagsOf};
+ghost use Rattle.header.specs.Flags.{jlpField};
+ghost use Rattle.tables.specs.Tables.{cartridgeOf, tablesRefusal};
 ghost use Rattle.blocks.specs.Blocks.{payloadIn};
 ghost use Rattle.blocks.specs.Images.{blocksIn};
 ghost use Rattle.load.specs.Load.{refused, loadingOf, loadRamOf};
-ghost use Rattle.load.specs.Code.Passes.{judgementOf, tablesAfter, stepOf, endedAt, verdictOf, Tabled, finishedOf, blockStored, eachStored, finishedRamOf};
+ghost use Rattle.load.specs.Code.Passes.{judgementOf, tablesAfter, stepOf, endedAt, verdictOf, tablesAt, Tabled, finishedOf, blockStored, eachStored, finishedRamOf};
 use basics::Refusal;
 use blocks::FIRST_BLOCK;
 use blocks::FRAME_SIZE;
@@ -19,6 +21,7 @@ use blocks::Frame;
 use blocks::Judged;
 use cart::Cartridge;
 use header::Compat;
+use places::PARAGRAPHS;
 
 // A step of the checking pass: the image ends, a refusal, or the next block's place, the tables block's, and a number of words.
 pub enum Step {
@@ -169,20 +172,42 @@ fn refuse(r: Refusal) -> Loading
     }
 }
 
-// Behind the checking pass: 10, then the storing pass and the answer.
-fn finish(s: &[u8], t: usize, blocks: usize, words: usize, ram: &mut [u16]) -> Loading
+// The cartridge of the header's JLP field and of the tables block at t.
+fn cartridge_at(s: &[u8], t: usize) -> Cartridge
     requires { ⌜ (headerSize ≤ length (now s)) × Tabled (now s) t ⌝ }
-    ensures { λ r. ⌜ (r ≡ finishedOf (now (s .entry)) t blocks words) × (now (ram .exit) ≡ finishedRamOf (now (s .entry)) t (now (ram .entry))) ⌝ }
+    ensures { λ r. ⌜ r ≡ cartridgeOf (jlpField (flagsOf (now (s .entry)))) (tablesAt (now (s .entry)) t) ⌝ }
 {
-    let a = t + FRAME_SIZE;
-    let e = a + tables::TABLES_SIZE;
-    let cartridge = tables::cartridge_of(&s[a..e]);
     let from = header::FLAGS_AT;
     let to = header::UID_AT;
-    if tables::refused(&s[from..to], &cartridge.flips) {
-        return refuse(basics::refuse(10, 0));
+    let field = header::jlp_field(&s[from..to]);
+    let a = t + FRAME_SIZE;
+    let e = a + tables::TABLES_SIZE;
+    tables::cartridge_of(field, &s[a..e])
+}
+
+// What is refused of the header's flags and of these flips, with m words lent.
+fn refusal_with(s: &[u8], flips: &[u16; PARAGRAPHS], m: usize) -> Refusal
+    requires { ⌜ headerSize ≤ length (now s) ⌝ }
+    ensures { λ r. ⌜ r ≡ tablesRefusal (flagsOf (now (s .entry))) (now (flips .entry)) m ⌝ }
+{
+    let from = header::FLAGS_AT;
+    let to = header::UID_AT;
+    tables::refused(&s[from..to], flips, m)
+}
+
+// Behind the checking pass: 10 and 11, then the storing pass and the answer.
+fn finish(s: &[u8], t: usize, blocks: usize, words: usize, ram: &mut [u16]) -> Loading
+    requires { ⌜ (headerSize ≤ length (now s)) × Tabled (now s) t ⌝ }
+    ensures { λ r. ⌜ (r ≡ finishedOf (now (s .entry)) (lent (now (ram .entry))) t blocks words) × (now (ram .exit) ≡ finishedRamOf (now (s .entry)) t (now (ram .entry))) ⌝ }
+{
+    let cartridge = cartridge_at(s, t);
+    let r = refusal_with(s, &cartridge.flips, places::lent_words(ram));
+    if r.number != 0 {
+        return refuse(r);
     }
     store_blocks(s, ram);
+    let from = header::FLAGS_AT;
+    let to = header::UID_AT;
     Loading {
         refusal: basics::no_refusal(),
         cartridge,

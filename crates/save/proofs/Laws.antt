@@ -9,10 +9,12 @@ use lib.Seq.{length-take-le, drop-at}
 use lib.Dec.{ltb, eqb}
 use borrow.Author.Tests.{lt-ltb, le-ltb, le-leb, ne-eqb}
 use borrow.Rule.Slice.PartMut.{putMid}
+use Rattle.basics.specs.Laws.Refusals.{refused-front, silent-behind}
+use Rattle.basics.specs.Rows.{Row}
 use Rattle.basics.specs.declared.Refusal.{Refusal}
 use Rattle.basics.specs.Lists.{part, putFront}
-use Rattle.basics.specs.Counts.{lowest}
-use Rattle.basics.specs.Refusals.{refuse, noRefusal}
+use Rattle.basics.specs.Counts.{lowest, any}
+use Rattle.basics.specs.Refusals.{refuse, noRefusal, firstRefusal}
 use Rattle.basics.specs.Laws.Tests.{and-true, and-false}
 use Rattle.basics.specs.Laws.Lists.{length-part}
 use Rattle.basics.specs.Laws.Lowest.{any-low, any-not}
@@ -22,7 +24,8 @@ use Rattle.places.specs.declared.Locutus.{Locutus}
 use Rattle.places.specs.Limits.{imageLimit, lent, locutusParagraphs, paragraphSize}
 use Rattle.sums.specs.Crc.{crc324Of}
 use Rattle.header.specs.Header.{headerOf}
-use Rattle.tables.specs.Tables.{Tables, tablesPayload, unsupported}
+use Rattle.tables.specs.Tables.{Tables, tablesPayload, tablesRows, tablesRefusal}
+use Rattle.tables.specs.Laws.Refusals.{tables-accepted}
 use Rattle.hunk.specs.Hunk.{hunk, hunkPayload, payloadSize}
 use Rattle.hunk.specs.Laws.Sizes.{length-payload}
 use Rattle.blocks.specs.Blocks.{frameSize, payloadIn, blockOf, putFrame, tablesType, hunkType, endMark}
@@ -95,32 +98,39 @@ module _ (marks : List Bool) (n p : ℕ) where
   pub past-not : getD marks p false ≡ false → past marks n p ≡ false
   past-not e = rw (is-off e)
 
--- the refusals: a row that holds with none before it
-module _ (room : ℕ) (flags flips : List ℕ) (words : ℕ) (marks : List Bool) (long : ℕ) (r : Refusal) (b : Bool) (eb : b ≡ unsupported flags flips) where
-  pub judge-10 : b ≡ true → r ≡ refuse 10 0 → r ≡ judgedBy room flags flips words marks long
-  unfolding judgedBy
-  judge-10 h e = rw (← eb, h) e
+-- the refusals: what is refused of flags and tables, or a row that holds with none before it
+module _ (room : ℕ) (flags flips : List ℕ) (words : ℕ) (marks : List Bool) (long : ℕ) (t : Refusal) (et : t ≡ tablesRefusal flags flips words) where
+  abbrev rest : List (Row Refusal)
+  rest =
+      (any locutusParagraphs (past marks words), refuse 9 (lowest locutusParagraphs (past marks words)))
+      ∷ (ltb imageLimit long, refuse 1 0)
+      ∷ (ltb room long, refuse 29 0)
+      ∷ []
 
-  module _ (h : b ≡ false) (first : ℕ) (ef : first ≡ lowest locutusParagraphs (past marks words)) where
-    pub judge-9 : first < locutusParagraphs → r ≡ refuse 9 first → r ≡ judgedBy room flags flips words marks long
+  pub judge-tables : (t .number ≡ 0 → ⊥) → t ≡ judgedBy room flags flips words marks long
+  unfolding judgedBy
+  judge-tables n = et ∙ sym (refused-front (tablesRows flags flips words) rest (rw et at n))
+
+  module _ (z : t .number ≡ 0) (r : Refusal) (first : ℕ) (ef : first ≡ lowest locutusParagraphs (past marks words)) where
+    judged-rest : judgedBy room flags flips words marks long ≡ firstRefusal rest
     unfolding judgedBy
-    judge-9 l e = rw (← eb, h, any-low locutusParagraphs (past marks words) first ef l, ← ef) e
+    judged-rest = silent-behind (tablesRows flags flips words) rest (tables-accepted flags flips words .0 (rw et at z))
+
+    pub judge-9 : first < locutusParagraphs → r ≡ refuse 9 first → r ≡ judgedBy room flags flips words marks long
+    judge-9 l e = rw (judged-rest, any-low locutusParagraphs (past marks words) first ef l, ← ef) e
 
     module _ (l : locutusParagraphs ≤ first) where
       pub judge-1 : imageLimit < long → r ≡ refuse 1 0 → r ≡ judgedBy room flags flips words marks long
-      unfolding judgedBy
-      judge-1 k e = rw (← eb, h, any-not locutusParagraphs (past marks words) first ef l, lt-ltb _ _ k) e
+      judge-1 k e = rw (judged-rest, any-not locutusParagraphs (past marks words) first ef l, lt-ltb _ _ k) e
 
       module _ (k : long ≤ imageLimit) where
         pub judge-29 : room < long → r ≡ refuse 29 0 → r ≡ judgedBy room flags flips words marks long
-        unfolding judgedBy
-        judge-29 j e = rw (← eb, h, any-not locutusParagraphs (past marks words) first ef l, le-ltb _ _ k, lt-ltb _ _ j) e
+        judge-29 j e = rw (judged-rest, any-not locutusParagraphs (past marks words) first ef l, le-ltb _ _ k, lt-ltb _ _ j) e
 
         pub judge-none : long ≤ room → r ≡ noRefusal → r ≡ judgedBy room flags flips words marks long
-        unfolding judgedBy
-        judge-none j e = rw (← eb, h, any-not locutusParagraphs (past marks words) first ef l, le-ltb _ _ k, le-ltb _ _ j) e
+        judge-none j e = rw (judged-rest, any-not locutusParagraphs (past marks words) first ef l, le-ltb _ _ k, le-ltb _ _ j) e
 
-pub ruleset judges = (judge-10, judge-9, judge-1, judge-29, judge-none)
+pub ruleset judges = (judge-tables, judge-9, judge-1, judge-29, judge-none)
 
 -- the length of an answer
 module _ (r : Refusal) (long : ℕ) (b : Bool) (eb : b ≡ (eqb (r .number) 0 || eqb (r .number) 29)) where

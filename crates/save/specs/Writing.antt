@@ -1,6 +1,6 @@
 -- What the plain writer takes, what it answers, and what it leaves in the lent buffer (01, How an image is laid out by the builder; Numbers that come back).
 use Prim.Native.Nat.{ℕ, _+_, _*_}
-use mathlib.Core.List.{List, [], _∷_}
+use mathlib.Core.List.{List, [], _∷_, _++_}
 use mathlib.Core.Bool.{Bool, false, cond, _&&_, _||_}
 use lib.ListN.{length, getD}
 use lib.Dec.{ltb, eqb}
@@ -11,7 +11,7 @@ use Rattle.basics.specs.Counts.{any, lowest}
 use Rattle.basics.specs.Rows.{Row}
 use Rattle.basics.specs.Refusals.{refuse, firstRefusal, passes}
 use Rattle.places.specs.Limits.{imageLimit, lent, locutusParagraphs, paragraphSize}
-use Rattle.tables.specs.Tables.{Tables, unsupported}
+use Rattle.tables.specs.Tables.{Tables, tablesRows}
 use Rattle.hunk.specs.Hunk.{Hunk}
 use Rattle.save.specs.declared.Writing.{Writing}
 use Rattle.save.specs.Chosen.{chosen, imageFor}
@@ -47,14 +47,14 @@ past marks n p = isMarked marks p && ltb n (paragraphSize * p + paragraphSize)
 abbrev pub pastLent : Content → ℕ → Bool
 pastLent c p = past (c .marks) (lent (c .ram)) p
 
--- the refusals in their order: 10 where loading would; 9 for the lowest such paragraph; 1; 29
+-- the refusals in their order: 10 and 11 where loading would; 9 for the lowest such paragraph; 1; 29
 abbrev pub refusalRows : List ℕ → Content → List (Row Refusal)
 refusalRows out c =
-    (unsupported (c .flags) (c .tables .flips), refuse 10 0)
-    ∷ (any locutusParagraphs (pastLent c), refuse 9 (lowest locutusParagraphs (pastLent c)))
+    tablesRows (c .flags) (c .tables .flips) (lent (c .ram))
+    ++ ((any locutusParagraphs (pastLent c), refuse 9 (lowest locutusParagraphs (pastLent c)))
     ∷ (ltb imageLimit (length (imageBy c)), refuse 1 0)
     ∷ (ltb (length out) (length (imageBy c)), refuse 29 0)
-    ∷ []
+    ∷ [])
 
 unfoldable pub refusalOf : List ℕ → Content → Refusal
 refusalOf out c = firstRefusal (refusalRows out c)

@@ -1,38 +1,77 @@
 -- One law for each return, its premises as the code's tests and calls give them.
 use Prim.Native.Nat.{ℕ, _%_, _<_, _≤_, _-_}
-use mathlib.Core.Bool.{Bool, true}
+use mathlib.Core.Bool.{Bool, true, false, not}
 use mathlib.Core.Path.{_≡_, refl, sym}
 use mathlib.Core.List.{List, _++_, [], append-assoc}
 use native.Mathlib.Nat.{div-one}
 use native.Mathlib.Omega.{arith}
 use lib.ListN.{length, getD, length-append}
-use borrow.Author.Tests.{ne-eqb, eq-eqb}
+use lib.Dec.{eqb, ltb}
+use borrow.Author.Tests.{ne-eqb, eq-eqb, lt-leb, le-leb}
 use borrow.Rule.Slice.PartMut.{putMid}
 use Rattle.basics.specs.Lists.{part, putFront}
 use Rattle.basics.specs.Bytes.{bytes16}
 use Rattle.basics.specs.Laws.Bytes.{length-bytes16}
 use Rattle.basics.specs.Laws.Wrote.{Wrote, wrote-none}
 use Rattle.basics.specs.Laws.Puts.{put-short, put-wrote, wrote-put}
+use Rattle.basics.specs.declared.Refusal.{Refusal}
+use Rattle.basics.specs.Refusals.{refuse, noRefusal}
 use Rattle.places.specs.Limits.{paragraphs}
-use Rattle.tables.specs.Tables.{tables, permissionsAt, flipsAt, tablesSize, tablesPayload, unsupported, flipsOne}
+use Rattle.header.specs.Flags.{jlpField, flashSize}
+use Rattle.jlp.specs.Window.{ramWords}
+use Rattle.tables.specs.Tables.{tables, permissionsAt, flipsAt, tablesSize, tablesPayload, asksFlash, unsupported, lacksRam, tablesRows, tablesRefusal, flipsOne}
 use Rattle.tables.specs.Laws.Tables.{length-tables}
 
--- refusal 10: a test that holds with none before it, and the last
-module _ (flags flips : List ℕ) (x : ℕ) (ex : x ≡ getD flags 2 0) where
-  pub jlp-set : (x % 4 ≡ 0 → ⊥) → true ≡ unsupported flags flips
-  unfolding unsupported
-  jlp-set h = simp (← ex, div-one, ne-eqb _ _ h)
+-- a flash that is asked for: the field decides, then the size
+module _ (flags : List ℕ) (x : ℕ) (ex : x ≡ jlpField flags) where
+  pub no-flash : x < 2 → false ≡ asksFlash flags
+  no-flash h = rw (← ex, lt-leb _ _ h)
 
-  module _ (no-jlp : x % 4 ≡ 0) (y : ℕ) (ey : y ≡ getD flags 4 0) where
+  pub size-decides : (n : ℕ) → n ≡ flashSize flags → 2 ≤ x → not (eqb n 0) ≡ asksFlash flags
+  size-decides n e h = rw (← ex, le-leb _ _ h, e)
+
+  -- 11
+  pub no-jlp : (m : ℕ) → x ≡ 0 → false ≡ lacksRam flags m
+  unfolding lacksRam
+  no-jlp m h = rw (← ex, eq-eqb _ _ h)
+
+  pub words-decide : (m : ℕ) → (x ≡ 0 → ⊥) → ltb m ramWords ≡ lacksRam flags m
+  unfolding lacksRam
+  words-decide m h = rw (← ex, ne-eqb _ _ h)
+
+-- 10: a test that holds with none before it, and the last
+module _ (flags flips : List ℕ) (b : Bool) (eb : b ≡ asksFlash flags) where
+  pub flash-set : b ≡ true → true ≡ unsupported flags flips
+  unfolding unsupported
+  flash-set h = rw (← eb, h)
+
+  module _ (no-flash : b ≡ false) (y : ℕ) (ey : y ≡ getD flags 4 0) where
     pub mapper-set : y % 2 ≡ 1 → true ≡ unsupported flags flips
     unfolding unsupported
-    mapper-set h = simp (← ex, ← ey, div-one, eq-eqb _ _ no-jlp, eq-eqb _ _ h)
+    mapper-set h = rw (← eb, no-flash) (simp (← ey, div-one, eq-eqb _ _ h))
 
     pub flips-decide : (c : Bool) → (y % 2 ≡ 1 → ⊥) → c ≡ flipsOne flips → c ≡ unsupported flags flips
     unfolding unsupported
-    flips-decide c no-mapper ec = simp (← ex, ← ey, div-one, eq-eqb _ _ no-jlp, ne-eqb _ _ no-mapper, ec)
+    flips-decide c no-mapper ec = rw (← eb, no-flash) (simp (← ey, div-one, ne-eqb _ _ no-mapper, ec))
 
-pub ruleset tens = (jlp-set, mapper-set, flips-decide)
+pub ruleset tens = (flash-set, mapper-set, flips-decide)
+
+-- the rows
+module _ (flags flips : List ℕ) (m : ℕ) (r : Refusal) (b : Bool) (eb : b ≡ unsupported flags flips) where
+  pub refused-10 : b ≡ true → r ≡ refuse 10 0 → r ≡ tablesRefusal flags flips m
+  unfolding tablesRows
+  refused-10 h e = rw (← eb, h) e
+
+  module _ (h : b ≡ false) (d : Bool) (ed : d ≡ lacksRam flags m) where
+    pub refused-11 : d ≡ true → r ≡ refuse 11 0 → r ≡ tablesRefusal flags flips m
+    unfolding tablesRows
+    refused-11 k e = rw (← eb, h, ← ed, k) e
+
+    pub refused-none : d ≡ false → r ≡ noRefusal → r ≡ tablesRefusal flags flips m
+    unfolding tablesRows
+    refused-none k e = rw (← eb, h, ← ed, k) e
+
+pub ruleset ends = (refused-10, refused-11, refused-none)
 
 -- a buffer without room for the tables, and one with: each in its part
 module _ (out m p f : List ℕ) (em : length m ≡ paragraphs) (ep : length p ≡ paragraphs) (ef : length f ≡ paragraphs) where

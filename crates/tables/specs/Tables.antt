@@ -1,18 +1,19 @@
 -- The three tables in the payload of a tables block: as they are written, as they are read, the cartridge that they make, and what is
--- refused of them (01, File layout, Numbers that come back; 001, Block Type 0x01).
+-- refused of them (01, File layout, Numbers that come back; 02, W-206; 001, Block Type 0x01).
 use Prim.Native.Nat.{ℕ, _+_, _*_}
 use mathlib.Core.List.{List, _++_, _∷_, []}
-use mathlib.Core.Bool.{Bool, not, _||_}
+use mathlib.Core.Bool.{Bool, not, _&&_, _||_}
 use lib.ListN.{getD}
-use lib.Dec.{eqb}
+use lib.Dec.{eqb, ltb, leb}
 use Rattle.basics.specs.declared.Refusal.{Refusal}
 use Rattle.basics.specs.Tables.{table}
 use Rattle.basics.specs.Bytes.{at16, bytes16}
 use Rattle.basics.specs.Counts.{any}
 use Rattle.basics.specs.Rows.{Row}
-use Rattle.basics.specs.Refusals.{refuse}
+use Rattle.basics.specs.Refusals.{refuse, firstRefusal}
 use Rattle.places.specs.Limits.{paragraphs, chapterPages}
-use Rattle.header.specs.Flags.{field, flag}
+use Rattle.header.specs.Flags.{jlpField, flashSize, flag}
+use Rattle.jlp.specs.Window.{ramWords}
 use Rattle.cart.specs.declared.Cartridge.{Cartridge}
 use Rattle.cart.specs.Cartridges.{fresh}
 use Rattle.switches.specs.Flips.{PFE}
@@ -50,12 +51,12 @@ bytesAt payload at = table paragraphs (λ i. getD payload (at + i) 0)
 unfoldable pub tablesIn : List ℕ → Tables
 tablesIn payload = tables (wordsAt payload 0) (bytesAt payload permissionsAt) (wordsAt payload flipsAt)
 
--- the cartridge that is loaded with these tables, and with those of a payload
-abbrev pub cartridgeWith : Tables → Cartridge
-cartridgeWith t = fresh (t .mapping) (t .permissions) (t .flips)
+-- the cartridge that is loaded with this JLP field and these tables, or those of a payload
+abbrev pub cartridgeWith : ℕ → Tables → Cartridge
+cartridgeWith jlp t = fresh jlp (t .mapping) (t .permissions) (t .flips)
 
-unfoldable pub cartridgeOf : List ℕ → Cartridge
-cartridgeOf payload = cartridgeWith (tablesIn payload)
+unfoldable pub cartridgeOf : ℕ → List ℕ → Cartridge
+cartridgeOf jlp payload = cartridgeWith jlp (tablesIn payload)
 
 -- a flip entry has PFE (001, Page Flipping Table)
 abbrev pub hasPFE : List ℕ → ℕ → Bool
@@ -65,10 +66,21 @@ hasPFE flips n = PFE (getD flips n 0)
 abbrev pub flipsOne : List ℕ → Bool
 flipsOne flips = any chapterPages (λ y. hasPFE flips (chapterPages + y))
 
--- 10: JLP field (flags 16-17) not 0, flag 32 set, or PFE in chapter 1; of BANKSW it no longer speaks (02, W-202)
-unfoldable pub unsupported : List ℕ → List ℕ → Bool
-unsupported flags flips = not (eqb (field flags 16) 0) || (flag flags 32 || flipsOne flips)
+-- field 2 or 3 with a flash size that isn't 0 (02, W-206)
+abbrev pub asksFlash : List ℕ → Bool
+asksFlash flags = leb 2 (jlpField flags) && not (eqb (flashSize flags) 0)
 
--- what is refused of a header's flags and of the tables, in 01's order
-unfoldable pub tablesRows : List ℕ → Tables → List (Row Refusal)
-tablesRows flags t = (unsupported flags (t .flips), refuse 10 0) ∷ []
+-- 10: JLP flash, flag 32 set, or PFE in chapter 1; of BANKSW it no longer speaks (02, W-202)
+unfoldable pub unsupported : List ℕ → List ℕ → Bool
+unsupported flags flips = asksFlash flags || (flag flags 32 || flipsOne flips)
+
+-- 11: the JLP field isn't 0 and fewer than 73,600 words are lent (02, W-206)
+unfoldable pub lacksRam : List ℕ → ℕ → Bool
+lacksRam flags m = not (eqb (jlpField flags) 0) && ltb m ramWords
+
+-- what is refused of a header's flags and of the flip table, with m words lent, in 01's order
+unfoldable pub tablesRows : List ℕ → List ℕ → ℕ → List (Row Refusal)
+tablesRows flags flips m = (unsupported flags flips, refuse 10 0) ∷ (lacksRam flags m, refuse 11 0) ∷ []
+
+abbrev pub tablesRefusal : List ℕ → List ℕ → ℕ → Refusal
+tablesRefusal flags flips m = firstRefusal (tablesRows flags flips m)

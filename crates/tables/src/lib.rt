@@ -1,11 +1,12 @@
-// The payload of a tables block, both ways: the cartridge of its tables, and tables written; and refusal 10.
+// The payload of a tables block, both ways: the cartridge of its tables, and tables written; and refusals 10 and 11.
 ghost use Prim.Native.Nat.{_≤_};
 ghost use mathlib.Core.Path.{_≡_};
 ghost use lib.ListN.{length};
 ghost use Rattle.basics.specs.Lists.{putFront};
 ghost use Rattle.places.specs.Limits.{paragraphs};
 ghost use Rattle.cart.specs.Cartridges.{noCartridge};
-ghost use Rattle.tables.specs.Tables.{tables, tablesPayload, tablesSize, wordsAt, bytesAt, cartridgeOf, flipsOne, unsupported};
+ghost use Rattle.tables.specs.Tables.{tables, tablesPayload, tablesSize, wordsAt, bytesAt, cartridgeOf, flipsOne, asksFlash, unsupported, lacksRam, tablesRefusal};
+use basics::Refusal;
 use basics::byte_at;
 use basics::put_bytes;
 use basics::put_words;
@@ -44,14 +45,14 @@ fn bytes_at(t: &[u8], at: usize) -> [u8; PARAGRAPHS]
     w
 }
 
-// The cartridge of a tables block's payload.
-pub fn cartridge_of(t: &[u8]) -> Cartridge
-    ensures { λ r. ⌜ r ≡ cartridgeOf (now (t .entry)) ⌝ }
+// The cartridge of a JLP field and a tables block's payload.
+pub fn cartridge_of(field: u8, t: &[u8]) -> Cartridge
+    ensures { λ r. ⌜ r ≡ cartridgeOf field (now (t .entry)) ⌝ }
 {
     let mapping = words_at(t, 0);
     let permissions = bytes_at(t, PERMISSIONS_AT);
     let flips = words_at(t, FLIPS_AT);
-    cart::fresh(mapping, permissions, flips)
+    cart::fresh(field, mapping, permissions, flips)
 }
 
 // The cartridge of a refused load.
@@ -60,7 +61,7 @@ pub fn no_cartridge() -> Cartridge
 {
     let words = [0u16; PARAGRAPHS];
     let bytes = [0u8; PARAGRAPHS];
-    cart::fresh(words, bytes, words)
+    cart::fresh(0, words, bytes, words)
 }
 
 // The tables, at the front of a buffer that has room for them: each into its own part.
@@ -117,15 +118,48 @@ fn has_flip(flips: &[u16; PARAGRAPHS]) -> bool
     false
 }
 
+// A JLP flash that is asked for.
+fn asks_flash(flags: &[u8]) -> bool
+    ensures { λ r. ⌜ r ≡ asksFlash (now (flags .entry)) ⌝ }
+{
+    if header::jlp_field(flags) < 2 {
+        return false;
+    }
+    header::flash_size(flags) != 0
+}
+
 // Refusal 10.
-pub fn refused(flags: &[u8], flips: &[u16; PARAGRAPHS]) -> bool
+fn is_unsupported(flags: &[u8], flips: &[u16; PARAGRAPHS]) -> bool
     ensures { λ r. ⌜ r ≡ unsupported (now (flags .entry)) (now (flips .entry)) ⌝ }
 {
-    if byte_at(flags, 2) % 4 != 0 {
+    if asks_flash(flags) {
         return true;
     }
     if byte_at(flags, 4) % 2 == 1 {
         return true;
     }
     has_flip(flips)
+}
+
+// Refusal 11.
+fn lacks_ram(flags: &[u8], m: usize) -> bool
+    ensures { λ r. ⌜ r ≡ lacksRam (now (flags .entry)) m ⌝ }
+{
+    if header::jlp_field(flags) == 0 {
+        return false;
+    }
+    m < jlp::RAM_WORDS
+}
+
+// What is refused of flags and flip table, with m words lent.
+pub fn refused(flags: &[u8], flips: &[u16; PARAGRAPHS], m: usize) -> Refusal
+    ensures { λ r. ⌜ r ≡ tablesRefusal (now (flags .entry)) (now (flips .entry)) m ⌝ }
+{
+    if is_unsupported(flags, flips) {
+        return basics::refuse(10, 0);
+    }
+    if lacks_ram(flags, m) {
+        return basics::refuse(11, 0);
+    }
+    basics::no_refusal()
 }

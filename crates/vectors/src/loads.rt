@@ -1,4 +1,4 @@
-// A case of the families load and machine: an image loaded, and accesses on what was loaded.
+// A case of the families load, machine and jlp: an image loaded, and accesses on what was loaded.
 use crate::digest::digest_tables;
 use crate::digest::digest_words;
 use crate::fill::take_bytes;
@@ -133,11 +133,38 @@ pub struct Ran {
     pub next: usize,
 }
 
+// How many words the accesses are lent: a number at its place in the record, where there is one, or all that the load was lent.
+struct Lent {
+    words: usize,
+    next: usize,
+}
+
+fn lent_by(rec: &[u8], at: usize, all: usize, said: bool) -> Lent {
+    if said {
+        return Lent {
+            words: get32(rec, at),
+            next: after(at, 4),
+        };
+    }
+    Lent {
+        words: all,
+        next: at,
+    }
+}
+
 // The record's accesses on an image of n bytes, loaded into the record's RAM.
-pub fn run_image(rec: &[u8], at: usize, image: &[u8], n: usize, ram: &mut [u16]) -> Ran {
+pub fn run_image(
+    rec: &[u8],
+    at: usize,
+    said: bool,
+    image: &[u8],
+    n: usize,
+    ram: &mut [u16],
+) -> Ran {
     let w = take_words(rec, at, ram);
     let l = load_in(image, n, ram, w.n);
-    let p = play_in(rec, w.next, l.cartridge, ram, w.n);
+    let k = lent_by(rec, w.next, w.n, said);
+    let p = play_in(rec, k.next, l.cartridge, ram, k.words);
     let cartridge = p.cartridge;
     let r = l.refusal;
     Ran {
@@ -148,7 +175,15 @@ pub fn run_image(rec: &[u8], at: usize, image: &[u8], n: usize, ram: &mut [u16])
     }
 }
 
-// Accesses after a load: each answer, the active tables, the RAM, and the readable paragraphs.
+// The readable paragraphs, and whether the accelerators are on; with these the record ends.
+fn state_ends(rec: &[u8], at: usize, k: usize, c: Cartridge) -> bool {
+    let j = c.jlp;
+    let on = has8(rec, at, after(k, 2), if j.on { 1 } else { 0 });
+    let readable = get16(rec, after(at, k)) == c.readable as usize;
+    both(both(readable, on), ends(rec, after(at, k), 3))
+}
+
+// Accesses after a load: each answer, the active tables, the RAM, the readable paragraphs, and the accelerators.
 pub fn machine_agrees(
     rec: &[u8],
     ieee: &[u32; 2048],
@@ -157,12 +192,12 @@ pub fn machine_agrees(
     ram: &mut [u16],
 ) -> bool {
     let f = take_bytes(rec, 4, image);
-    let r = run_image(rec, f.next, image, f.n, ram);
+    let r = run_image(rec, f.next, true, image, f.n, ram);
     let at = r.next;
     let tables = same_active(get32(rec, at), ieee, r.cartridge, scratch);
     let stored = same_ram(get32(rec, after(at, 4)), ieee, ram, r.words, scratch);
     both(
         both(r.good, tables),
-        both(stored, readable_ends(rec, at, 8, r.cartridge)),
+        both(stored, state_ends(rec, at, 8, r.cartridge)),
     )
 }

@@ -22,13 +22,14 @@ pub enum Family {
     Load,
     Card,
     Machine,
+    Jlp,
     Write,
     Cfg,
     Build,
     Bus,
 }
 
-const FAMILIES: usize = 8;
+const FAMILIES: usize = 9;
 
 // Room for any family's file, any image or buffer, and any RAM.
 fn byte_room() -> [u8; 1048600]
@@ -58,6 +59,7 @@ fn agrees(
         Family::Load => loads::load_agrees(rec, ieee, a, b, ram),
         Family::Card => card::card_agrees(rec, ieee, a, b, ram),
         Family::Machine => loads::machine_agrees(rec, ieee, a, b, ram),
+        Family::Jlp => loads::machine_agrees(rec, ieee, a, b, ram),
         Family::Write => writes::write_agrees(rec, ieee, a, b, ram),
         Family::Cfg => titles::build_agrees(rec, ieee, a, cfg, b),
         Family::Build => titles::build_agrees(rec, ieee, a, cfg, b),
@@ -103,6 +105,7 @@ fn put_name(family: Family, out: &mut [u8]) -> usize {
         Family::Load => fill::put(out, 0, b"load"),
         Family::Card => fill::put(out, 0, b"card"),
         Family::Machine => fill::put(out, 0, b"machine"),
+        Family::Jlp => fill::put(out, 0, b"jlp"),
         Family::Write => fill::put(out, 0, b"write"),
         Family::Cfg => fill::put(out, 0, b"cfg"),
         Family::Build => fill::put(out, 0, b"build"),
@@ -140,9 +143,10 @@ fn family_of(k: usize) -> Family {
         1 => Family::Load,
         2 => Family::Card,
         3 => Family::Machine,
-        4 => Family::Write,
-        5 => Family::Cfg,
-        6 => Family::Build,
+        4 => Family::Jlp,
+        5 => Family::Write,
+        6 => Family::Cfg,
+        7 => Family::Build,
         _ => Family::Bus,
     }
 }

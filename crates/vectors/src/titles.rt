@@ -92,7 +92,7 @@ pub fn bus_agrees(
     ram: &mut [u16],
 ) -> bool {
     let x = press(rec, bin, cfg, image);
-    let r = run_image(rec, x.next, image, x.length, ram);
+    let r = run_image(rec, x.next, false, image, x.length, ram);
     let stored = same_ram(get32(rec, r.next), ieee, ram, r.words, image);
     both(
         both(x.good, r.good),

@@ -37,7 +37,9 @@ struct Given {
 
 fn take_given(rec: &[u8], room: &mut [u8], ram: &mut [u16]) -> Given {
     let t = take_bytes(rec, 28, room);
-    let cartridge = tables::cartridge_of(front(room, t.n));
+    let flags = flags_of(rec);
+    let field = header::jlp_field(&flags);
+    let cartridge = tables::cartridge_of(field, front(room, t.n));
     let w = take_laid(rec, t.next, ram);
     let m = take_bytes(rec, w.next, room);
     let marks = marks_of(front(room, m.n));

@@ -12,7 +12,9 @@ use Rattle.basics.specs.Counts.{count}
 use Rattle.basics.specs.Laws.Counts.{count-below, any-nothing}
 use Rattle.places.specs.Limits.{locutusParagraphs, imageLimit}
 use Rattle.switches.specs.Flips.{PFE}
-use Rattle.tables.specs.Tables.{unsupported, flipsOne}
+use Rattle.basics.specs.Rows.{Silent}
+use Rattle.tables.specs.Tables.{unsupported, tablesRows, flipsOne}
+use Rattle.tables.specs.Laws.Refusals.{field-none}
 use Rattle.hunk.specs.Hunk.{Hunk}
 use Rattle.save.specs.Chosen.{chosen, paragraphHunk, hunkBlock, imageFor, Sized}
 use Rattle.save.specs.Laws.Chosen.{Lies, chosen-each, length-chosen, hunk-block-most, length-sized}
@@ -71,8 +73,12 @@ module _ (bin cfg : List ℕ) (lines : List Line) where
         let e : flipEntry lines ((16 + y) / 16) ((16 + y) % 16) ≡ 0 = unflipped (good accepted) ((16 + y) / 16) ((16 + y) % 16) (omega arith) in
         rw (flip-entry lines (16 + y) (omega arith), e)
 
-    pub supported : unsupported flagBytes (flipTable lines) ≡ false
+    fine : unsupported flagBytes (flipTable lines) ≡ false
     unfolding unsupported
-    supported =
+    fine =
         let f : flipsOne (flipTable lines) ≡ false = any-nothing 16 _ unset in
         rw f
+
+    -- and no JLP field, so that any number of words may be lent
+    pub supported : (m : ℕ) → Silent (tablesRows flagBytes (flipTable lines) m)
+    supported m = field-none flagBytes (flipTable lines) m refl fine

@@ -16,10 +16,11 @@ use Rattle.basics.specs.Laws.Lists.{length-laid, laid-in}
 use Rattle.basics.specs.Laws.Tables.{table-same, getD-table}
 use Rattle.basics.specs.Laws.Tests.{cases, and-left, true-is-not-false, and-right}
 use Rattle.basics.specs.Laws.Counts.{Place, any-at}
+use Rattle.basics.specs.Laws.Refusals.{silent-behind}
 use Rattle.basics.specs.Laws.Puts.{put-room}
 use Rattle.places.specs.Places.{console}
 use Rattle.places.specs.Limits.{locutusParagraphs, lent, imageLimit, pageLimit, pageSize, pageParagraphs, paragraphSize}
-use Rattle.tables.specs.Tables.{tables}
+use Rattle.tables.specs.Tables.{tables, tablesRows}
 use Rattle.save.specs.declared.Writing.{Writing}
 use Rattle.save.specs.Chosen.{imageFor}
 use Rattle.save.specs.Writing.{Content, content, paragraphOf, isMarked, marked, pastLent, imageBy, refusalOf, answerFor, writingOf, writtenOf}
@@ -28,7 +29,7 @@ use Rattle.lines.specs.declared.Line.{Line}
 use Rattle.rules.specs.Accepted.{Accepted}
 use Rattle.layout.specs.declared.Drawing.{Drawing}
 use Rattle.layout.specs.Drawing.{ramOf, wordAt, drawingOf}
-use Rattle.layout.specs.Layout.{covered, needed, pages, paragraphWords, writtenOf as wordOf, lineHeld, paragraphHeld}
+use Rattle.layout.specs.Layout.{flipTable, covered, needed, pages, paragraphWords, writtenOf as wordOf, lineHeld, paragraphHeld}
 use Rattle.rules.specs.Laws.Rules.{good}
 use Rattle.plan.specs.Laws.Pages.{pages-limit}
 use Rattle.layout.specs.Laws.Uses.{covered-below, covered-inside}
@@ -98,7 +99,8 @@ module _ (bin : List ℕ) (lines : List Line) (accepted : Accepted bin lines) (r
     refusal : refusalOf out given ≡ cond (ltb (length out) (length image)) (refuse 29 0) noRefusal
     unfolding refusalOf
     refusal =
-        rw (supported bin cfg lines accepted, inside, image-is, le-ltb imageLimit (length image) (within-limit bin cfg lines accepted))
+        silent-behind (tablesRows flagBytes (flipTable lines) (lent ram)) _ (supported bin cfg lines accepted (lent ram))
+        ∙ rw (inside, image-is, le-ltb imageLimit (length image) (within-limit bin cfg lines accepted))
 
     writing : writingOf out given ≡ answerFor (cond (ltb (length out) (length image)) (refuse 29 0) noRefusal) (length image)
     unfolding writingOf

@@ -1,25 +1,26 @@
--- `cart::source_of` meets its contract: each return has decided the tests of `silent`.
+-- `cart::source_of` meets its contract: off, outside of the window, and in it.
 use borrow.Author.Needs.{needs}
-use Rattle.basics.specs.Laws.Tests.{tests}
-use Rattle.cart.specs.Reads.{silent}
+use Rattle.cart.specs.Laws.Reads.{sources}
 use Rattle.cart.proofs.source_of.Statement.{statement}
 use Rattle.cart.proofs.source_of.Tie as tie
 
 returns : tie.Need-returns
-unfolding silent
-returns c = search tests
+returns c = search sources
 
 returns-2 : tie.Need-returns-2
-unfolding silent
-returns-2 c = search tests
+returns-2 c = search sources
 
 returns-3 : tie.Need-returns-3
-unfolding silent
-returns-3 c = search tests
-
-returns-4 : tie.Need-returns-4
-unfolding silent
-returns-4 c = search (tests, c .cell-at .ensures)
+returns-3 c = search sources
 
 pub source-of-spec : {M : Type 1} → statement M
-source-of-spec = tie.close (tie.spec returns returns-2 returns-3 (λ c κs. search needs) returns-4)
+source-of-spec =
+    tie.close
+    (tie.spec
+    (λ c κs. search needs)
+    returns
+    (λ c κs. search needs)
+    (λ c κs. search needs)
+    returns-2
+    (λ c κs. search needs)
+    returns-3)

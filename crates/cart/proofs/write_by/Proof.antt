@@ -13,6 +13,9 @@ returns-2 c = search writes
 returns-3 : tie.Need-returns-3
 returns-3 c = search writes
 
+returns-4 : tie.Need-returns-4
+returns-4 c = search writes
+
 pub write-by-spec : {M : Type 1} → statement M
 write-by-spec =
     tie.close
@@ -21,10 +24,12 @@ write-by-spec =
     (λ c. search needs)
     (λ c κs. search needs)
     (λ c. search needs)
+    (λ c. search needs)
     (λ c κs. search needs)
     (λ c. search needs)
     (λ c κs. search needs)
+    (λ c. search needs)
     returns
     returns-2
-    (λ c. search needs)
-    returns-3)
+    returns-3
+    returns-4)

@@ -17,13 +17,17 @@ use Rattle.switches.specs.Flips.{Active, asks, PFE, acts, firstK, flipMapping, 
 use Rattle.switches.specs.Banks.{halfPageParagraphs, registerAt, banked, numberFrom}
 use Rattle.switches.specs.Laws.Flips.{first-small, turned-in, turned-out}
 use Rattle.switches.specs.Laws.Banks.{getD-past, switched-in, switched-out}
+use Rattle.jlp.specs.declared.Jlp.{Jlp}
+use Rattle.jlp.specs.Window.{inRam}
+use Rattle.jlp.specs.Accelerators.{takes}
 use Rattle.cart.specs.declared.Taker.{Taker}
-use Rattle.cart.specs.declared.Taker.the-variants.{Bank, Flip, Ram}
-use Rattle.cart.specs.Cells.{cellAt}
-use Rattle.cart.specs.Writes.{bankTaker, flipTaker, takerOf, leftBy, leaves, assignedBy, assigned}
+use Rattle.cart.specs.declared.Taker.the-variants.{Accelerators, Bank, Flip, Ram}
+use Rattle.cart.specs.Cells.{cellAt, windowCell}
+use Rattle.cart.specs.Writes.{windowTaker, jlpTaker, bankTaker, flipTaker, mappedTaker, takerOf, leftBy, leaves, assignedBy, assigned}
 
 -- the first paragraph that a taker assigns; with `assignedBy` it says which
 abbrev pub firstBy : Taker → ℕ
+firstBy Accelerators = 0
 firstBy (Bank q first) = halfPageParagraphs * (q / halfPageParagraphs)
 firstBy (Flip n) = flipFrom n
 firstBy (Ram c) = 0
@@ -34,19 +38,21 @@ inReach t p = leb (firstBy t) p && ltb p (firstBy t + assignedBy t)
 
 -- what p's mapping entry is then given
 abbrev pub givenTo : Taker → List ℕ → ℕ → ℕ
+givenTo Accelerators flips p = 0
 givenTo (Bank q first) flips p = numberFrom first (p % halfPageParagraphs)
 givenTo (Flip n) flips p = flipMapping (getD flips n 0) (p % chapterParagraphs)
 givenTo (Ram c) flips p = 0
 
 -- never above 16
 most-by : (t : Taker) → assignedBy t ≤ 16
+most-by Accelerators = omega arith
 most-by (Bank q first) = omega arith
 most-by (Flip n) = omega arith
 most-by (Ram c) = omega arith
 
-pub at-most-16 : (a : Active) (flips : List ℕ) (at : Console) (v : ℕ) → assigned a flips at v ≤ 16
+pub at-most-16 : (j : Jlp) (a : Active) (flips : List ℕ) (at : Console) (v : ℕ) → assigned j a flips at v ≤ 16
 unfolding assigned
-at-most-16 a flips at v = most-by (takerOf a flips at v)
+at-most-16 j a flips at v = most-by (takerOf j a flips at v)
 
 -- outside its reach nothing changes
 pub record Kept (a b : Active) (p : ℕ) : Type 0 where
@@ -54,6 +60,7 @@ pub record Kept (a b : Active) (p : ℕ) : Type 0 where
   pub permissions : getD (b .permissions) p 0 ≡ getD (a .permissions) p 0
 
 outside-by : (t : Taker) (a : Active) (flips : List ℕ) (p : ℕ) → (p < firstBy t) ⊎ (firstBy t + assignedBy t ≤ p) → Kept a (leftBy t a flips) p
+outside-by Accelerators a flips p o = record { mapping = refl; permissions = refl }
 outside-by (Bank q first) a flips p o =
     record { mapping = switched-out (q / halfPageParagraphs) first (a .mapping) p (apart o); permissions = refl }
   where
@@ -71,25 +78,26 @@ outside-by (Flip n) a flips p o =
     below (inr l) e = absurd (omega (arith, first-small (n / chapterPages)))
 outside-by (Ram c) a flips p o = record { mapping = refl; permissions = refl }
 
-pub outside : (a : Active) (flips : List ℕ) (at : Console) (v p : ℕ)
-    → (p < firstBy (takerOf a flips at v)) ⊎ (firstBy (takerOf a flips at v) + assigned a flips at v ≤ p) → Kept a (leaves a flips at v) p
+pub outside : (j : Jlp) (a : Active) (flips : List ℕ) (at : Console) (v p : ℕ)
+    → (p < firstBy (takerOf j a flips at v)) ⊎ (firstBy (takerOf j a flips at v) + assigned j a flips at v ≤ p) → Kept a (leaves j a flips at v) p
 unfolding leaves assigned
-outside a flips at v p o = outside-by (takerOf a flips at v) a flips p o
+outside j a flips at v p o = outside-by (takerOf j a flips at v) a flips p o
 
 -- within its reach each entry is assigned, whatever it held
 inside-by : (t : Taker) (a : Active) (flips : List ℕ) (p : ℕ) → p < length (a .mapping) → firstBy t ≤ p → p < firstBy t + assignedBy t
     → getD (leftBy t a flips .mapping) p 0 ≡ givenTo t flips p
+inside-by Accelerators a flips p s l h = absurd (omega arith)
 inside-by (Bank q first) a flips p s l h = switched-in (q / halfPageParagraphs) first (a .mapping) p s (omega arith)
 inside-by (Flip n) a flips p s l h =
     let f = first-small (n / chapterPages) in
     turned-in (n / chapterPages) (flipMapping (getD flips n 0)) (a .mapping) p s (omega (arith, f)) (omega (arith, f))
 inside-by (Ram c) a flips p s l h = absurd (omega arith)
 
-pub inside : (a : Active) (flips : List ℕ) (at : Console) (v p : ℕ) → p < length (a .mapping)
-    → firstBy (takerOf a flips at v) ≤ p → p < firstBy (takerOf a flips at v) + assigned a flips at v
-    → getD (leaves a flips at v .mapping) p 0 ≡ givenTo (takerOf a flips at v) flips p
+pub inside : (j : Jlp) (a : Active) (flips : List ℕ) (at : Console) (v p : ℕ) → p < length (a .mapping)
+    → firstBy (takerOf j a flips at v) ≤ p → p < firstBy (takerOf j a flips at v) + assigned j a flips at v
+    → getD (leaves j a flips at v .mapping) p 0 ≡ givenTo (takerOf j a flips at v) flips p
 unfolding leaves assigned
-inside a flips at v p s l h = inside-by (takerOf a flips at v) a flips p s l h
+inside j a flips at v p s l h = inside-by (takerOf j a flips at v) a flips p s l h
 
 -- as many as reported: a window of n numbers from a on
 module _ (a n : ℕ) where
@@ -155,12 +163,18 @@ flip-fits flips at v next s f =
         let l : n < flipEntries = below n (and-left (PFE (getD flips n 0)) _ e) (compare n flipEntries) in
         rw e (omega (arith, first-small (n / chapterPages)))) (λ e. rw e f)
 
-pub takes-within : (a : Active) (flips : List ℕ) (at : Console) (v : ℕ) → length flips ≡ flipEntries → Fits (takerOf a flips at v)
-takes-within a flips at v s =
-    bank-fits (a .permissions) at v (flipTaker flips (asks at v) (Ram (cellAt a at))) (flip-fits flips at v (Ram (cellAt a at)) s (omega arith))
+jlp-fits : (j : Jlp) (at : Console) (v : ℕ) (next : Taker) → Fits next → Fits (jlpTaker j at v next)
+jlp-fits j at v next f =
+    fits-by (takes j at v) (windowTaker at) next
+    (fits-by (inRam at) (Ram (windowCell at)) Accelerators (omega arith) (omega arith)) f
 
-pub counted : (a : Active) (flips : List ℕ) (at : Console) (v : ℕ) → length flips ≡ flipEntries
-    → count (inReach (takerOf a flips at v)) paragraphs ≡ assigned a flips at v
+pub takes-within : (j : Jlp) (a : Active) (flips : List ℕ) (at : Console) (v : ℕ) → length flips ≡ flipEntries → Fits (takerOf j a flips at v)
+takes-within j a flips at v s =
+    jlp-fits j at v (mappedTaker a flips at v)
+    (bank-fits (a .permissions) at v (flipTaker flips (asks at v) (Ram (cellAt a at))) (flip-fits flips at v (Ram (cellAt a at)) s (omega arith)))
+
+pub counted : (j : Jlp) (a : Active) (flips : List ℕ) (at : Console) (v : ℕ) → length flips ≡ flipEntries
+    → count (inReach (takerOf j a flips at v)) paragraphs ≡ assigned j a flips at v
 unfolding assigned
-counted a flips at v s =
-    window-count (firstBy (takerOf a flips at v)) (assignedBy (takerOf a flips at v)) paragraphs (takes-within a flips at v s)
+counted j a flips at v s =
+    window-count (firstBy (takerOf j a flips at v)) (assignedBy (takerOf j a flips at v)) paragraphs (takes-within j a flips at v s)

@@ -18,7 +18,7 @@ use Rattle.places.specs.Limits.{paragraphs, flipEntries}
 use Rattle.switches.specs.Flips.{Active, flipFrom, flipSize, flipPermissions, turned, flipped}
 use Rattle.cart.specs.declared.Cartridge.{Cartridge}
 use Rattle.cart.specs.declared.Taker.{Taker}
-use Rattle.cart.specs.declared.Taker.the-variants.{Bank, Flip, Ram}
+use Rattle.cart.specs.declared.Taker.the-variants.{Accelerators, Bank, Flip, Ram}
 use Rattle.cart.specs.Cells.{READ}
 use Rattle.cart.specs.Readable.{readableIn, readableOf, recounted}
 use Rattle.cart.specs.Writes.{takerOf, leftBy, readableBy, leaves, leavesReadable}
@@ -97,6 +97,7 @@ module _ (m : List ℕ) (a n : ℕ) (w : ℕ → ℕ) (h : a + n ≤ paragraphs)
 kept-by : (t : Taker) (a : Active) (flips : List ℕ) (kept : ℕ) → Fits t → kept ≡ readableOf (a .permissions)
     → readableBy t a flips kept ≡ readableOf (leftBy t a flips .permissions)
 unfolding turned
+kept-by Accelerators a flips kept f e = e
 kept-by (Bank p first) a flips kept f e = e
 kept-by (Flip n) a flips kept f e = part-recounted (a .permissions) (flipFrom n) (flipSize n) _ f kept e
 kept-by (Ram c) a flips kept f e = e
@@ -106,8 +107,8 @@ pub record Counted (c : Cartridge) : Type 0 where
   pub readable : c .readable ≡ readableOf (c .permissions)
   pub flips-long : length (c .flips) ≡ flipEntries
 
-pub fresh-counted : (mapping permissions flips : List ℕ) → length flips ≡ flipEntries → Counted (fresh mapping permissions flips)
-fresh-counted mapping permissions flips l = record { readable = refl; flips-long = l }
+pub fresh-counted : (field : ℕ) (mapping permissions flips : List ℕ) → length flips ≡ flipEntries → Counted (fresh field mapping permissions flips)
+fresh-counted field mapping permissions flips l = record { readable = refl; flips-long = l }
 
 step-counted : (w : World) (x : Access) → Counted (w .cartridge) → Counted (step w x .cartridge)
 unfolding leaves leavesReadable
@@ -115,7 +116,7 @@ step-counted w (Read a) k = k
 step-counted w (Write a v) k =
     let c = w .cartridge in
     record {
-      readable = kept-by (takerOf (activeOf c) (c .flips) a v) (activeOf c) (c .flips) (c .readable) (takes-within (activeOf c) (c .flips) a v (k .flips-long)) (k .readable);
+      readable = kept-by (takerOf (c .jlp) (activeOf c) (c .flips) a v) (activeOf c) (c .flips) (c .readable) (takes-within (c .jlp) (activeOf c) (c .flips) a v (k .flips-long)) (k .readable);
       flips-long = k .flips-long;
     }
 step-counted w Reset k = record { readable = refl; flips-long = k .flips-long }

@@ -15,12 +15,15 @@ use Rattle.switches.specs.declared.Request.{Request}
 use Rattle.switches.specs.declared.Request.the-variants.{Entry, Nothing}
 use Rattle.switches.specs.Flips.{Active, asks, acts}
 use Rattle.switches.specs.Banks.{registerAt, banked}
+use Rattle.jlp.specs.declared.Jlp.{Jlp}
+use Rattle.jlp.specs.Window.{inRam}
+use Rattle.jlp.specs.Accelerators.{takes}
 use Rattle.cart.specs.declared.Cell.{Cell}
 use Rattle.cart.specs.declared.Taker.{Taker}
-use Rattle.cart.specs.declared.Taker.the-variants.{Bank, Flip, Ram}
-use Rattle.cart.specs.Cells.{cellAt}
+use Rattle.cart.specs.declared.Taker.the-variants.{Accelerators, Bank, Flip, Ram}
+use Rattle.cart.specs.Cells.{cellAt, windowCell}
 use Rattle.cart.specs.Code.Takers.{bankedOnly, actingOnly}
-use Rattle.cart.specs.Writes.{storedWord, stored, bankTaker, flipTaker, takerOf, leftBy, ramBy, assignedBy, readableBy, leaves, leavesRam, assigned, leavesReadable}
+use Rattle.cart.specs.Writes.{storedWord, stored, windowTaker, bankTaker, flipTaker, mappedTaker, takerOf, leftBy, ramBy, assignedBy, readableBy, leaves, leavesRam, assigned, leavesReadable}
 
 -- shut by its rights; past the n words that are lent; open, to the word w
 module _ (c : Cell) (ram : List ℕ) (v : ℕ) where
@@ -95,13 +98,31 @@ module _ (a : Active) (flips : List ℕ) (at : Console) (v : ℕ) where
     flip-passes c f g = ap (λ (d : Cell). Ram d) g ∙ flip-past flips (asks at v) (Ram (cellAt a at)) q e f
 
   module _ (q : Register) (e : q ≡ bankedOnly (a .permissions) (registerAt at)) where
-    pub bank-takes : (h : ℕ) → q ≡ HalfPage h → Bank h (v % 256) ≡ takerOf a flips at v
+    pub bank-takes : (h : ℕ) → q ≡ HalfPage h → Bank h (v % 256) ≡ mappedTaker a flips at v
     bank-takes h f = bank-by (a .permissions) (registerAt at) v _ q e h f
 
-    pub bank-passes : (t : Taker) → q ≡ Elsewhere → t ≡ flipTaker flips (asks at v) (Ram (cellAt a at)) → t ≡ takerOf a flips at v
+    pub bank-passes : (t : Taker) → q ≡ Elsewhere → t ≡ flipTaker flips (asks at v) (Ram (cellAt a at)) → t ≡ mappedTaker a flips at v
     bank-passes t f g = g ∙ bank-past (a .permissions) (registerAt at) v _ q e f
 
 pub ruleset takers = (flip-takes, flip-passes, bank-takes, bank-passes)
+
+-- in the window, the RAM and the registers
+module _ (at : Console) (b : Bool) (e : b ≡ inRam at) where
+  pub window-ram : (c : Cell) → b ≡ true → c ≡ windowCell at → Ram c ≡ windowTaker at
+  window-ram c t h = rw (← e, t, h)
+
+  pub window-registers : b ≡ false → Accelerators ≡ windowTaker at
+  window-registers t = rw (← e, t)
+
+-- a write that the accelerators take, and one that they pass on
+module _ (j : Jlp) (a : Active) (flips : List ℕ) (at : Console) (v : ℕ) (b : Bool) (e : b ≡ takes j at v) where
+  pub jlp-takes : (t : Taker) → b ≡ true → t ≡ windowTaker at → t ≡ takerOf j a flips at v
+  jlp-takes t f g = rw (← e, f, g)
+
+  pub jlp-passes : (t : Taker) → b ≡ false → t ≡ mappedTaker a flips at v → t ≡ takerOf j a flips at v
+  jlp-passes t f g = rw (← e, f) g
+
+pub ruleset accelerates = (window-ram, window-registers, jlp-takes, jlp-passes)
 
 -- what a taker leaves and answers, by the case w that the code has found it to be
 module _ (t w : Taker) (e : t ≡ w) where
@@ -120,25 +141,25 @@ module _ (t w : Taker) (e : t ≡ w) where
 pub ruleset shifts = (shift-assigned, shift-readable, shift-mapping, shift-permissions)
 
 -- one law for every taker w, of each thing that a write leaves
-module _ (a : Active) (flips : List ℕ) (at : Console) (v : ℕ) (t w : Taker) (h : t ≡ takerOf a flips at v) (e : t ≡ w) where
-  pub by-mapping : (x : List ℕ) → x ≡ leftBy w a flips .mapping → x ≡ leaves a flips at v .mapping
+module _ (j : Jlp) (a : Active) (flips : List ℕ) (at : Console) (v : ℕ) (t w : Taker) (h : t ≡ takerOf j a flips at v) (e : t ≡ w) where
+  pub by-mapping : (x : List ℕ) → x ≡ leftBy w a flips .mapping → x ≡ leaves j a flips at v .mapping
   unfolding leaves
   by-mapping x g = rw (← h, e, g)
 
-  pub by-permissions : (x : List ℕ) → x ≡ leftBy w a flips .permissions → x ≡ leaves a flips at v .permissions
+  pub by-permissions : (x : List ℕ) → x ≡ leftBy w a flips .permissions → x ≡ leaves j a flips at v .permissions
   unfolding leaves
   by-permissions x g = rw (← h, e, g)
 
-  pub by-ram : (ram x : List ℕ) → x ≡ ramBy w ram v → x ≡ leavesRam a flips ram at v
+  pub by-ram : (ram x : List ℕ) → x ≡ ramBy w ram v → x ≡ leavesRam j a flips ram at v
   unfolding leavesRam
   by-ram ram x g = rw (← h, e, g)
 
-  pub by-assigned : (x : ℕ) → x ≡ assignedBy w → x ≡ assigned a flips at v
-  unfolding assigned
-  by-assigned x g = rw (← h, e, g)
-
-  pub by-readable : (kept x : ℕ) → x ≡ readableBy w a flips kept → x ≡ leavesReadable a flips kept at v
+  pub by-readable : (kept x : ℕ) → x ≡ readableBy w a flips kept → x ≡ leavesReadable j a flips kept at v
   unfolding leavesReadable
   by-readable kept x g = rw (← h, e, g)
 
-pub ruleset writes = (by-mapping, by-permissions, by-ram, by-assigned, by-readable)
+  pub by-assigned : (x : ℕ) → x ≡ assignedBy w → x ≡ assigned j a flips at v
+  unfolding assigned
+  by-assigned x g = rw (← h, e, g)
+
+pub ruleset writes = (by-mapping, by-permissions, by-ram, by-readable, by-assigned)

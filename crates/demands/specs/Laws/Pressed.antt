@@ -50,14 +50,14 @@ module _ (bin cfg out : List ℕ) (accepts : builds bin cfg out ≡ true) (ram :
   unfolding pressedImage
   loads-as =
       load-chosen flagBytes (uidOf bin cfg) (tablesFor lines) (covered lines) (paragraphWords bin lines) ram (sized bin cfg lines)
-      (within-limit bin cfg lines accepted) (supported bin cfg lines accepted) (lie bin cfg lines (lent ram) inside)
+      (within-limit bin cfg lines accepted) (supported bin cfg lines accepted (lent ram)) (lie bin cfg lines (lent ram) inside)
 
   -- and none like it is shorter
   smallest-as : (other : List ℕ) → Alike (pressedImage bin cfg) other ram → length (pressedImage bin cfg) ≤ length other
   unfolding pressedImage
   smallest-as =
       chosen-smallest flagBytes (uidOf bin cfg) (tablesFor lines) (covered lines) (paragraphWords bin lines) ram (sized bin cfg lines)
-      (within-limit bin cfg lines accepted) (supported bin cfg lines accepted) (lie bin cfg lines (lent ram) inside)
+      (within-limit bin cfg lines accepted) (supported bin cfg lines accepted (lent ram)) (lie bin cfg lines (lent ram) inside)
 
   words-there : Loaded bin lines (loadRamOf (pressedImage bin cfg) ram)
   words-there =
@@ -118,7 +118,7 @@ module _ (p : Pressing) (q : Pressed p) (accepts : p .building .refusal .number 
     pressed-loads =
         ap (λ (x : Loading). x .refusal) (loading-is ∙ loads-as (p .bin) (p .cfg) (p .out) it-builds (p .ram) room-there .answer)
 
-    pub pressed-tables : p .loading .cartridge ≡ cartridgeWith (tablesFor (entriesOf (p .cfg)))
+    pub pressed-tables : p .loading .cartridge ≡ cartridgeWith 0 (tablesFor (entriesOf (p .cfg)))
     pressed-tables =
         ap (λ (x : Loading). x .cartridge) (loading-is ∙ loads-as (p .bin) (p .cfg) (p .out) it-builds (p .ram) room-there .answer)
 

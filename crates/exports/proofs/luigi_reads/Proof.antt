@@ -11,11 +11,11 @@ use Rattle.exports.proofs.luigi_reads.Statement.{statement}
 use Rattle.exports.proofs.luigi_reads.Tie as tie
 
 abbrev Inv-loop : tie.InvT-loop
-Inv-loop mapping permissions ram at out₀ i₀ i-end out i =
-    (i ≤ i-end) × (i-end ≤ length at) × (i-end ≤ length out) × (length out ≡ length out₀) × (out ≡ answered mapping permissions ram at i out₀)
+Inv-loop mapping permissions accelerators ram at out₀ j i₀ i-end out i =
+    (i ≤ i-end) × (i-end ≤ length at) × (i-end ≤ length out) × (length out ≡ length out₀) × (out ≡ answered j mapping permissions ram at i out₀)
 
 abbrev μ-loop : tie.MeasureT-loop
-μ-loop mapping permissions ram at out₀ i₀ i-end out i = i-end - i
+μ-loop mapping permissions accelerators ram at out₀ j i₀ i-end out i = i-end - i
 
 loop-holds : tie.Need-loop-holds Inv-loop μ-loop
 loop-holds c = search (needs, c .least .ensures, min-le-left, min-le-right, answered-none)
@@ -26,7 +26,7 @@ loop-again c = search (needs, answered-one)
 returns : tie.Need-returns Inv-loop μ-loop
 returns c =
     let n : c .before .loop .i ≡ c .before .before .least .result = omega arith in
-    rw (← c .before .before .least .ensures, ← n) (c .before .loop .inv .4)
+    rw (← c .before .before .least .ensures, ← n) (rw (c .before .before .before .jlp-from .ensures) at (c .before .loop .inv .4))
 
 pub luigi-reads-spec : {M : Type 1} → statement M
 luigi-reads-spec =
@@ -34,6 +34,7 @@ luigi-reads-spec =
     (tie.spec
     Inv-loop
     μ-loop
+    (λ c κs. search needs)
     (λ c κs. search needs)
     loop-holds
     (λ c. search needs)

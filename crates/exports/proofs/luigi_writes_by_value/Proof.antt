@@ -13,11 +13,11 @@ use Rattle.exports.proofs.luigi_writes_by_value.Statement.{statement}
 use Rattle.exports.proofs.luigi_writes_by_value.Tie as tie
 
 abbrev Inv-loop : tie.InvT-loop
-Inv-loop mapping permissions flips ram₀ at value c₀ i₀ i-end ram c i =
+Inv-loop mapping permissions flips field ram₀ at value c₀ i₀ i-end ram c i =
     (i ≤ i-end) × (i-end ≤ length at) × (i-end ≤ length value) × (length ram ≡ length ram₀) × (c ≡ written c₀ ram₀ at value i .cartridge) × (ram ≡ written c₀ ram₀ at value i .ram)
 
 abbrev μ-loop : tie.MeasureT-loop
-μ-loop mapping permissions flips ram₀ at value c₀ i₀ i-end ram c i = i-end - i
+μ-loop mapping permissions flips field ram₀ at value c₀ i₀ i-end ram c i = i-end - i
 
 loop-holds : tie.Need-loop-holds Inv-loop μ-loop
 loop-holds c = (

@@ -1,9 +1,8 @@
--- `load::finish` meets its contract: refused by 10, or stored and answered.
+-- `load::finish` meets its contract: refused by 10 or 11, or stored and answered.
 use Rattle.load.proofs.Laws.{refused-answer, refused-ram, loaded-answer, loaded-ram}
 use borrow.Author.Needs.{needs}
 use Rattle.load.proofs.finish.Statement.{statement}
 use Rattle.load.proofs.finish.Tie as tie
-use Rattle.load.proofs.refuse.Reads as refuse-reads′
 
 returns : tie.Need-returns
 returns c = (search (needs, refused-answer), search (needs, refused-ram))
@@ -15,18 +14,11 @@ pub finish-spec : {M : Type 1} → statement M
 finish-spec =
     tie.close
     (tie.spec
-    (λ c. search needs)
-    (λ c. search needs)
-    (λ c. search needs)
-    (λ c. search needs)
-    (λ c. search needs)
-    (λ c κs. search needs)
-    (λ c. search needs)
-    (λ c. search needs)
-    (λ c. search needs)
     (λ c κs. search needs)
     (λ c κs. search needs)
     (λ c κs. search needs)
+    (λ c κs. search needs)
+    (λ c. search needs)
     returns
     (λ c κs. search needs)
     (λ c κs. search needs)

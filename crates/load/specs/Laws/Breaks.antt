@@ -60,9 +60,10 @@ header-other s (later a (here b)) n = omega arith
 header-other s (later a (later b (here c))) n = omega arith
 header-other s (later a (later b (later c (here d)))) n = omega arith
 
-tables-other : {r : Refusal} (flags : List ℕ) (t : Tables) → Gives (tablesRows flags t) r → r .number ≡ 9 → ⊥
+tables-other : {r : Refusal} (flags flips : List ℕ) (m : ℕ) → Gives (tablesRows flags flips m) r → r .number ≡ 9 → ⊥
 unfolding tablesRows
-tables-other flags t (here a) n = omega arith
+tables-other flags flips m (here a) n = omega arith
+tables-other flags flips m (later a (here b)) n = omega arith
 
 end-other : {r : Refusal} (a b : Bool) (p q : ℕ) → Gives ((a, refuse 5 p) ∷ (b, refuse 8 q) ∷ []) r → r .number ≡ 9 → ⊥
 end-other a b p q (here e) n = omega arith
@@ -157,11 +158,11 @@ module _ (s : List ℕ) (m at : ℕ) where
       in-walk h (inl g) = by-block h (in-block m false firstBlock (blocksIn s) g)
       in-walk h (inr q) = absurd (end-other _ _ _ _ (q .1) refl)
 
-      in-rest : Silent (headerRows s) → (Gives (walkRows s m) (refuse 9 at)) ⊎ ((Silent (walkRows s m)) × (Gives (tablesRows (flagsOf s) (tablesIn (payloadOfTables (blocksIn s)))) (refuse 9 at))) → HunkBreaks s m at
+      in-rest : Silent (headerRows s) → (Gives (walkRows s m) (refuse 9 at)) ⊎ ((Silent (walkRows s m)) × (Gives (tablesRows (flagsOf s) (tablesIn (payloadOfTables (blocksIn s)) .flips) m) (refuse 9 at))) → HunkBreaks s m at
       in-rest h (inl g) = in-walk h (gives-cases (judgeAll m false firstBlock (blocksIn s)) _ g)
-      in-rest h (inr q) = absurd (tables-other _ _ (q .1) refl)
+      in-rest h (inr q) = absurd (tables-other _ _ _ (q .1) refl)
 
-      in-header : (Gives (headerRows s) (refuse 9 at)) ⊎ ((Silent (headerRows s)) × (Gives (walkRows s m ++ tablesRows (flagsOf s) (tablesIn (payloadOfTables (blocksIn s)))) (refuse 9 at))) → HunkBreaks s m at
+      in-header : (Gives (headerRows s) (refuse 9 at)) ⊎ ((Silent (headerRows s)) × (Gives (walkRows s m ++ tablesRows (flagsOf s) (tablesIn (payloadOfTables (blocksIn s)) .flips) m) (refuse 9 at))) → HunkBreaks s m at
       in-header (inl g) = absurd (header-other s g refl)
       in-header (inr q) = in-rest (q .0) (gives-cases (walkRows s m) _ (q .1))
 

@@ -25,7 +25,7 @@ use Rattle.header.specs.Laws.Refusals.{header-accepted, accepted-length}
 use Rattle.hunk.specs.declared.Checked.{Checked}
 use Rattle.hunk.specs.declared.Checked.the-variants.{Whole, Broken}
 use Rattle.hunk.specs.Hunk.{Hunk, address, wordsOf, checkHunk, storeHunk}
-use Rattle.tables.specs.Tables.{tablesSize, tablesIn, cartridgeOf, tablesRows, unsupported}
+use Rattle.tables.specs.Tables.{tablesSize, tablesIn, tablesRows, tablesRefusal}
 use Rattle.tables.specs.Laws.Refusals.{tables-refusing}
 use Rattle.blocks.specs.Blocks.{typeOf, payloadIn, sizeSaid, isTables, isHunk, Block}
 use Rattle.blocks.specs.Judged.{wrongTables, wrongHunk, judgeRows}
@@ -135,7 +135,7 @@ module _ (s : List ℕ) (m : ℕ) where
     header-silent : Silent (headerRows s)
     header-silent = header-accepted s .0 (rw eh at zero)
 
-    behind-header : refusalOf s m ≡ firstRefusal (walkRows s m ++ tablesRows (flagsOf s) (tablesIn (payloadOfTables (blocksIn s))))
+    behind-header : refusalOf s m ≡ firstRefusal (walkRows s m ++ tablesRows (flagsOf s) (tablesIn (payloadOfTables (blocksIn s)) .flips) m)
     unfolding refusalOf
     behind-header = silent-behind (headerRows s) _ header-silent
 
@@ -164,7 +164,7 @@ module _ (s : List ℕ) (m : ℕ) where
     pub header-enough : 32 ≤ length s
     header-enough = accepted-length s (rw eh at zero) .0
 
-    -- 10, and the answer
+    -- 10 and 11, and the answer
     module _ (v : Verdict) (ev : v ≡ verdictOf s m) (t blocks words : ℕ) (e : v ≡ Loads t blocks words) where
       record Went : Type 0 where
         pub good : firstRefusal (walkRows s m) .number ≡ 0
@@ -190,25 +190,19 @@ module _ (s : List ℕ) (m : ℕ) where
       pub loads-tabled : Tabled s t
       loads-tabled = here .tabled
 
-      abbrev ten : Bool
-      ten = unsupported (flagsOf s) (tablesIn (payloadOfTables (blocksIn s)) .flips)
+      refusal-end : refusalOf s m ≡ tablesRefusal (flagsOf s) (tablesIn (payloadOfTables (blocksIn s)) .flips) m
+      refusal-end = behind-header ∙ silent-behind (walkRows s m) _ walk-quiet
 
-      refusal-ten : refusalOf s m ≡ cond ten (refuse 10 0) noRefusal
-      unfolding tablesRows
-      refusal-ten = behind-header ∙ silent-behind (walkRows s m) _ walk-quiet
-
-      done-answer : (r : Loading) → r ≡ finishedOf s t blocks words → r ≡ loadingOf s m
-      unfolding finishedOf loadingOf cartridgeOf
-      done-answer r er =
-          er ∙ cases ten (λ c. let f = rw c at refusal-ten in rw (here .payload, c, f))
-          (λ c. let f = rw c at refusal-ten in rw (here .payload, c, f, went .counted, went .stored))
+      done-answer : (r : Loading) → r ≡ finishedOf s m t blocks words → r ≡ loadingOf s m
+      unfolding finishedOf loadingOf
+      done-answer r er = er ∙ rw (here .payload, refusal-end, went .counted, went .stored)
 
       done-ram : (ram after : List ℕ) → m ≡ lent ram → after ≡ finishedRamOf s t ram → after ≡ loadRamOf s ram
-      unfolding finishedRamOf loadRamOf cartridgeOf
+      unfolding finishedRamOf loadRamOf
       done-ram ram after em ea =
           let w = walk-silent s m walk-quiet in
-          let g : refusalOf s (lent ram) ≡ cond ten (refuse 10 0) noRefusal = rw (← em) refusal-ten in
-          ea ∙ cases ten (λ c. let f = rw c at g in rw (here .payload, c, f)) (λ c. let f = rw c at g in rw (here .payload, c, f) (stored-over (blocksIn s) m false firstBlock ram em (w .0)))
+          let g : refusalOf s (lent ram) ≡ tablesRefusal (flagsOf s) (tablesIn (payloadOfTables (blocksIn s)) .flips) (lent ram) = rw (← em) refusal-end in
+          ea ∙ rw (here .payload, g, stored-over (blocksIn s) m false firstBlock ram em (w .0))
 
 -- each way out of the load, for the words that are lent
 module _ (s ram : List ℕ) (h : Refusal) (eh : h ≡ headerRefusal s) where
@@ -228,6 +222,6 @@ module _ (s ram : List ℕ) (h : Refusal) (eh : h ≡ headerRefusal s) where
       walk-keeps = walk-ram s m h eh zero v ev r e ram em
 
     module _ (t blocks words : ℕ) (e : v ≡ Loads t blocks words) where
-      pub done-so : (l : Loading) (after : List ℕ) → l ≡ finishedOf s t blocks words → after ≡ finishedRamOf s t ram → (l ≡ loadingOf s (lent ram)) × (after ≡ loadRamOf s ram)
+      pub done-so : (l : Loading) (after : List ℕ) → l ≡ finishedOf s (lent ram) t blocks words → after ≡ finishedRamOf s t ram → (l ≡ loadingOf s (lent ram)) × (after ≡ loadRamOf s ram)
       done-so l after el ea =
-          (rw (← em) (done-answer s m h eh zero v ev t blocks words e l el), done-ram s m h eh zero v ev t blocks words e ram after em ea)
+          (rw (← em) (done-answer s m h eh zero v ev t blocks words e l (rw (← em) at el)), done-ram s m h eh zero v ev t blocks words e ram after em ea)

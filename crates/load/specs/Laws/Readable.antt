@@ -18,7 +18,7 @@ module _ (s : List ℕ) (m : ℕ) where
   loading-counted : Counted (loadingOf s m .cartridge)
   unfolding loadingOf cartridgeOf tablesIn
   loading-counted =
-      cases (loads s m) (λ e. rw e (fresh-counted _ _ _ (length-table paragraphs _))) (λ e. rw e (fresh-counted _ _ _ (length-replicate {A = ℕ} flipEntries 0)))
+      cases (loads s m) (λ e. rw e (fresh-counted _ _ _ _ (length-table paragraphs _))) (λ e. rw e (fresh-counted _ _ _ _ (length-replicate {A = ℕ} flipEntries 0)))
 
   abbrev world : List ℕ → World
   world ram = record { cartridge = loadingOf s m .cartridge; ram = ram }

@@ -40,7 +40,7 @@ walk-refusing s m =
 rows-refusing : (s : List ℕ) (m : ℕ) → Refusing (refusalRows s m)
 rows-refusing s m =
     refusing-append (headerRows s) _ (header-refusing s)
-    (refusing-append (walkRows s m) _ (walk-refusing s m) (tables-refusing (flagsOf s) (tablesIn (payloadOfTables (blocksIn s)))))
+    (refusing-append (walkRows s m) _ (walk-refusing s m) (tables-refusing (flagsOf s) (tablesIn (payloadOfTables (blocksIn s)) .flips) m))
 
 -- the answer's refusal
 module _ (s : List ℕ) (m : ℕ) where
@@ -77,7 +77,7 @@ pub record Accepted (s : List ℕ) (m : ℕ) : Type 0 where
   pub blocks : Silent (judgeAll m false firstBlock (blocksIn s))
   pub ended : isCut s ≡ false
   pub tables : anyTables (blocksIn s) ≡ true
-  pub supported : Silent (tablesRows (flagsOf s) (tablesIn (payloadOfTables (blocksIn s))))
+  pub supported : Silent (tablesRows (flagsOf s) (tablesIn (payloadOfTables (blocksIn s)) .flips) m)
 
 -- by the three tables
 pub walk-silent : (s : List ℕ) (m : ℕ) → Silent (walkRows s m) → (Silent (judgeAll m false firstBlock (blocksIn s))) × ((isCut s ≡ false) × (anyTables (blocksIn s) ≡ true))

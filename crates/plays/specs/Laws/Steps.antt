@@ -17,6 +17,9 @@ use Rattle.switches.specs.declared.Request.the-variants.{Entry}
 use Rattle.switches.specs.Flips.{firstK, asks}
 use Rattle.switches.specs.Banks.{BANKSW}
 use Rattle.switches.specs.Laws.Flips.{first-small}
+use Rattle.jlp.specs.declared.Jlp.{Jlp}
+use Rattle.jlp.specs.Accelerators.{freshJlp, writtenJlp}
+use Rattle.jlp.specs.Laws.Accelerators.{none-written}
 use Rattle.cart.specs.declared.Cartridge.{Cartridge}
 use Rattle.cart.specs.declared.Cell.{Cell}
 use Rattle.cart.specs.declared.Taker.{Taker}
@@ -26,6 +29,7 @@ use Rattle.cart.specs.Reads.{silent, fetched, readBy}
 use Rattle.cart.specs.Writes.{flipTaker, takerOf, storedWord, stored, leaves, leavesRam, leavesReadable}
 use Rattle.cart.specs.Cartridges.{activeOf, readOf, writeOf, writeRamOf}
 use Rattle.cart.specs.Laws.Banks.{ordinary}
+use Rattle.cart.specs.Laws.Jlp.{unaccelerated-taker}
 use Rattle.lines.specs.declared.Line.{Line}
 use Rattle.lines.specs.declared.Width.the-variants.{Sixteen, Eight}
 use Rattle.lines.specs.Lines.{lineAt, layer, isRam}
@@ -123,9 +127,10 @@ module _ {bin : List ℕ} {lines : List Line} (g : Good lines) (c : Cartridge) (
   -- a read
   read-case : (o : Option Line) → shown ≡ o → readOf c ram at ≡ answerBy bin mem o at
   unfolding readBy fetched
-  read-case none e = cases (silent at) (λ s. rw s) (λ s. simp (s, permissions-there, e))
+  read-case none e = cases (silent at) (λ s. simp (t .jlp, s)) (λ s. simp (t .jlp, s, permissions-there, e))
   read-case (some l) e =
       simp (
+        t .jlp,
         permissions-there,
         place-there l e,
         e,
@@ -199,11 +204,17 @@ module _ {bin : List ℕ} {lines : List Line} (g : Good lines) (c : Cartridge) (
   -- a request
   module _ (v : ℕ) where
     abbrev taker : Taker
-    taker = takerOf (activeOf c) (c .flips) at v
+    taker = takerOf (c .jlp) (activeOf c) (c .flips) at v
 
-    -- no bit BANKSW is set, so a bankswitch register is an ordinary address
+    -- there are no accelerators, and no bit BANKSW is set, so a bankswitch register is an ordinary address
     not-switched : taker ≡ flipTaker (c .flips) (asks at v) (Ram reached)
-    not-switched = ordinary (activeOf c) (c .flips) at v (tabled-unbanked g c number t)
+    not-switched =
+        ap (λ (j : Jlp). takerOf j (activeOf c) (c .flips) at v) (t .jlp)
+        ∙ unaccelerated-taker (freshJlp 0) refl refl (activeOf c) at (c .flips) v
+        ∙ ordinary (activeOf c) (c .flips) at v (tabled-unbanked g c number t)
+
+    not-accelerated : writtenJlp (c .jlp) at v ≡ c .jlp
+    not-accelerated = rw (t .jlp) (none-written (freshJlp 0) refl refl at v)
 
     takes-nothing : isRequest at v ≡ false → taker ≡ Ram reached
     unfolding asks
@@ -243,9 +254,9 @@ module _ {bin : List ℕ} {lines : List Line} (g : Good lines) (c : Cartridge) (
     tables-by : (b q : Bool) → isRequest at v ≡ b → paged lines (at .0 / 4096) ≡ q → Tabled lines (writeOf c at v) (numberAfter number at v)
     unfolding leaves leavesReadable numberAfter
     tables-by true true e p =
-        rw (takes-flip e p, e, ← entry-chapter, ← entry-page) (tabled-flip t entry _ (entry-small p) (rw entry-chapter p))
-    tables-by true false e p = rw (takes-ram e p, e) (tabled-idle t (at .0 / 4096) (v % 16) p)
-    tables-by false q e p = rw (takes-nothing e, e) t
+        rw (takes-flip e p, e, not-accelerated, ← entry-chapter, ← entry-page) (tabled-flip t entry _ (entry-small p) (rw entry-chapter p))
+    tables-by true false e p = rw (takes-ram e p, e, not-accelerated) (tabled-idle t (at .0 / 4096) (v % 16) p)
+    tables-by false q e p = rw (takes-nothing e, e, not-accelerated) t
 
     request-last : isRequest at v ≡ true → at .0 % 4096 ≡ 0xFFF
     request-last e = eqb-true (at .0 % 4096) 0xFFF (and-left (eqb (at .0 % 4096) 0xFFF) _ e)

@@ -11,6 +11,7 @@ use Rattle.basics.specs.Laws.Tables.{length-table}
 use Rattle.places.specs.Limits.{paragraphs, flipEntries}
 use Rattle.switches.specs.Flips.{firstK, turned, flipped, flipMapping, flipPermissions}
 use Rattle.switches.specs.Laws.Flips.{turned-at, length-turned}
+use Rattle.jlp.specs.Accelerators.{freshJlp, resetJlp}
 use Rattle.cart.specs.declared.Cartridge.{Cartridge}
 use Rattle.cart.specs.Cartridges.{activeOf, withActive, resetOf}
 use Rattle.lines.specs.declared.Line.{Line}
@@ -25,6 +26,7 @@ pub record Tabled (lines : List Line) (c : Cartridge) (number : ℕ → ℕ) : T
   pub flips : c .flips ≡ flipTable lines
   pub mapping-length : length (c .mapping) ≡ paragraphs
   pub permissions-length : length (c .permissions) ≡ paragraphs
+  pub jlp : c .jlp ≡ freshJlp 0
   pub mapping : (p : ℕ) → p < paragraphs → getD (c .mapping) p 0 ≡ mappingAt lines (number (p / 16)) p
   pub permissions : (p : ℕ) → p < paragraphs → getD (c .permissions) p 0 ≡ permissionsAt lines (number (p / 16)) p
 
@@ -80,13 +82,14 @@ module _ {lines : List Line} {c : Cartridge} {number : ℕ → ℕ} (t : Tabled 
 
   -- a flip that acts
   pub tabled-flip : (n r : ℕ) → n < flipEntries → paged lines (n / 16) ≡ true →
-      Tabled lines (withActive c (flipped (c .flips) n (activeOf c)) r) (renumbered number (n / 16) (n % 16))
+      Tabled lines (withActive c (flipped (c .flips) n (activeOf c)) r (c .jlp)) (renumbered number (n / 16) (n % 16))
   unfolding mappingAt permissionsAt
   tabled-flip n r s e =
       record {
         initial-mapping = t .initial-mapping;
         initial-permissions = t .initial-permissions;
         flips = t .flips;
+        jlp = t .jlp;
         mapping-length = length-turned (n / 16) _ (c .mapping) ∙ t .mapping-length;
         permissions-length = length-turned (n / 16) _ (c .permissions) ∙ t .permissions-length;
         mapping = λ p h. rw (flip-in n s) (turning lines flipMapping (plainMapping lines) number (n / 16) (n % 16) (c .mapping) (t .mapping-length) (t .mapping) e p h);
@@ -101,6 +104,7 @@ module _ {lines : List Line} {c : Cartridge} {number : ℕ → ℕ} (t : Tabled 
         initial-mapping = t .initial-mapping;
         initial-permissions = t .initial-permissions;
         flips = t .flips;
+        jlp = t .jlp;
         mapping-length = t .mapping-length;
         permissions-length = t .permissions-length;
         mapping = unpaged lines flipMapping (plainMapping lines) number x y (c .mapping) (t .mapping-length) (t .mapping) e;
@@ -113,6 +117,7 @@ module _ {lines : List Line} {c : Cartridge} {number : ℕ → ℕ} (t : Tabled 
         initial-mapping = t .initial-mapping;
         initial-permissions = t .initial-permissions;
         flips = t .flips;
+        jlp = ap resetJlp (t .jlp);
         mapping-length = ap length (t .initial-mapping) ∙ length-table paragraphs (mappingAt lines 0);
         permissions-length = ap length (t .initial-permissions) ∙ length-table paragraphs (permissionsAt lines 0);
         mapping = λ p h. rw (t .initial-mapping) (mapping-entry lines p h);
@@ -125,6 +130,7 @@ tabled-start lines =
       initial-mapping = refl;
       initial-permissions = refl;
       flips = refl;
+      jlp = refl;
       mapping-length = length-table paragraphs (mappingAt lines 0);
       permissions-length = length-table paragraphs (permissionsAt lines 0);
       mapping = mapping-entry lines;

@@ -1,7 +1,7 @@
 -- The writer's answer: refused exactly when a row holds, in their order; a refusal leaves the buffer, and 9 names the lowest marked
 -- paragraph that does not lie in the words lent; and what a writing without refusal says.
 use Prim.Native.Nat.{ℕ, _+_, _*_, _≤_, _<_}
-use mathlib.Core.List.{List, _++_}
+use mathlib.Core.List.{List, _++_, _∷_, []}
 use mathlib.Core.Path.{_≡_, refl, ap, _∙_, sym}
 use mathlib.Core.Bool.{Bool, true, false}
 use mathlib.Core.Logic.{_↔_}
@@ -11,18 +11,19 @@ use lib.Dec.{ltb}
 use borrow.Author.Tests.{ltb-true, ltb-false, ne-eqb}
 use Rattle.basics.specs.declared.Refusal.{Refusal}
 use Rattle.basics.specs.Lists.{Each}
-use Rattle.basics.specs.Rows.{Gives, here, later, Silent, also, none}
+use Rattle.basics.specs.Rows.{Gives, here, later, Silent, also, none, Row}
 use Rattle.basics.specs.Counts.{any, lowest}
-use Rattle.basics.specs.Refusals.{noRefusal}
+use Rattle.basics.specs.Refusals.{noRefusal, refuse}
 use Rattle.basics.specs.Laws.Tests.{cases, true-is-not-false, and-true}
 use Rattle.basics.specs.Laws.Counts.{any-of}
 use Rattle.basics.specs.Laws.Tables.{length-table}
-use Rattle.basics.specs.Laws.Rows.{silent-first}
-use Rattle.basics.specs.Laws.Refusals.{Refusing, refused-exactly, accepted-exactly}
+use Rattle.basics.specs.Laws.Rows.{silent-first, silent-append, silent-left, silent-right}
+use Rattle.basics.specs.Laws.Refusals.{Refusing, refused-exactly, accepted-exactly, refusing-append}
 use Rattle.basics.specs.Laws.Lowest.{First, lowest-first, lowest-any}
 use Rattle.basics.specs.Laws.Puts.{put-room}
 use Rattle.places.specs.Limits.{imageLimit, lent, locutusParagraphs, paragraphSize}
-use Rattle.tables.specs.Tables.{unsupported}
+use Rattle.tables.specs.Tables.{tablesRows}
+use Rattle.tables.specs.Laws.Refusals.{tables-refusing}
 use Rattle.save.specs.declared.Writing.{Writing}
 use Rattle.save.specs.Writing.{Content, isMarked, paragraphOf, marked, imageBy, pastLent, refusalRows, refusalOf, answerFor, writingOf, writtenOf}
 use Rattle.save.specs.Laws.Chosen.{Lies, chosen-each}
@@ -41,7 +42,7 @@ pub record Answers (out : List ℕ) (c : Content) : Type 0 where
 
 -- what a writing without refusal says
 pub record Accepted (out : List ℕ) (c : Content) : Type 0 where
-  pub supported : unsupported (c .flags) (c .tables .flips) ≡ false
+  pub supported : Silent (tablesRows (c .flags) (c .tables .flips) (lent (c .ram)))
   pub inside : (p : ℕ) → p < locutusParagraphs → isMarked (c .marks) p ≡ true → paragraphSize * p + paragraphSize ≤ lent (c .ram)
   pub short : length (imageBy c) ≤ imageLimit
   pub room : length (imageBy c) ≤ length out
@@ -49,8 +50,20 @@ pub record Accepted (out : List ℕ) (c : Content) : Type 0 where
   pub leaves : writtenOf out c ≡ imageBy c ++ drop (length (imageBy c)) out
 
 module _ (out : List ℕ) (c : Content) where
+  abbrev front : List (Row Refusal)
+  front = tablesRows (c .flags) (c .tables .flips) (lent (c .ram))
+
+  abbrev rest : List (Row Refusal)
+  rest =
+      (any locutusParagraphs (pastLent c), refuse 9 (lowest locutusParagraphs (pastLent c)))
+      ∷ (ltb imageLimit (length (imageBy c)), refuse 1 0)
+      ∷ (ltb (length out) (length (imageBy c)), refuse 29 0)
+      ∷ []
+
   every-row : Refusing (refusalRows out c)
-  every-row = ((λ z. omega arith), ((λ z. omega arith), ((λ z. omega arith), ((λ z. omega arith), tt))))
+  every-row =
+      refusing-append front rest (tables-refusing (c .flags) (c .tables .flips) (lent (c .ram)))
+      ((λ z. omega arith), ((λ z. omega arith), ((λ z. omega arith), tt)))
 
   same-refusal : writingOf out c .refusal ≡ refusalOf out c
   unfolding writingOf
@@ -58,10 +71,12 @@ module _ (out : List ℕ) (c : Content) where
 
   -- the place of the row of 9
   nine : (r : Refusal) → r .number ≡ 9 → Gives (refusalRows out c) r → First (pastLent c) 0 (r .place)
+  unfolding tablesRows
   nine r e (here h) = absurd (omega arith)
-  nine r e (later h (here k)) = lowest-first locutusParagraphs (pastLent c) (ltb-true _ _ (lowest-any locutusParagraphs (pastLent c) ∙ k))
-  nine r e (later h (later k (here i))) = absurd (omega arith)
-  nine r e (later h (later k (later i (here j)))) = absurd (omega arith)
+  nine r e (later g (here h)) = absurd (omega arith)
+  nine r e (later f (later h (here k))) = lowest-first locutusParagraphs (pastLent c) (ltb-true _ _ (lowest-any locutusParagraphs (pastLent c) ∙ k))
+  nine r e (later f (later h (later k (here i)))) = absurd (omega arith)
+  nine r e (later f (later h (later k (later i (here j))))) = absurd (omega arith)
 
   pub answers : Answers out c
   unfolding writingOf writtenOf refusalOf
@@ -86,16 +101,19 @@ module _ (out : List ℕ) (c : Content) where
 
   pub silent-accepted : Silent (refusalRows out c) → Accepted out c
   unfolding writingOf writtenOf refusalOf
-  silent-accepted (also a (also b (also d (also e none)))) =
-      let r : refusalOf out c ≡ noRefusal = silent-first noRefusal (also a (also b (also d (also e none)))) in
-      record {
-        supported = a;
-        inside = lies-inside b;
-        short = ltb-false _ _ d;
-        room = ltb-false _ _ e;
-        answer = rw r;
-        leaves = rw r (put-room (imageBy c) out (ltb-false _ _ e));
-      }
+  silent-accepted q = by (silent-left front rest q) (silent-right front rest q)
+    where
+      by : Silent front → Silent rest → Accepted out c
+      by a (also b (also d (also e none))) =
+          let r : refusalOf out c ≡ noRefusal = silent-first noRefusal (silent-append a (also b (also d (also e none)))) in
+          record {
+            supported = a;
+            inside = lies-inside b;
+            short = ltb-false _ _ d;
+            room = ltb-false _ _ e;
+            answer = rw r;
+            leaves = rw r (put-room (imageBy c) out (ltb-false _ _ e));
+          }
 
   pub accepted-so : (writingOf out c .refusal .number ≡ 0) ↔ Accepted out c
   accepted-so = ((λ e. silent-accepted (answers .accepted .0 e)), (λ a. ap (λ (w : Writing). w .refusal .number) (a .answer)))

@@ -12,8 +12,9 @@ use Rattle.basics.specs.Lists.{laid}
 use Rattle.basics.specs.Laws.Lists.{length-laid, laid-out, laid-in}
 use Rattle.basics.specs.Laws.Tests.{compare, cases}
 use Rattle.places.specs.Limits.{chapterPages, chapterParagraphs}
+use Rattle.places.specs.declared.Console.{Console}
 use Rattle.places.specs.Places.{console}
-use Rattle.switches.specs.declared.Register.the-variants.{HalfPage}
+use Rattle.switches.specs.declared.Register.the-variants.{HalfPage, Elsewhere}
 use Rattle.switches.specs.Flips.{Active, firstK, flipPermissions, flipped}
 use Rattle.switches.specs.Banks.{halfPageParagraphs, registerAt, BANKSW, banked, numberFrom, switched, bankswitched}
 use Rattle.switches.specs.Laws.Flips.{length-turned, turned-in, turned-out, turned-at}
@@ -57,6 +58,15 @@ module _ (h v : ℕ) (m : List ℕ) (p : ℕ) where
       → getD (switched h v m) p 0 ≡ cond (eqb (p / halfPageParagraphs) h) (numberFrom v (p % halfPageParagraphs)) (getD m p 0)
   switched-at s =
       cases (eqb (p / halfPageParagraphs) h) (λ e. rw e (switched-in s (eqb-true _ _ e))) (λ e. rw e (switched-out (eqb-false _ _ e)))
+
+-- the registers stand at $0040-$005F
+pub register-low : (at : Console) (h : ℕ) → registerAt at ≡ HalfPage h → at .0 < 0x60
+unfolding registerAt
+register-low at h e =
+    cases (eqb (at .0 / 0x10) 4) (λ a. omega (arith, eqb-true (at .0 / 0x10) 4 a))
+    (λ a.
+    cases (eqb (at .0 / 0x10) 5) (λ b. omega (arith, eqb-true (at .0 / 0x10) 5 b))
+    (λ b. let q : Elsewhere ≡ HalfPage h = rw (a, b) at e in let z : _≡_ {A = ℕ} 0 1 = cc in absurd (omega arith)))
 
 -- the two registers of chapter x move disjoint halves of it: $x000-$x7FF and $x800-$xFFF
 pub record Halves (x v : ℕ) (a : Active) : Type 0 where

@@ -1,24 +1,26 @@
--- `tables::refused` meets its contract: one law for each return.
+-- `tables::refused` meets its contract: one law for each row.
 use borrow.Author.Needs.{needs}
-use Rattle.tables.proofs.Laws.{tens}
+use Rattle.tables.proofs.Laws.{ends}
 use Rattle.tables.proofs.refused.Statement.{statement}
 use Rattle.tables.proofs.refused.Tie as tie
 
 returns : tie.Need-returns
-returns c = search (needs, tens)
+returns c = search (needs, ends)
 
 returns-2 : tie.Need-returns-2
-returns-2 c = search (needs, tens)
+returns-2 c = search (needs, ends)
 
 returns-3 : tie.Need-returns-3
-returns-3 c = search (needs, tens)
+returns-3 c = search (needs, ends)
 
 pub refused-spec : {M : Type 1} → statement M
 refused-spec =
     tie.close
     (tie.spec
     (λ c κs. search needs)
+    (λ c κs. search needs)
     returns
+    (λ c κs. search needs)
     (λ c κs. search needs)
     returns-2
     (λ c κs. search needs)

@@ -1,11 +1,11 @@
--- Sizes and places in numbers, and what refusal 10 asks: the definitions compute.
+-- Sizes and places in numbers, and what refusals 10 and 11 ask: the definitions compute.
 use Prim.Native.Nat.{ℕ}
 use mathlib.Core.List.{List, _∷_, []}
 use mathlib.Core.Path.{_≡_, refl}
 use mathlib.Core.Bool.{true, false}
 use lib.ListN.{replicate, set}
 use Rattle.basics.specs.Counts.{any}
-use Rattle.tables.specs.Tables.{permissionsAt, flipsAt, tablesSize, unsupported}
+use Rattle.tables.specs.Tables.{permissionsAt, flipsAt, tablesSize, unsupported, lacksRam}
 
 pub places : (permissionsAt ≡ 512) × (flipsAt ≡ 768) × (tablesSize ≡ 1280)
 places = (refl, refl, refl)
@@ -17,10 +17,33 @@ built = 0x55 ∷ 0x05 ∷ replicate 14 0
 abbrev zeros : List ℕ
 zeros = replicate 256 0
 
--- flag 17, the upper bit of the JLP field; flag 32
-pub jlp-field : unsupported (set built 2 0x02) zeros ≡ true
+-- field 2 with a flash of one sector, and of none; field 1 with a size, which has no flash
+pub flash-asked : unsupported (set built 2 0x42) zeros ≡ true
 unfolding unsupported
-jlp-field = refl
+flash-asked = refl
+
+pub flash-none : unsupported (set built 2 0x02) zeros ≡ false
+unfolding unsupported any
+flash-none = refl
+
+pub flash-not-theirs : unsupported (set (set built 2 0x01) 3 0xFF) zeros ≡ false
+unfolding unsupported any
+flash-not-theirs = refl
+
+-- field 1 wants 73,600 words, and field 0 none
+pub too-few : lacksRam (set built 2 0x01) 73599 ≡ true
+unfolding lacksRam
+too-few = refl
+
+pub enough : lacksRam (set built 2 0x01) 73600 ≡ false
+unfolding lacksRam
+enough = refl
+
+pub none-wanted : lacksRam built 0 ≡ false
+unfolding lacksRam
+none-wanted = refl
+
+-- flag 32
 
 pub locutus-mapper : unsupported (set built 4 0x01) zeros ≡ true
 unfolding unsupported any

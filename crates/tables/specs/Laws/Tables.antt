@@ -4,11 +4,10 @@ use mathlib.Core.List.{List, _++_, append-assoc, append-nil, []}
 use mathlib.Core.Path.{_≡_, refl, sym, ap, _∙_}
 use native.Mathlib.Omega.{arith}
 use lib.ListN.{length, getD, drop, length-append}
-use Rattle.basics.specs.Lists.{part}
 use Rattle.basics.specs.Bytes.{bytes16, at16}
 use Rattle.basics.specs.Laws.Bytes.{length-bytes16}
 use Rattle.basics.specs.Laws.Tables.{table-of}
-use Rattle.basics.specs.Laws.Stands.{stands-in, stands-word, stands-after, stands-part}
+use Rattle.basics.specs.Laws.Stands.{stands-in, stands-word, stands-after}
 use Rattle.places.specs.Limits.{paragraphs}
 use Rattle.tables.specs.Tables.{Tables, permissionsAt, flipsAt, tablesSize, tablesPayload, wordsAt, bytesAt, tablesIn, cartridgeWith, cartridgeOf}
 
@@ -47,22 +46,18 @@ module _ (t : Tables) (em : length (t .mapping) ≡ paragraphs) (ep : length (t 
           words-back (t .flips) x flipsAt r ef at-flips,
         )
 
-    pub cartridge-back : cartridgeOf x ≡ cartridgeWith t
+    pub cartridge-back : (jlp : ℕ) → cartridgeOf jlp x ≡ cartridgeWith jlp t
     unfolding cartridgeOf
-    cartridge-back = ap cartridgeWith tables-back
+    cartridge-back jlp = ap (cartridgeWith jlp) tables-back
 
-  -- the payload itself, and as a part of more bytes
-  pub payload-back : cartridgeOf (tablesPayload t) ≡ cartridgeWith t
+  -- the payload itself
+  pub payload-tables : tablesIn (tablesPayload t) ≡ t
+  payload-tables = tables-back (tablesPayload t) [] (sym (append-nil (tablesPayload t)))
+
+  pub payload-back : (jlp : ℕ) → cartridgeOf jlp (tablesPayload t) ≡ cartridgeWith jlp t
   payload-back = cartridge-back (tablesPayload t) [] (sym (append-nil (tablesPayload t)))
 
-  pub part-back : (s : List ℕ) (p q : ℕ) (r : List ℕ) → drop p s ≡ tablesPayload t ++ r → q ≡ p + tablesSize → cartridgeOf (part s p q) ≡ cartridgeWith t
-  part-back s p q r st e = ap cartridgeOf (stands-part s p (tablesPayload t) r st q (omega (arith, length-tables))) ∙ payload-back
-
--- a payload's cartridge has the payload's permissions and flips
-pub cartridge-permissions : (payload : List ℕ) → cartridgeOf payload .permissions ≡ tablesIn payload .permissions
+-- a payload's cartridge has the payload's flips
+pub cartridge-flips : (jlp : ℕ) (payload : List ℕ) → cartridgeOf jlp payload .flips ≡ tablesIn payload .flips
 unfolding cartridgeOf
-cartridge-permissions payload = refl
-
-pub cartridge-flips : (payload : List ℕ) → cartridgeOf payload .flips ≡ tablesIn payload .flips
-unfolding cartridgeOf
-cartridge-flips payload = refl
+cartridge-flips jlp payload = refl

@@ -17,11 +17,11 @@ use Rattle.basics.specs.Laws.Tests.{and-false}
 use Rattle.places.specs.Limits.{imageLimit, lent, lentLimit, paragraphSize}
 use Rattle.sums.specs.Crc.{crc324Of}
 use Rattle.header.specs.Header.{headerOf, flagsOf, headerRows}
-use Rattle.header.specs.Flags.{compatOf}
+use Rattle.header.specs.Flags.{jlpField, compatOf}
 use Rattle.header.specs.Laws.Header.{length-header, flags-back, header-silent}
 use Rattle.cart.specs.declared.Cartridge.{Cartridge}
-use Rattle.tables.specs.Tables.{Tables, tablesIn, tablesPayload, cartridgeOf, cartridgeWith, tablesRows, unsupported}
-use Rattle.tables.specs.Laws.Tables.{length-tables, payload-back, cartridge-permissions, cartridge-flips}
+use Rattle.tables.specs.Tables.{Tables, tablesIn, tablesPayload, cartridgeOf, cartridgeWith, tablesRows}
+use Rattle.tables.specs.Laws.Tables.{length-tables, payload-tables}
 use Rattle.hunk.specs.declared.Checked.the-variants.{Whole}
 use Rattle.hunk.specs.Hunk.{Hunk, hunkOf, hunkPayload, checkHunk}
 use Rattle.hunk.specs.Laws.ReadBack.{payload-hunk, payload-checks}
@@ -119,16 +119,19 @@ module _ (flags uid : List ℕ) (t : Tables) (xs : List (List ℕ)) (z : Sized f
   unfolding anyTables
   any-back = rw tables-type
 
-  cartridge-back : cartridgeOf (payloadOfTables (tablesBlock t ∷ xs)) ≡ cartridgeWith t
+  tables-back : tablesIn (payloadOfTables (tablesBlock t ∷ xs)) ≡ t
   unfolding payloadOfTables
-  cartridge-back =
-      rw tables-type (ap cartridgeOf tables-payload ∙ payload-back t (z .mapping-long) (z .permissions-long) (z .flips-long))
+  tables-back = rw tables-type (ap tablesIn tables-payload ∙ payload-tables t (z .mapping-long) (z .permissions-long) (z .flips-long))
+
+  cartridge-back : (jlp : ℕ) → cartridgeOf jlp (payloadOfTables (tablesBlock t ∷ xs)) ≡ cartridgeWith jlp t
+  unfolding cartridgeOf
+  cartridge-back jlp = ap (cartridgeWith jlp) tables-back
 
   pub hunks-all : hunksIn (tablesBlock t ∷ xs) ≡ hunksIn xs
   unfolding hunksIn
   hunks-all = rw tables-type
 
-  module _ (short : length image ≤ imageLimit) (supported : unsupported flags (t .flips) ≡ false) (m : ℕ) (fine : Each (Fine m) xs) where
+  module _ (short : length image ≤ imageLimit) (m : ℕ) (supported : Silent (tablesRows flags (t .flips) m)) (fine : Each (Fine m) xs) where
     each-block : Each Block (tablesBlock t ∷ xs)
     each-block = and-block (Made.block-back tablesType (crc324Of (tablesPayload t)) (tablesPayload t) (λ e. omega arith)) (fine-blocks fine)
 
@@ -139,12 +142,8 @@ module _ (flags uid : List ℕ) (t : Tables) (xs : List (List ℕ)) (z : Sized f
     unfolding imageOf
     flags-are = flags-back flags uid (z .flags-long) (z .uid-long) image _ refl
 
-    ten-quiet : Silent (tablesRows (flagsOf image) (tablesIn (payloadOfTables (blocksIn image))))
-    unfolding tablesRows cartridgeOf
-    ten-quiet =
-        let e : unsupported (flagsOf image) (tablesIn (payloadOfTables (blocksIn image)) .flips) ≡ false =
-        rw (flags-are, read-back) (ap (λ (c : Cartridge). unsupported flags (c .flips)) cartridge-back ∙ supported) in
-        also e none
+    tables-accepted : Silent (tablesRows (flagsOf image) (tablesIn (payloadOfTables (blocksIn image)) .flips) m)
+    tables-accepted = rw (flags-are, read-back, tables-back) supported
 
     nothing : Accepted image m
     unfolding judgeAll imageOf
@@ -156,17 +155,17 @@ module _ (flags uid : List ℕ) (t : Tables) (xs : List (List ℕ)) (z : Sized f
               (silent-append (tables-quiet m firstBlock) (fine-silent m (false || isTables (tablesBlock t)) (firstBlock + length (tablesBlock t)) xs fine));
           ended = image-ends (headerOf flags uid) (tablesBlock t ∷ xs) (endMark ∷ []) head-long each-block refl;
           tables = rw read-back any-back;
-          supported = ten-quiet;
+          supported = tables-accepted;
         }
 
     pub load-answers : loadingOf image m ≡ answerOf flags t (1 + length xs) (wordCount (hunksIn xs))
     unfolding loadingOf
-    load-answers = rw (accepts image m nothing, flags-are, read-back, cartridge-back, hunks-all) (ap (λ (n : ℕ). answerOf flags t n (wordCount (hunksIn xs))) (omega arith))
+    load-answers = rw (accepts image m nothing, flags-are, read-back, cartridge-back (jlpField flags), hunks-all) (ap (λ (n : ℕ). answerOf flags t n (wordCount (hunksIn xs))) (omega arith))
 
-  pub load-lays : length image ≤ imageLimit → unsupported flags (t .flips) ≡ false → (ram : List ℕ) → Each (Fine (lent ram)) xs → loadRamOf image ram ≡ overlay (hunksIn xs) ram
+  pub load-lays : length image ≤ imageLimit → (ram : List ℕ) → Silent (tablesRows flags (t .flips) (lent ram)) → Each (Fine (lent ram)) xs → loadRamOf image ram ≡ overlay (hunksIn xs) ram
   unfolding loadRamOf
-  load-lays short supported ram fine =
-      rw (accepts image (lent ram) (nothing short supported (lent ram) fine), read-back short supported (lent ram) fine, hunks-all)
+  load-lays short ram supported fine =
+      rw (accepts image (lent ram) (nothing short (lent ram) supported fine), read-back short (lent ram) supported fine, hunks-all)
 
 -- ---- the blocks of hunks
 
@@ -217,22 +216,22 @@ count-words (h ∷ hs) (and-block w ws) = omega (arith, w .whole, count-words hs
 
 -- the image of hunks that lie in the words lent
 module _ (flags uid : List ℕ) (t : Tables) (hs : List Hunk) (z : Sized flags uid t) (short : length (imageFor flags uid t hs) ≤ imageLimit)
-    (supported : unsupported flags (t .flips) ≡ false) (ram : List ℕ) (w : Each (Lies (lent ram)) hs) where
+    (ram : List ℕ) (supported : Silent (tablesRows flags (t .flips) (lent ram))) (w : Each (Lies (lent ram)) hs) where
   few : lent ram ≤ lentLimit
   few = omega arith
 
   pub image-blocks : blocksIn (imageFor flags uid t hs) ≡ tablesBlock t ∷ map hunkBlock hs
   unfolding imageFor
-  image-blocks = read-back flags uid t (map hunkBlock hs) z short supported (lent ram) (fine-hunks (lent ram) few hs w)
+  image-blocks = read-back flags uid t (map hunkBlock hs) z short (lent ram) supported (fine-hunks (lent ram) few hs w)
 
   pub image-answers : loadingOf (imageFor flags uid t hs) (lent ram) ≡ answerOf flags t (1 + length hs) (paragraphSize * length hs)
   unfolding imageFor
   image-answers =
-      load-answers flags uid t (map hunkBlock hs) z short supported (lent ram) (fine-hunks (lent ram) few hs w)
+      load-answers flags uid t (map hunkBlock hs) z short (lent ram) supported (fine-hunks (lent ram) few hs w)
       ∙ rw (hunks-back (lent ram) few hs w, length-map hs hunkBlock, count-words hs w)
 
   pub image-lays : loadRamOf (imageFor flags uid t hs) ram ≡ overlay hs ram
   unfolding imageFor
   image-lays =
-      load-lays flags uid t (map hunkBlock hs) z short supported ram (fine-hunks (lent ram) few hs w)
+      load-lays flags uid t (map hunkBlock hs) z short ram supported (fine-hunks (lent ram) few hs w)
       ∙ ap (λ (l : List Hunk). overlay l ram) (hunks-back (lent ram) few hs w)

@@ -11,7 +11,8 @@ use Rattle.basics.specs.Counts.{count}
 use Rattle.basics.specs.Lists.{Each}
 use Rattle.basics.specs.Laws.Tables.{length-table, getD-table}
 use Rattle.places.specs.Limits.{imageLimit, lent, lentLimit, locutusParagraphs, paragraphSize}
-use Rattle.tables.specs.Tables.{Tables, unsupported}
+use Rattle.basics.specs.Rows.{Silent}
+use Rattle.tables.specs.Tables.{Tables, tablesRows}
 use Rattle.hunk.specs.Hunk.{Hunk}
 use Rattle.load.specs.declared.Loading.{Loading}
 use Rattle.load.specs.Load.{loadingOf, loadRamOf}
@@ -31,15 +32,15 @@ pub record LoadsChosen (flags : List ℕ) (t : Tables) (on : ℕ → Bool) (word
 
 pub load-chosen :
     (flags uid : List ℕ) (t : Tables) (on : ℕ → Bool) (words : ℕ → List ℕ) (ram : List ℕ) → Sized flags uid t
-    → length (imageFor flags uid t (chosen locutusParagraphs on words)) ≤ imageLimit → unsupported flags (t .flips) ≡ false
+    → length (imageFor flags uid t (chosen locutusParagraphs on words)) ≤ imageLimit → Silent (tablesRows flags (t .flips) (lent ram))
     → EachLies (lent ram) locutusParagraphs on words → LoadsChosen flags t on words (imageFor flags uid t (chosen locutusParagraphs on words)) ram
 load-chosen flags uid t on words ram z short supported c =
     let hs : List Hunk = chosen locutusParagraphs on words in
     let w : Each (Lies (lent ram)) hs = chosen-each on words locutusParagraphs c in
     let few : lent ram ≤ length ram = omega arith in
     record {
-      answer = image-answers flags uid t hs z short supported ram w ∙ ap (λ (n : ℕ). answerOf flags t (1 + n) (paragraphSize * n)) (length-chosen on words locutusParagraphs);
-      back = subst (λ (x : List ℕ). Overlaid on words ram x) (sym (image-lays flags uid t hs z short supported ram w)) (laid-back on words ram (lent ram) few c);
+      answer = image-answers flags uid t hs z short ram supported w ∙ ap (λ (n : ℕ). answerOf flags t (1 + n) (paragraphSize * n)) (length-chosen on words locutusParagraphs);
+      back = subst (λ (x : List ℕ). Overlaid on words ram x) (sym (image-lays flags uid t hs z short ram supported w)) (laid-back on words ram (lent ram) few c);
     }
 
 -- word k of a RAM, by its paragraph
@@ -59,10 +60,14 @@ module _ (out : List ℕ) (c : Content) (z : Sized (c .flags) (c .uid) (c .table
       let m : lent to ≡ lent (c .ram) = ap (λ (n : ℕ). min n lentLimit) same in
       record { whole = length-table paragraphSize _; within = rw m (accepted .inside q h o) }
 
+  -- and nothing is refused there of its flags and tables
+  pub supported-in : (to : List ℕ) → length to ≡ length (c .ram) → Silent (tablesRows (c .flags) (c .tables .flips) (lent to))
+  supported-in to same = let m : lent to ≡ lent (c .ram) = ap (λ (n : ℕ). min n lentLimit) same in rw m (accepted .supported)
+
   pub round-trip : (to : List ℕ) → length to ≡ length (c .ram) → ComesBack c to (loadingOf (imageBy c) (lent to)) (loadRamOf (imageBy c) to)
   round-trip to same =
       let r : LoadsChosen (c .flags) (c .tables) (isMarked (c .marks)) (paragraphOf (c .ram)) (imageBy c) to =
-      load-chosen (c .flags) (c .uid) (c .tables) (isMarked (c .marks)) (paragraphOf (c .ram)) to z (accepted .short) (accepted .supported) (marked-lie to same) in
+      load-chosen (c .flags) (c .uid) (c .tables) (isMarked (c .marks)) (paragraphOf (c .ram)) to z (accepted .short) (supported-in to same) (marked-lie to same) in
       record {
         answer = r .answer;
         same = r .back .same;

@@ -15,7 +15,8 @@ use Rattle.basics.specs.Laws.Tests.{cases, true-is-not-false}
 use Rattle.places.specs.Limits.{imageLimit, lent, lentLimit, locutusParagraphs}
 use Rattle.sums.specs.Crc.{crc324Of}
 use Rattle.header.specs.Laws.Header.{length-header}
-use Rattle.tables.specs.Tables.{Tables, tablesPayload, unsupported}
+use Rattle.basics.specs.Rows.{Silent}
+use Rattle.tables.specs.Tables.{Tables, tablesPayload, tablesRows}
 use Rattle.hunk.specs.Hunk.{Hunk, hunkOf, address, countsIn, wordsOf, hunkPayload}
 use Rattle.hunk.specs.Laws.ReadBack.{payload-address, payload-words}
 use Rattle.hunk.specs.Laws.Smallest.{Recut, none-shorter, same-number}
@@ -35,7 +36,7 @@ use Rattle.save.specs.Laws.Refusals.{Accepted}
 use Rattle.trip.specs.Smallest.{Recoded, SameBlocks, none, same, coded, Alike}
 use Rattle.trip.specs.Laws.LoadImage.{hunks-all, image-blocks, image-lays}
 use Rattle.trip.specs.Laws.Overlay.{EachLies}
-use Rattle.trip.specs.Laws.RoundTrip.{accepted, marked-lie, image-front}
+use Rattle.trip.specs.Laws.RoundTrip.{accepted, marked-lie, image-front, supported-in}
 use Rattle.trip.specs.Laws.Rising.{Rising, SamePlaces, none as no-places, also as and-places, told, rising-chosen}
 
 -- the bytes of blocks that stand one after the other
@@ -109,7 +110,7 @@ least (and-hunk {h = h} {y = y} {hs = hs} {ys = ys} c r) (and-block f fs) (and-b
 
 -- the image of hunks that lie one behind the other in the words lent
 module _ (flags uid : List ℕ) (t : Tables) (hs : List Hunk) (z : Sized flags uid t) (short : length (imageFor flags uid t hs) ≤ imageLimit)
-    (supported : unsupported flags (t .flips) ≡ false) (ram : List ℕ) (w : Each (Lies (lent ram)) hs) (a b : ℕ) (rising : Rising a hs b) where
+    (ram : List ℕ) (supported : Silent (tablesRows flags (t .flips) (lent ram))) (w : Each (Lies (lent ram)) hs) (a b : ℕ) (rising : Rising a hs b) where
   abbrev image : List ℕ
   image = imageFor flags uid t hs
 
@@ -139,7 +140,7 @@ module _ (flags uid : List ℕ) (t : Tables) (hs : List Hunk) (z : Sized flags u
     behind ys e s f k o =
         let c : Coded hs ys = coded-of hs s in
         let v : overlay (hunksIn ys) ram ≡ overlay hs ram =
-        ap (λ (gs : List Hunk). overlay gs ram) (sym (ap hunksIn e ∙ hunks-all flags uid t ys z)) ∙ sym laid ∙ r .words ∙ image-lays flags uid t hs z short supported ram w in
+        ap (λ (gs : List Hunk). overlay gs ram) (sym (ap hunksIn e ∙ hunks-all flags uid t ys z)) ∙ sym laid ∙ r .words ∙ image-lays flags uid t hs z short ram supported w in
         let same-hunks : hunksIn ys ≡ hs = told (hunksIn ys) hs (places (omega arith) w c) rising w ram (omega arith) v in
         omega (
           arith,
@@ -159,18 +160,18 @@ module _ (flags uid : List ℕ) (t : Tables) (hs : List Hunk) (z : Sized flags u
 
     pub smallest : length image ≤ length other
     smallest =
-        at-tables (blocksIn other) refl (rw (image-blocks flags uid t hs z short supported ram w) at (r .blocks)) (left .filled) (reading other .each) octets
+        at-tables (blocksIn other) refl (rw (image-blocks flags uid t hs z short ram supported w) at (r .blocks)) (left .filled) (reading other .each) octets
 
 -- so of chosen paragraphs, as writer and builder have them
 pub chosen-smallest :
     (flags uid : List ℕ) (t : Tables) (on : ℕ → Bool) (words : ℕ → List ℕ) (ram : List ℕ) → Sized flags uid t
-    → length (imageFor flags uid t (chosen locutusParagraphs on words)) ≤ imageLimit → unsupported flags (t .flips) ≡ false
+    → length (imageFor flags uid t (chosen locutusParagraphs on words)) ≤ imageLimit → Silent (tablesRows flags (t .flips) (lent ram))
     → EachLies (lent ram) locutusParagraphs on words → (other : List ℕ) → Alike (imageFor flags uid t (chosen locutusParagraphs on words)) other ram
     → length (imageFor flags uid t (chosen locutusParagraphs on words)) ≤ length other
 chosen-smallest flags uid t on words ram z short supported c other r =
     let hs : List Hunk = chosen locutusParagraphs on words in
     let w : Each (Lies (lent ram)) hs = chosen-each on words locutusParagraphs c in
-    smallest flags uid t hs z short supported ram w 0 _ (rising-chosen on words locutusParagraphs (λ p h e. c p h e .whole)) other r
+    smallest flags uid t hs z short ram supported w 0 _ (rising-chosen on words locutusParagraphs (λ p h e. c p h e .whole)) other r
 
 -- what the writer accepts is written so
 module _ (out : List ℕ) (c : Content) (z : Sized (c .flags) (c .uid) (c .tables)) (e : writingOf out c .refusal .number ≡ 0) where
@@ -183,6 +184,6 @@ module _ (out : List ℕ) (c : Content) (z : Sized (c .flags) (c .uid) (c .table
       let s : Alike (imageBy c) other to = rw (image-front out c z e w after ew ea) at r in
       omega (
         arith,
-        chosen-smallest (c .flags) (c .uid) (c .tables) (isMarked (c .marks)) (paragraphOf (c .ram)) to z (a .short) (a .supported)
+        chosen-smallest (c .flags) (c .uid) (c .tables) (isMarked (c .marks)) (paragraphOf (c .ram)) to z (a .short) (supported-in out c z e to same-long)
             (marked-lie out c z e to same-long) other s,
       )

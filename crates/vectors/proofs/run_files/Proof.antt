@@ -8,10 +8,10 @@ use Rattle.vectors.proofs.run_files.Tie as tie
 
 abbrev Inv-loop : tie.InvT-loop
 Inv-loop file₀ a₀ b₀ cfg₀ ram₀ ieee all₀ had₀ k₀ file a b cfg ram all had k =
-    (k ≤ 8) × (length file ≡ length file₀) × (length a ≡ length a₀) × (length b ≡ length b₀) × (length cfg ≡ length cfg₀) × (length ram ≡ length ram₀)
+    (k ≤ 9) × (length file ≡ length file₀) × (length a ≡ length a₀) × (length b ≡ length b₀) × (length cfg ≡ length cfg₀) × (length ram ≡ length ram₀)
 
 abbrev μ-loop : tie.MeasureT-loop
-μ-loop file₀ a₀ b₀ cfg₀ ram₀ ieee all₀ had₀ k₀ file a b cfg ram all had k = 8 - k
+μ-loop file₀ a₀ b₀ cfg₀ ram₀ ieee all₀ had₀ k₀ file a b cfg ram all had k = 9 - k
 
 pub run-files-spec : {M : Type 1} → statement M
 run-files-spec =

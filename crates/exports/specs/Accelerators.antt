@@ -1,0 +1,28 @@
+-- The accelerators as C lends them, 17 words: the JLP field, 1 for on, the operands, the two results, the CRC (02, W-206).
+use Prim.Native.Nat.{ℕ, _+_, _%_}
+use mathlib.Core.Bool.{Bool, cond, not}
+use mathlib.Core.List.{List, _∷_, [], _++_}
+use lib.Dec.{eqb}
+use lib.ListN.{getD}
+use Rattle.basics.specs.Tables.{table}
+use Rattle.jlp.specs.declared.Jlp.{Jlp}
+use Rattle.jlp.specs.Arith.{results}
+use Rattle.jlp.specs.Accelerators.{operandCount}
+
+abbrev pub oneIf : Bool → ℕ
+oneIf b = cond b 1 0
+
+abbrev pub wordsOf : Jlp → List ℕ
+wordsOf j =
+    j .field ∷ oneIf (j .on) ∷ (table operandCount (λ i. getD (j .operands) i 0) ++ (j .results .first ∷ j .results .second ∷ j .crc ∷ []))
+
+-- and back: any words are some accelerators, on for every word but 0
+abbrev pub jlpFrom : List ℕ → Jlp
+jlpFrom w =
+    record {
+      field = getD w 0 0 % 256;
+      on = not (eqb (getD w 1 0) 0);
+      operands = table operandCount (λ i. getD w (2 + i) 0);
+      results = results (getD w 14 0) (getD w 15 0);
+      crc = getD w 16 0;
+    }

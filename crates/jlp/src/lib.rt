@@ -1,0 +1,293 @@
+// The JLP accelerators by value: which writes they take, what a write leaves of them, and what their registers answer (02, W-206; 000,
+// "JLP Multiply and Divide Accelerators", "JLP CRC-16 Accelerator"). Numbers to numbers: no word of the cartridge or of its RAM.
+mod arith;
+mod sum;
+
+ghost use Prim.Native.Nat.{_<_};
+ghost use mathlib.Core.Path.{_≡_};
+ghost use Rattle.jlp.specs.Window.{between, inWindow, inRam, ramLocation};
+ghost use Rattle.jlp.specs.Accelerators.{operandCount, startsOn, freshJlp, withOn, resetJlp, turnsOn, turnsOff, takes, latches, functionOf, operated, crcAfter, withCrc, writtenOn, writtenJlp, registerWord, heardAt};
+pub use arith::divide;
+pub use arith::multiply;
+use places::Console;
+use places::Locutus;
+pub use sum::checksum;
+
+// The window of console addresses that is the accelerators' while they are on.
+pub const WINDOW_START: u16 = 0x8000;
+
+pub const WINDOW_END: u16 = 0x9FFF;
+
+// The RAM in it, and how far behind its console address a word of it lies in Locutus RAM.
+pub const RAM_START: u16 = 0x8040;
+
+pub const RAM_END: u16 = 0x9F7F;
+
+pub const RAM_SHIFT: u32 = 0x8000;
+
+// As many lent words hold all of it.
+pub const RAM_WORDS: usize = 73600;
+
+// The words that turn the accelerators on and off, and where they are written.
+pub const ON_AT: u16 = 0x8033;
+
+pub const ON_WORD: u16 = 0x4A5A;
+
+pub const OFF_AT: u16 = 0x8034;
+
+pub const OFF_WORD: u16 = 0x6A7A;
+
+// The operands, two for each function, and the two result words.
+pub const OPERANDS_START: u16 = 0x9F80;
+
+pub const OPERANDS_END: u16 = 0x9F8B;
+
+pub const OPERAND_COUNT: usize = 12;
+
+pub const FIRST_AT: u16 = 0x9F8E;
+
+pub const SECOND_AT: u16 = 0x9F8F;
+
+// Where a word is added to the CRC, and where the CRC is set and read.
+pub const DATA_AT: u16 = 0x9FFC;
+
+pub const CRC_AT: u16 = 0x9FFD;
+
+// The two result words: a product's low and high word, or quotient and remainder.
+pub struct Results {
+    pub first: u16,
+    pub second: u16,
+}
+
+// The header's JLP field; whether the accelerators are on; the operands as last written; the results; the CRC.
+pub struct Jlp {
+    pub field: u8,
+    pub on: bool,
+    pub operands: [u16; OPERAND_COUNT],
+    pub results: Results,
+    pub crc: u16,
+}
+
+// What a read of a register gets.
+pub enum Heard {
+    Word(u16),
+    Silence,
+}
+
+// An address from low to high.
+fn between(low: u16, high: u16, a: u16) -> bool
+    ensures { λ r. ⌜ r ≡ between low high a ⌝ }
+{
+    if a < low {
+        return false;
+    }
+    a <= high
+}
+
+pub fn in_window(at: Console) -> bool
+    ensures { λ r. ⌜ r ≡ inWindow at ⌝ }
+{
+    between(WINDOW_START, WINDOW_END, at.0)
+}
+
+pub fn in_ram(at: Console) -> bool
+    ensures { λ r. ⌜ r ≡ inRam at ⌝ }
+{
+    between(RAM_START, RAM_END, at.0)
+}
+
+// Where a word of the window's RAM lies.
+pub fn location(at: Console) -> Locutus
+    ensures { λ r. ⌜ r ≡ ramLocation at ⌝ }
+{
+    Locutus(at.0 as u32 + RAM_SHIFT)
+}
+
+// Whether the field has the accelerators on at load and reset.
+fn starts_on(field: u8) -> bool
+    ensures { λ r. ⌜ r ≡ startsOn field ⌝ }
+{
+    if field == 1 {
+        return true;
+    }
+    field == 3
+}
+
+// The accelerators at load.
+pub fn fresh(field: u8) -> Jlp
+    ensures { λ r. ⌜ r ≡ freshJlp field ⌝ }
+{
+    let on = starts_on(field);
+    let operands = [0u16; OPERAND_COUNT];
+    let results = Results {
+        first: 0,
+        second: 0,
+    };
+    Jlp {
+        field,
+        on,
+        operands,
+        results,
+        crc: 0,
+    }
+}
+
+// On or off; all else stays.
+fn with_on(mut j: Jlp, on: bool) -> Jlp
+    ensures { λ r. ⌜ r ≡ withOn j on ⌝ }
+{
+    j.on = on;
+    j
+}
+
+pub fn reset(j: Jlp) -> Jlp
+    ensures { λ r. ⌜ r ≡ resetJlp j ⌝ }
+{
+    with_on(j, starts_on(j.field))
+}
+
+// The word that turns the accelerators on, which field 0 does not know.
+fn turns_on(field: u8, at: Console, value: u16) -> bool
+    ensures { λ r. ⌜ r ≡ turnsOn field at value ⌝ }
+{
+    if at.0 != ON_AT {
+        return false;
+    }
+    if value != ON_WORD {
+        return false;
+    }
+    field != 0
+}
+
+fn turns_off(at: Console, value: u16) -> bool
+    ensures { λ r. ⌜ r ≡ turnsOff at value ⌝ }
+{
+    if at.0 != OFF_AT {
+        return false;
+    }
+    value == OFF_WORD
+}
+
+// Whether the accelerators take a write. The address decides most.
+pub fn takes(j: Jlp, at: Console, value: u16) -> bool
+    ensures { λ r. ⌜ r ≡ takes j at value ⌝ }
+{
+    if !in_window(at) {
+        return false;
+    }
+    if j.on {
+        return true;
+    }
+    turns_on(j.field, at, value)
+}
+
+// Whether a write goes to one of their registers: no other changes anything of them.
+pub fn latches(j: Jlp, at: Console, value: u16) -> bool
+    ensures { λ r. ⌜ r ≡ latches j at value ⌝ }
+{
+    if in_ram(at) {
+        return false;
+    }
+    takes(j, at, value)
+}
+
+// The functions as 000's table has them; the last row is DIVUU, function 5.
+fn function_of(n: usize, a: u16, b: u16, old: Results) -> Results
+    ensures { λ r. ⌜ r ≡ functionOf n a b old ⌝ }
+{
+    match n {
+        0 => multiply(true, true, a, b),
+        1 => multiply(true, false, a, b),
+        2 => multiply(false, true, a, b),
+        3 => multiply(false, false, a, b),
+        4 => divide(true, a, b, old),
+        _ => divide(false, a, b, old),
+    }
+}
+
+// Operand k is written, and its own function computes.
+fn operate(mut j: Jlp, k: usize, value: u16) -> Jlp
+    requires { ⌜ k < operandCount ⌝ }
+    ensures { λ r. ⌜ r ≡ operated j k value ⌝ }
+{
+    let n = k / 2;
+    j.operands[k] = value;
+    let a = j.operands[2 * n];
+    let b = j.operands[2 * n + 1];
+    let old = j.results;
+    let results = function_of(n, a, b, old);
+    j.results = results;
+    j
+}
+
+// The CRC after a write.
+fn crc_after(crc: u16, at: Console, value: u16) -> u16
+    ensures { λ r. ⌜ r ≡ crcAfter crc at value ⌝ }
+{
+    if at.0 == DATA_AT {
+        return checksum(crc, value);
+    }
+    if at.0 == CRC_AT {
+        return value;
+    }
+    crc
+}
+
+fn with_crc(mut j: Jlp, crc: u16) -> Jlp
+    ensures { λ r. ⌜ r ≡ withCrc j crc ⌝ }
+{
+    j.crc = crc;
+    j
+}
+
+// What a write leaves of the accelerators while they are on.
+fn write_on(j: Jlp, at: Console, value: u16) -> Jlp
+    ensures { λ r. ⌜ r ≡ writtenOn j at value ⌝ }
+{
+    if turns_off(at, value) {
+        return with_on(j, false);
+    }
+    if between(OPERANDS_START, OPERANDS_END, at.0) {
+        return operate(j, (at.0 - OPERANDS_START) as usize, value);
+    }
+    with_crc(j, crc_after(j.crc, at, value))
+}
+
+// What a write leaves of the accelerators.
+pub fn write(j: Jlp, at: Console, value: u16) -> Jlp
+    ensures { λ r. ⌜ r ≡ writtenJlp j at value ⌝ }
+{
+    if turns_on(j.field, at, value) {
+        return with_on(j, true);
+    }
+    if !j.on {
+        return j;
+    }
+    write_on(j, at, value)
+}
+
+// The registers that answer.
+fn register_at(j: Jlp, at: Console) -> Heard
+    ensures { λ r. ⌜ r ≡ registerWord j at ⌝ }
+{
+    if at.0 == FIRST_AT {
+        return Heard::Word(j.results.first);
+    }
+    if at.0 == SECOND_AT {
+        return Heard::Word(j.results.second);
+    }
+    if at.0 == CRC_AT {
+        return Heard::Word(j.crc);
+    }
+    Heard::Silence
+}
+
+// What a read of them gets.
+pub fn read(j: Jlp, at: Console) -> Heard
+    ensures { λ r. ⌜ r ≡ heardAt j at ⌝ }
+{
+    if !j.on {
+        return Heard::Silence;
+    }
+    register_at(j, at)
+}
