@@ -8,7 +8,7 @@ use Rattle.basics.specs.declared.Refusal.{Refusal}
 use Rattle.basics.specs.Bytes.{le32}
 use Rattle.basics.specs.Rows.{Row}
 use Rattle.basics.specs.Refusals.{refuse, noRefusal, firstRefusal, passes}
-use Rattle.places.specs.Limits.{locutusParagraphs, binLimit}
+use Rattle.places.specs.Limits.{locutusParagraphs, binLimit, lentLimit}
 use Rattle.sums.specs.Crc.{crc32Of}
 use Rattle.tables.specs.Tables.{Tables, tables}
 use Rattle.hunk.specs.Hunk.{Hunk}
@@ -45,15 +45,25 @@ pressedImage bin cfg = imageOn bin cfg (entriesOf cfg)
 unfoldable pub wrongBin : List ℕ → Bool
 wrongBin bin = eqb (length bin) 0 || (eqb (length bin % 2) 1 || ltb binLimit (length bin))
 
+-- 20: more words are needed than Locutus has (02, W-210)
+unfoldable pub tooLarge : List Line → Bool
+tooLarge lines = ltb lentLimit (needed lines)
+
 -- 29: the buffer is shorter than the image
 unfoldable pub tooShort : List ℕ → List ℕ → List ℕ → Bool
 tooShort bin cfg out = ltb (length out) (length (pressedImage bin cfg))
 
--- every refusal of a build in 01's order: 21; 22, 23, 24; 25 to 28; 29
+abbrev pub roomRows : List ℕ → List ℕ → List ℕ → List (Row Refusal)
+roomRows bin cfg out =
+    (tooLarge (entriesOf cfg), refuse 20 0)
+    ∷ (tooShort bin cfg out, refuse 29 0)
+    ∷ []
+
+-- every refusal of a build in its order: 21; 22, 23, 24; 25 to 28; 20; 29
 abbrev pub refusalRows : List ℕ → List ℕ → List ℕ → List (Row Refusal)
 refusalRows bin cfg out =
     (wrongBin bin, refuse 21 0)
-    ∷ (cfgRows cfg ++ (ruleRows (binWords bin) (entriesOf cfg) ++ ((tooShort bin cfg out, refuse 29 0) ∷ [])))
+    ∷ (cfgRows cfg ++ (ruleRows (binWords bin) (entriesOf cfg) ++ roomRows bin cfg out))
 
 unfoldable pub refusalOf : List ℕ → List ℕ → List ℕ → Refusal
 refusalOf bin cfg out = firstRefusal (refusalRows bin cfg out)

@@ -1,10 +1,12 @@
 // The builder: an image from a publisher's BIN and CFG (01, "How an image is laid out by the builder").
+ghost use Prim.Native.Nat.{_*_};
 ghost use mathlib.Core.Path.{_≡_};
 ghost use mathlib.Core.Bool.{false};
+ghost use lib.Dec.{ltb};
 ghost use lib.ListN.{take};
 ghost use Rattle.basics.specs.Bytes.{le32};
+ghost use Rattle.places.specs.Limits.{lentLimit, pageSize};
 ghost use Rattle.save.specs.Writing.{writingOf, writtenOf};
-ghost use Rattle.places.specs.Limits.{pageLimit};
 ghost use Rattle.cfg.specs.File.{entriesOf};
 ghost use Rattle.rules.specs.Accepted.{Accepted};
 ghost use Rattle.build.specs.Building.{flagBytes, uidOf, wrongBin, buildingOf, builtOf};
@@ -18,13 +20,10 @@ use header::UID_SIZE;
 use layout::Drawing;
 use lines::Line;
 use places::BIN_LIMIT;
+use places::LENT_LIMIT;
 use places::LINE_LIMIT;
-use places::PAGE_LIMIT;
 use places::PAGE_SIZE;
 use save::Writing;
-
-// The words that a build lays out.
-const RAM_WORDS: usize = PAGE_LIMIT * PAGE_SIZE;
 
 // What building answers: its refusal; the image's length, also where the buffer is too short for it; and the words of RAM that the
 // image needs.
@@ -121,19 +120,29 @@ fn write_drawing(out: &mut [u8], uid: &[u8; UID_SIZE], d: Drawing, ram: &[u16]) 
     )
 }
 
-// The image of lines that the rules accept: laid out in a RAM of PAGE_LIMIT pages, and written.
+// 20, of so many pages.
+fn is_large(pages: u16) -> bool
+    ensures { λ r. ⌜ r ≡ ltb lentLimit (pageSize * pages) ⌝ }
+{
+    LENT_LIMIT < PAGE_SIZE * pages as usize
+}
+
+// The image of lines that the rules accept: laid out in a RAM of Locutus's size, and written. 20, where they need more.
 fn press(bin: &[u8], cfg: &[u8], count: u32, lines: [Line; LINE_LIMIT], out: &mut [u8]) -> Building
     requires { ⌜ Accepted (now bin) (take count lines) ⌝ }
     ensures { λ r. ⌜ Pressed (now (bin .entry)) (now (cfg .entry)) (take count lines) (now (out .entry)) r (now (out .exit)) ⌝ }
 {
-    let mut ram = [0u16; RAM_WORDS];
+    let mut ram = [0u16; LENT_LIMIT];
     let d = layout::lay_out(bin, count, lines, &mut ram);
+    if is_large(d.pages) {
+        return refuse(basics::refuse(20, 0));
+    }
     let uid = uid_of(bin, cfg);
     let w = write_drawing(out, &uid, d, &ram);
     answered(w, d.pages)
 }
 
-// 25 to 28, then the image, of a CFG that was read.
+// 25 to 28, then 20 and the image, of a CFG that was read.
 fn build_lines(bin: &[u8], cfg: &[u8], r: Reading, out: &mut [u8]) -> Building
     requires { ⌜ Read (now bin) (now cfg) r ⌝ }
     ensures { λ b. ⌜ Answers (now (bin .entry)) (now (cfg .entry)) (now (out .entry)) b (now (out .exit)) ⌝ }

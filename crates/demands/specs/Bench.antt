@@ -82,6 +82,6 @@ pub record Bench : Type 0 where
   pub rom-short : (p : Pressing) → Case six 510 0 p → p .building .refusal ≡ refuse 25 2
   -- 7. page 2 of chapter 12
   pub page-2 : (p : Pressing) → Case seven 8192 4096 p → Seven p
-  -- 8. 64 entries pass rule 24, 65 don't
-  pub entries-64 : readingOf (entries 64) .refusal ≡ noRefusal
-  pub entries-65 : readingOf (entries 65) ≡ refused (refuse 24 66)
+  -- 8. 128 entries pass rule 24, 129 don't (02, W-210)
+  pub entries-128 : readingOf (entries 128) .refusal ≡ noRefusal
+  pub entries-129 : readingOf (entries 129) ≡ refused (refuse 24 130)

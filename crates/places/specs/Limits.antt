@@ -1,4 +1,4 @@
--- The numbers of 01, each once. The code has a constant of the same name for each, and a bench case says 01's numeral again.
+-- The numbers of 01 and 02, each once. The code has a constant of the same name for each that it asks, and a bench case says the numeral again.
 use Prim.Native.Nat.{ℕ, _*_, min}
 use mathlib.Core.List.{List}
 use lib.ListN.{length}
@@ -10,9 +10,9 @@ lentLimit = 524288
 abbrev pub lent : List ℕ → ℕ
 lent ram = min (length ram) lentLimit
 
--- the most bytes of an image (01, refusal 1), of a BIN (21) and of a CFG (22), and the most entries of a CFG (24)
+-- the most bytes of an image (02, W-210, refusal 1), of a BIN (01, 21) and of a CFG (22), and the most entries of a CFG (02, W-210, 24)
 abbrev pub imageLimit : ℕ
-imageLimit = 1048576
+imageLimit = 2097152
 
 abbrev pub binLimit : ℕ
 binLimit = 524288
@@ -21,7 +21,7 @@ abbrev pub cfgLimit : ℕ
 cfgLimit = 16384
 
 abbrev pub lineLimit : ℕ
-lineLimit = 64
+lineLimit = 128
 
 -- the image card takes no longer file, and lends this many words (01, refusal 30; Bench cases)
 abbrev pub cardLimit : ℕ
@@ -71,7 +71,8 @@ slots = chapters * layers
 abbrev pub cells : ℕ
 cells = layers * paragraphs
 
--- the words and the paragraphs of a Locutus page, the most pages that a build lays out, and the paragraphs of Locutus RAM (01, How an image is laid out by the builder)
+-- the words and the paragraphs of a Locutus page (01, How an image is laid out by the builder); the most pages that the lines of a CFG can
+-- need, which is a bound and not asked (02, W-210); the paragraphs of Locutus RAM
 abbrev pub pageSize : ℕ
 pageSize = 4096
 
@@ -79,7 +80,7 @@ abbrev pub pageParagraphs : ℕ
 pageParagraphs = 16
 
 abbrev pub pageLimit : ℕ
-pageLimit = 80
+pageLimit = 139
 
 abbrev pub locutusParagraphs : ℕ
 locutusParagraphs = 2048

@@ -21,13 +21,13 @@ pub struct Page(pub u8);
 pub const LENT_LIMIT: usize = 524288;
 
 // The most bytes of an image, of a BIN and of a CFG, and the most entries of a CFG.
-pub const IMAGE_LIMIT: usize = 1048576;
+pub const IMAGE_LIMIT: usize = 2097152;
 
 pub const BIN_LIMIT: usize = 524288;
 
 pub const CFG_LIMIT: usize = 16384;
 
-pub const LINE_LIMIT: usize = 64;
+pub const LINE_LIMIT: usize = 128;
 
 // The longest file that the image card takes, and the words that it lends.
 pub const CARD_LIMIT: usize = 24576;
@@ -62,12 +62,10 @@ pub const SLOTS: usize = CHAPTERS * LAYERS;
 
 pub const CELLS: usize = LAYERS * PARAGRAPHS;
 
-// The words and the paragraphs of a Locutus page, the most pages that a build lays out, and the paragraphs of Locutus RAM.
+// The words and the paragraphs of a Locutus page, and the paragraphs of Locutus RAM.
 pub const PAGE_SIZE: usize = 4096;
 
 pub const PAGE_PARAGRAPHS: usize = 16;
-
-pub const PAGE_LIMIT: usize = 80;
 
 pub const LOCUTUS_PARAGRAPHS: usize = 2048;
 

@@ -1,3 +1,4 @@
 -- Theorems over the definitions.
 pub mod Chosen
 pub mod Refusals
+pub mod Within

@@ -1,6 +1,6 @@
 -- What the steps of a build are given and answer.
 use Prim.Native.Nat.{ℕ, _*_, _≤_}
-use mathlib.Core.Bool.{cond, false}
+use mathlib.Core.Bool.{cond, false, _||_}
 use mathlib.Core.List.{List, _++_}
 use mathlib.Core.Path.{_≡_}
 use lib.ListN.{length, drop}
@@ -17,7 +17,7 @@ use Rattle.cfg.specs.File.{readingOf}
 use Rattle.layout.specs.declared.Drawing.{Drawing}
 use Rattle.layout.specs.Layout.{needed}
 use Rattle.build.specs.declared.Building.{Building}
-use Rattle.build.specs.Building.{imageOn, flagBytes, wrongBin, buildingOf, builtOf}
+use Rattle.build.specs.Building.{imageOn, flagBytes, wrongBin, tooLarge, buildingOf, builtOf}
 
 -- a refusal, and zero in all else; 29 with the length needed; and an image with the words that it needs
 abbrev pub bare : Refusal → Building
@@ -51,5 +51,6 @@ pub record Answers (bin cfg out : List ℕ) (r : Building) (after : List ℕ) : 
 
 -- what pressing lines that the rules accept answers, and what it leaves
 pub record Pressed (bin cfg : List ℕ) (lines : List Line) (out : List ℕ) (r : Building) (after : List ℕ) : Type 0 where
-  pub answer : r ≡ cond (ltb (length out) (length (imageOn bin cfg lines))) (short (length (imageOn bin cfg lines))) (whole (length (imageOn bin cfg lines)) (needed lines))
-  pub leaves : after ≡ cond (ltb (length out) (length (imageOn bin cfg lines))) out (imageOn bin cfg lines ++ drop (length (imageOn bin cfg lines)) out)
+  pub answer : r ≡ cond (tooLarge lines) (bare (refuse 20 0))
+      (cond (ltb (length out) (length (imageOn bin cfg lines))) (short (length (imageOn bin cfg lines))) (whole (length (imageOn bin cfg lines)) (needed lines)))
+  pub leaves : after ≡ cond (tooLarge lines || ltb (length out) (length (imageOn bin cfg lines))) out (imageOn bin cfg lines ++ drop (length (imageOn bin cfg lines)) out)

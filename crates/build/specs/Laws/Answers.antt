@@ -27,7 +27,7 @@ use Rattle.rules.specs.Laws.Refusals.{each-refuses as rules-refuse, exactly as 
 use Rattle.rules.specs.Accepted.{Accepted}
 use Rattle.layout.specs.Layout.{needed}
 use Rattle.build.specs.declared.Building.{Building}
-use Rattle.build.specs.Building.{imageOn, pressedImage, buildingOf, builtOf, refusalRows, refusalOf, refused, wrongBin, tooShort}
+use Rattle.build.specs.Building.{imageOn, pressedImage, buildingOf, builtOf, roomRows, refusalRows, refusalOf, refused, wrongBin, tooLarge, tooShort}
 use Rattle.build.specs.Code.Answers.{bare, Read, Answers, Pressed}
 
 -- the numbers of the CFG's refusals, and of the rules'
@@ -80,7 +80,7 @@ module _ (bin cfg out : List ℕ) where
   refused-bin b e h r er q eq = rw (eq, er) (refuses-bare (refuse 21 0) (rw (← e, h)) (λ z. omega arith) (λ z. omega arith))
 
   abbrev behind : List (Row Refusal)
-  behind = ruleRows (binWords bin) (entriesOf cfg) ++ ((tooShort bin cfg out, refuse 29 0) ∷ [])
+  behind = ruleRows (binWords bin) (entriesOf cfg) ++ roomRows bin cfg out
 
   module _ (fine : wrongBin bin ≡ false) where
     parts : refusalOf bin cfg out ≡ firstRefusal (cfgRows cfg ++ behind)
@@ -133,22 +133,35 @@ module _ (bin cfg out : List ℕ) where
         unfolding pressedImage
         image-is = rw lines-are
 
-        left : refusalOf bin cfg out ≡ cond (tooShort bin cfg out) (refuse 29 0) noRefusal
+        left : refusalOf bin cfg out ≡ cond (tooLarge (entriesOf cfg)) (refuse 20 0) (cond (tooShort bin cfg out) (refuse 29 0) noRefusal)
         left = behind-cfg ∙ silent-behind (ruleRows (binWords bin) (entriesOf cfg)) _ silent
 
+        abbrev lines : List Line
+        lines = take (r .count) (r .lines)
+
+        -- 20
+        large : (q : Building) (after : List ℕ) → Pressed bin cfg lines out q after → tooLarge (entriesOf cfg) ≡ true → Answers bin cfg out q after
+        large q after p t =
+            let u : tooLarge lines ≡ true = rw lines-are t in
+            rw (p .answer, p .leaves, u) (refuses-bare (refuse 20 0) (left ∙ rw t) (λ z. omega arith) (λ z. omega arith))
+
         -- 29, and the image
-        pub pressed : (q : Building) (after : List ℕ) → Pressed bin cfg (take (r .count) (r .lines)) out q after → Answers bin cfg out q after
+        fitting : (q : Building) (after : List ℕ) → Pressed bin cfg lines out q after → tooLarge (entriesOf cfg) ≡ false → Answers bin cfg out q after
         unfolding buildingOf builtOf tooShort pressedImage
-        pressed q after p =
+        fitting q after p f =
+            let g : tooLarge lines ≡ false = rw lines-are f in
             cases (tooShort bin cfg out)
             (λ t.
-            let v : refusalOf bin cfg out ≡ refuse 29 0 = left ∙ rw t in
-            let u : ltb (length out) (length (imageOn bin cfg (take (r .count) (r .lines)))) ≡ true = rw image-is t in
-            record { answer = p .answer ∙ rw (u, image-is, v); leaves = p .leaves ∙ rw (u, v) })
+            let v : refusalOf bin cfg out ≡ refuse 29 0 = left ∙ rw (f, t) in
+            let u : ltb (length out) (length (imageOn bin cfg lines)) ≡ true = rw image-is t in
+            record { answer = p .answer ∙ rw (g, u, image-is, v); leaves = p .leaves ∙ rw (g, u, v) })
             (λ t.
-            let v : refusalOf bin cfg out ≡ noRefusal = left ∙ rw t in
-            let u : ltb (length out) (length (imageOn bin cfg (take (r .count) (r .lines)))) ≡ false = rw image-is t in
-            record { answer = p .answer ∙ rw (u, image-is, lines-are, v); leaves = p .leaves ∙ rw (u, image-is, v) })
+            let v : refusalOf bin cfg out ≡ noRefusal = left ∙ rw (f, t) in
+            let u : ltb (length out) (length (imageOn bin cfg lines)) ≡ false = rw image-is t in
+            record { answer = p .answer ∙ rw (g, u, image-is, lines-are, v); leaves = p .leaves ∙ rw (g, u, image-is, v) })
+
+        pub pressed : (q : Building) (after : List ℕ) → Pressed bin cfg lines out q after → Answers bin cfg out q after
+        pressed q after p = cases (tooLarge (entriesOf cfg)) (large q after p) (fitting q after p)
 
 -- a BIN that 21 passes
 pub bin-small : (bin : List ℕ) → wrongBin bin ≡ false → length bin ≤ binLimit

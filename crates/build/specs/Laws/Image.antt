@@ -1,37 +1,28 @@
 -- The image of lines that the rules accept: its parts have their sizes, its hunks lie in the words reported, it is shorter than the
 -- limit, and it asks for nothing that a load refuses with 10.
-use Prim.Native.Nat.{ℕ, _/_, _%_, _≤_, _*_, _<_, _+_}
-use mathlib.Core.List.{List, [], _∷_}
+use Prim.Native.Nat.{ℕ, _/_, _%_, _≤_, _<_, _+_}
+use mathlib.Core.List.{List}
 use mathlib.Core.Path.{refl, _≡_}
 use mathlib.Core.Bool.{true, false}
 use native.Mathlib.Omega.{arith}
-use lib.ListN.{length, getD, length-append}
+use lib.ListN.{length, getD}
 use Rattle.basics.specs.Laws.Tables.{length-table}
-use Rattle.basics.specs.Lists.{joined, Each, none, also}
-use Rattle.basics.specs.Counts.{count}
-use Rattle.basics.specs.Laws.Counts.{count-below, any-nothing}
+use Rattle.basics.specs.Laws.Counts.{any-nothing}
 use Rattle.places.specs.Limits.{locutusParagraphs, imageLimit}
 use Rattle.switches.specs.Flips.{PFE}
 use Rattle.basics.specs.Rows.{Silent}
 use Rattle.tables.specs.Tables.{unsupported, tablesRows, flipsOne}
 use Rattle.tables.specs.Laws.Refusals.{field-none}
-use Rattle.hunk.specs.Hunk.{Hunk}
-use Rattle.save.specs.Chosen.{chosen, paragraphHunk, hunkBlock, imageFor, Sized}
-use Rattle.save.specs.Laws.Chosen.{Lies, chosen-each, length-chosen, hunk-block-most, length-sized}
+use Rattle.save.specs.Chosen.{paragraphHunk, imageFor, Sized}
+use Rattle.save.specs.Laws.Chosen.{Lies}
+use Rattle.save.specs.Laws.Within as Within
 use Rattle.lines.specs.declared.Line.{Line}
 use Rattle.rules.specs.Accepted.{Accepted}
 use Rattle.rules.specs.Laws.Rules.{good}
-use Rattle.layout.specs.Layout.{mappingAt, permissionsAt, flipEntry, needed, covered, paragraphWords, pages, flipTable}
-use Rattle.layout.specs.Laws.Uses.{length-words, covered-inside, covered-below}
-use Rattle.plan.specs.Laws.Pages.{pages-most}
+use Rattle.layout.specs.Layout.{mappingAt, permissionsAt, flipEntry, needed, covered, paragraphWords, flipTable}
+use Rattle.layout.specs.Laws.Uses.{length-words, covered-inside}
 use Rattle.layout.specs.Laws.Tables.{unflipped, flip-entry}
 use Rattle.build.specs.Building.{flagBytes, uidOf, tablesFor, hunksFor}
-
--- a paragraph's hunk is a block of at most 779 bytes
-blocks-most : {n : ℕ} (hs : List Hunk) → Each (Lies n) hs → length (joined hunkBlock hs) ≤ 779 * length hs
-unfolding joined
-blocks-most [] none = omega arith
-blocks-most (h ∷ hs) (also l w) = omega (arith, length-append (hunkBlock h) (joined hunkBlock hs), hunk-block-most h (l .whole), blocks-most hs w)
 
 module _ (bin cfg : List ℕ) (lines : List Line) where
   pub sized : Sized flagBytes (uidOf bin cfg) (tablesFor lines)
@@ -48,25 +39,10 @@ module _ (bin cfg : List ℕ) (lines : List Line) where
   pub lie : (n : ℕ) → needed lines ≤ n → (q : ℕ) → q < locutusParagraphs → covered lines q ≡ true → Lies n (paragraphHunk q (paragraphWords bin lines q))
   lie n h q b e = record { whole = length-words bin lines q; within = omega (arith, covered-inside lines q e) }
 
-  pub hunks-lie : (n : ℕ) → needed lines ≤ n → Each (Lies n) (hunksFor bin lines)
-  hunks-lie n h = chosen-each (covered lines) (paragraphWords bin lines) locutusParagraphs (lie n h)
+  pub within-limit : length (imageFor flagBytes (uidOf bin cfg) (tablesFor lines) (hunksFor bin lines)) ≤ imageLimit
+  within-limit = Within.within-limit flagBytes (uidOf bin cfg) (tablesFor lines) sized (covered lines) (paragraphWords bin lines) (length-words bin lines)
 
   module _ (accepted : Accepted bin lines) where
-    hunks-few : length (hunksFor bin lines) ≤ 1200
-    hunks-few =
-        let c : count (covered lines) locutusParagraphs ≤ 16 * pages lines =
-        count-below (covered lines) (16 * pages lines) locutusParagraphs (λ i l e. covered-below lines i e) in
-        omega (arith, length-chosen (covered lines) (paragraphWords bin lines) locutusParagraphs, pages-most (good accepted))
-
-    pub within-limit : length (imageFor flagBytes (uidOf bin cfg) (tablesFor lines) (hunksFor bin lines)) ≤ imageLimit
-    within-limit =
-        omega (
-          arith,
-          length-sized flagBytes (uidOf bin cfg) (tablesFor lines) sized (hunksFor bin lines),
-          blocks-most (hunksFor bin lines) (hunks-lie (needed lines) (omega arith)),
-          hunks-few,
-        )
-
     -- no PFE in chapter 1
     unset : (y : ℕ) → y < 16 → PFE (getD (flipTable lines) (16 + y) 0) ≡ false
     unset y b =

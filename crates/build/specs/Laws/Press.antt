@@ -5,7 +5,7 @@ use mathlib.Core.List.{List, _++_}
 use mathlib.Core.Path.{_≡_, ap, _∙_, sym, refl}
 use mathlib.Core.Bool.{Bool, true, false, cond}
 use native.Mathlib.Omega.{arith}
-use lib.ListN.{length, getD, drop}
+use lib.ListN.{length, getD, drop, replicate, length-replicate}
 use lib.Dec.{ltb}
 use borrow.Author.Tests.{le-ltb, ltb-false}
 use Rattle.basics.specs.declared.Refusal.{Refusal}
@@ -19,7 +19,7 @@ use Rattle.basics.specs.Laws.Counts.{Place, any-at}
 use Rattle.basics.specs.Laws.Refusals.{silent-behind}
 use Rattle.basics.specs.Laws.Puts.{put-room}
 use Rattle.places.specs.Places.{console}
-use Rattle.places.specs.Limits.{locutusParagraphs, lent, imageLimit, pageLimit, pageSize, pageParagraphs, paragraphSize}
+use Rattle.places.specs.Limits.{locutusParagraphs, lent, lentLimit, imageLimit, pageSize, pageParagraphs, paragraphSize}
 use Rattle.tables.specs.Tables.{tables, tablesRows}
 use Rattle.save.specs.declared.Writing.{Writing}
 use Rattle.save.specs.Chosen.{imageFor}
@@ -30,26 +30,22 @@ use Rattle.rules.specs.Accepted.{Accepted}
 use Rattle.layout.specs.declared.Drawing.{Drawing}
 use Rattle.layout.specs.Drawing.{ramOf, wordAt, drawingOf}
 use Rattle.layout.specs.Layout.{flipTable, covered, needed, pages, paragraphWords, writtenOf as wordOf, lineHeld, paragraphHeld}
-use Rattle.rules.specs.Laws.Rules.{good}
-use Rattle.plan.specs.Laws.Pages.{pages-limit}
 use Rattle.layout.specs.Laws.Uses.{covered-below, covered-inside}
 use Rattle.build.specs.declared.Building.{Building}
-use Rattle.build.specs.Building.{hunksFor, flagBytes, uidOf, tablesFor, imageOn}
-use Rattle.build.specs.Code.Answers.{answeredOf, short, whole, drawnContent, Pressed}
+use Rattle.build.specs.Building.{hunksFor, flagBytes, uidOf, tablesFor, imageOn, tooLarge}
+use Rattle.build.specs.Code.Answers.{bare, answeredOf, short, whole, drawnContent, Pressed}
 use Rattle.build.specs.Laws.Image.{supported, within-limit}
 
--- the words that a build lays out
-abbrev pub ramWords : ℕ
-ramWords = pageLimit * pageSize
-
-module _ (bin : List ℕ) (lines : List Line) (accepted : Accepted bin lines) (ram₀ ram : List ℕ) (long : length ram₀ ≡ ramWords) (laid-as : ram ≡ ramOf bin lines ram₀) where
+module _ (bin : List ℕ) (lines : List Line) (accepted : Accepted bin lines) (fits : tooLarge lines ≡ false) (ram₀ ram : List ℕ) (long : length ram₀ ≡ lentLimit)
+    (laid-as : ram ≡ ramOf bin lines ram₀) where
   abbrev marks : List Bool
   marks = table locutusParagraphs (covered lines)
 
-  room : needed lines ≤ ramWords
-  room = omega (arith, pages-limit (good accepted))
+  room : needed lines ≤ lentLimit
+  unfolding tooLarge
+  room = ltb-false lentLimit (needed lines) fits
 
-  ram-long : length ram ≡ ramWords
+  ram-long : length ram ≡ lentLimit
   unfolding ramOf
   ram-long = ap length laid-as ∙ length-laid 0 (wordAt bin lines) ram₀ (paragraphSize * min (pageParagraphs * pages lines) (length ram₀ / paragraphSize)) ∙ long
 
@@ -100,7 +96,7 @@ module _ (bin : List ℕ) (lines : List Line) (accepted : Accepted bin lines) (r
     unfolding refusalOf
     refusal =
         silent-behind (tablesRows flagBytes (flipTable lines) (lent ram)) _ (supported bin cfg lines accepted (lent ram))
-        ∙ rw (inside, image-is, le-ltb imageLimit (length image) (within-limit bin cfg lines accepted))
+        ∙ rw (inside, image-is, le-ltb imageLimit (length image) (within-limit bin cfg lines))
 
     writing : writingOf out given ≡ answerFor (cond (ltb (length out) (length image)) (refuse 29 0) noRefusal) (length image)
     unfolding writingOf
@@ -116,8 +112,7 @@ module _ (bin : List ℕ) (lines : List Line) (accepted : Accepted bin lines) (r
     answer true = refl
     answer false = refl
 
-    -- as the code comes to it
-    pub pressed-as :
+    pressed-as :
         (d : Drawing) → d ≡ drawingOf lines → (uid : List ℕ) → uid ≡ uidOf bin cfg → (w : Writing) (after : List ℕ) (r : Building)
         → (w ≡ writingOf out (drawnContent uid d ram)) × (after ≡ writtenOf out (drawnContent uid d ram)) → r ≡ answeredOf w (d .pages)
         → Pressed bin cfg lines out r after
@@ -126,7 +121,29 @@ module _ (bin : List ℕ) (lines : List Line) (accepted : Accepted bin lines) (r
         let a : w ≡ writingOf out given = rw (ed, eu) at (ew .0) in
         let b : after ≡ writtenOf out given = rw (ed, eu) at (ew .1) in
         let c : r ≡ answeredOf w (pages lines) = rw ed at er in
-        record { answer = c ∙ ap (λ (x : Writing). answeredOf x (pages lines)) (a ∙ writing) ∙ answer (ltb (length out) (length image)); leaves = b ∙ written }
+        record { answer = c ∙ ap (λ (x : Writing). answeredOf x (pages lines)) (a ∙ writing) ∙ answer (ltb (length out) (length image)) ∙ rw fits; leaves = b ∙ written ∙ rw fits }
+
+-- 20, as the code asks it of a drawing's pages
+pub drawn-large : (lines : List Line) (d : Drawing) → d ≡ drawingOf lines → (b : Bool) → b ≡ ltb lentLimit (pageSize * d .pages) → tooLarge lines ≡ b
+unfolding tooLarge drawingOf
+drawn-large lines d e b eb = sym (eb ∙ ap (λ (x : Drawing). ltb lentLimit (pageSize * x .pages)) e)
+
+pub pressed-large :
+    (bin cfg out : List ℕ) (lines : List Line) (d : Drawing) → d ≡ drawingOf lines → (b : Bool) → b ≡ ltb lentLimit (pageSize * d .pages) → b ≡ true
+    → (a : Refusal) → a ≡ refuse 20 0 → (r : Building) → r ≡ bare a → Pressed bin cfg lines out r out
+pressed-large bin cfg out lines d ed b eb h a ea r er =
+    let t : tooLarge lines ≡ true = drawn-large lines d ed b eb ∙ h in
+    record { answer = er ∙ rw (ea, t); leaves = rw t }
+
+-- as the code comes to the image
+pub pressed-fitting :
+    (bin cfg out : List ℕ) (lines : List Line) → Accepted bin lines → (ram : List ℕ) (d : Drawing)
+    → (d ≡ drawingOf lines) × (ram ≡ ramOf bin lines (replicate lentLimit 0)) → (b : Bool) → b ≡ ltb lentLimit (pageSize * d .pages) → b ≡ false
+    → (uid : List ℕ) → uid ≡ uidOf bin cfg → (w : Writing) (after : List ℕ)
+    → (w ≡ writingOf out (drawnContent uid d ram)) × (after ≡ writtenOf out (drawnContent uid d ram)) → (r : Building) → r ≡ answeredOf w (d .pages)
+    → Pressed bin cfg lines out r after
+pressed-fitting bin cfg out lines accepted ram d ed b eb h uid eu w after ew r er =
+    pressed-as bin lines accepted (drawn-large lines d (ed .0) b eb ∙ h) (replicate lentLimit 0) ram (length-replicate {A = ℕ} lentLimit 0) (ed .1) cfg out d (ed .0) uid eu w after r ew er
 
 -- the writer given a drawing and the flag bytes
 pub drawn-written :

@@ -1,26 +1,32 @@
--- A build is refused exactly when a row of 01's table holds and none before it does, and a refusal leaves the buffer; and what an
--- acceptance holds: lines that the rules accept.
-use Prim.Native.Nat.{ℕ}
-use mathlib.Core.List.{List, _++_, _∷_, []}
+-- A build is refused exactly when a row of its table holds and none before it does, and a refusal leaves the buffer; and what an
+-- acceptance holds: lines that the rules accept, and words that Locutus has.
+use Prim.Native.Nat.{ℕ, _≤_}
+use mathlib.Core.List.{List, _++_}
 use mathlib.Core.Path.{_≡_, refl, sym, ap, _∙_}
 use mathlib.Core.Logic.{_⊎_, inl, inr, _↔_}
-use mathlib.Core.Bool.{true}
+use mathlib.Core.Bool.{true, false}
 use native.Mathlib.Omega.{arith}
-use borrow.Author.Tests.{eqb-true, ne-eqb}
+use lib.ListN.{length}
+use borrow.Author.Tests.{eqb-true, ne-eqb, ltb-false, le-ltb}
 use Rattle.basics.specs.declared.Refusal.{Refusal}
 use Rattle.basics.specs.Rows.{Row, Gives, Silent, also}
-use Rattle.basics.specs.Refusals.{refuse, noRefusal}
+use Rattle.basics.specs.Refusals.{noRefusal}
 use Rattle.basics.specs.Laws.Rows.{silent-left, silent-right, silent-first, first-by}
 use Rattle.basics.specs.Laws.Refusals.{Refusing, refusing-append, gives-refused, refused-exactly, accepted-exactly}
+use Rattle.places.specs.Limits.{lentLimit}
+use Rattle.lines.specs.declared.Line.{Line}
 use Rattle.lines.specs.Bin.{binWords}
 use Rattle.cfg.specs.File.{refusalRows as cfgRows, entriesOf, readingOf}
 use Rattle.cfg.specs.Laws.Refusals.{each-refuses as cfg-refuses, exactly}
 use Rattle.cfg.specs.Laws.Entries.{Holds, accepted-holds, all-typed}
 use Rattle.rules.specs.Rules.{refusalRows as ruleRows}
 use Rattle.rules.specs.Laws.Refusals.{each-refuses as rules-refuse, exactly as rules-exactly}
+use Rattle.rules.specs.Laws.Rules.{Good}
 use Rattle.rules.specs.Accepted.{Accepted}
+use Rattle.layout.specs.Layout.{needed, pages}
+use Rattle.plan.specs.Laws.Pages.{few-pages}
 use Rattle.build.specs.declared.Building.{Building}
-use Rattle.build.specs.Building.{tooShort, refusalRows, refusalOf, builds, buildingOf, builtOf}
+use Rattle.build.specs.Building.{tooLarge, roomRows, refusalRows, refusalOf, builds, buildingOf, builtOf}
 
 -- what a build answers and leaves, for every BIN, CFG and buffer
 pub record Answers (bin cfg out : List ℕ) : Type 0 where
@@ -36,12 +42,12 @@ module _ (bin cfg out : List ℕ) where
 
   -- what is asked behind the CFG's rows
   abbrev behind : List (Row Refusal)
-  behind = rules ++ ((tooShort bin cfg out, refuse 29 0) ∷ [])
+  behind = rules ++ roomRows bin cfg out
 
   behind-rows : Refusing behind
   behind-rows =
-      refusing-append rules ((tooShort bin cfg out, refuse 29 0) ∷ []) (rules-refuse (binWords bin) (entriesOf cfg))
-      ((λ z. omega arith), tt)
+      refusing-append rules (roomRows bin cfg out) (rules-refuse (binWords bin) (entriesOf cfg))
+      ((λ z. omega arith), ((λ z. omega arith), tt))
 
   every-row : Refusing (refusalRows bin cfg out)
   every-row = ((λ z. omega arith), refusing-append (cfgRows cfg) behind (cfg-refuses cfg) behind-rows)
@@ -92,7 +98,10 @@ module _ (bin cfg out : List ℕ) where
     cfg-silent (also e s) = silent-left (cfgRows cfg) behind s
 
     rules-silent : Silent (refusalRows bin cfg out) → Silent rules
-    rules-silent (also e s) = silent-left rules ((tooShort bin cfg out, refuse 29 0) ∷ []) (silent-right (cfgRows cfg) behind s)
+    rules-silent (also e s) = silent-left rules (roomRows bin cfg out) (silent-right (cfgRows cfg) behind s)
+
+    room-silent : Silent (refusalRows bin cfg out) → Silent (roomRows bin cfg out)
+    room-silent (also e s) = silent-right rules (roomRows bin cfg out) (silent-right (cfgRows cfg) behind s)
 
     -- the CFG is read, and the rules find nothing in its lines
     pub cfg-read : readingOf cfg .refusal .number ≡ 0
@@ -102,3 +111,19 @@ module _ (bin cfg out : List ℕ) where
     lines-accepted =
         let h : Holds cfg (readingOf cfg) = accepted-holds cfg cfg-read in
         record { few = omega (arith, h .counted, h .most); typed = all-typed (h .fitting); judged = rules-exactly (binWords bin) (entriesOf cfg) .accepts .1 (rules-silent silent) }
+
+    -- and the words that they need are Locutus's at most: 128 pages (02, W-210)
+    not-large : Silent (roomRows bin cfg out) → tooLarge (entriesOf cfg) ≡ false
+    not-large (also e s) = e
+
+    pub words-fit : needed (entriesOf cfg) ≤ lentLimit
+    unfolding tooLarge
+    words-fit = ltb-false lentLimit (needed (entriesOf cfg)) (not-large (room-silent silent))
+
+    pub pages-fit : pages (entriesOf cfg) ≤ 128
+    pages-fit = omega (arith, words-fit)
+
+-- up to 117 lines never need more: whatever their pages are, 20 is not given (64 was the limit before W-210)
+pub few-fit : {lines : List Line} → Good lines → length lines ≤ 117 → tooLarge lines ≡ false
+unfolding tooLarge
+few-fit {lines} g h = le-ltb lentLimit (needed lines) (omega (arith, few-pages g))

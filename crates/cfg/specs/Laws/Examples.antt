@@ -55,7 +55,7 @@ pub each-answers : map (λ (e : Example). readingOf (text (e .file))) examples �
 unfolding readingOf count until linesOf saysFrom outsideFrom entriesFrom wordsSay mappingLine memattrLine headingLine romLine pagedLine ramLine _>>=_ dollar oneDigit bits hexFrom same cut
 each-answers = refl
 
--- 64 entries pass rule 24, and 65 do not: the line of the 65th is 66, behind that of the section's name
-pub case8 : (readingOf (entries 64) .refusal ≡ noRefusal) × (readingOf (entries 64) .count ≡ 64) × (readingOf (entries 65) ≡ refused (refuse 24 66))
+-- 128 entries pass rule 24, and 129 do not: the line of the 129th is 130, behind that of the section's name (02, W-210)
+pub case8 : (readingOf (entries 128) .refusal ≡ noRefusal) × (readingOf (entries 128) .count ≡ 128) × (readingOf (entries 129) ≡ refused (refuse 24 130))
 unfolding readingOf count until linesOf saysFrom outsideFrom entriesFrom wordsSay mappingLine memattrLine headingLine romLine pagedLine ramLine _>>=_ dollar oneDigit bits hexFrom same cut
 case8 = (refl, refl, refl)

@@ -1,6 +1,6 @@
 -- The bench cases, computed; 6 and 7 by what `build` and `load` promise.
 use Prim.Native.Nat.{ℕ, _+_, _≤_}
-use mathlib.Core.List.{List, _∷_, [], _++_}
+use mathlib.Core.List.{List, _++_}
 use mathlib.Core.Path.{_≡_, refl, ap, _∙_}
 use mathlib.Core.Bool.{false}
 use native.Mathlib.Omega.{arith}
@@ -11,7 +11,7 @@ use Rattle.basics.specs.Rows.{Row, Silent, also, none}
 use Rattle.basics.specs.Refusals.{refuse, noRefusal, firstRefusal}
 use Rattle.basics.specs.Laws.Rows.{silent-append}
 use Rattle.basics.specs.Laws.Refusals.{silent-behind}
-use Rattle.places.specs.Limits.{imageLimit}
+use Rattle.places.specs.Limits.{imageLimit, lentLimit}
 use Rattle.sums.specs.Crc.{crcFrom, crcByte, crcBits, crcBit}
 use Rattle.switches.specs.Flips.{asks}
 use Rattle.cart.specs.declared.Cartridge.{Cartridge}
@@ -26,7 +26,7 @@ use Rattle.rules.specs.Rules.{refusalRows as ruleRows}
 use Rattle.rules.specs.Laws.Refusals as Rules
 use Rattle.layout.specs.Layout.{needed}
 use Rattle.build.specs.declared.Building.{Building}
-use Rattle.build.specs.Building.{wrongBin, tooShort, pressedImage, refusalRows, refusalOf, built, tablesFor}
+use Rattle.build.specs.Building.{wrongBin, tooLarge, tooShort, pressedImage, roomRows, refusalRows, refusalOf, built, tablesFor}
 use Rattle.build.specs.Laws.Image.{within-limit}
 use Rattle.build.specs.Laws.Refusals as Build
 use Rattle.plays.specs.Plain.{plainAnswers, fresh}
@@ -35,20 +35,24 @@ use Rattle.demands.specs.Bench.{Bench, Case, six, Six, seven, Seven, sev
 use Rattle.demands.specs.Laws.Pressed.{is-built, pressed-tables, pressed-plays}
 use Rattle.demands.specs.Laws.Files.{sixLines, six-says, six-read, six-accepted, six-words, six-mapping, six-permission, sevenLines, seven-says, seven-read, seven-accepted, seven-words, seven-entry, seven-others, seven-plain}
 
--- a CFG that is read, with lines that the rules accept for this BIN, builds into a buffer that takes any image
+-- a CFG that is read, with lines that the rules accept for this BIN and words that Locutus has, builds into a buffer that takes any image
 module _ (p : Pressing) (q : Pressed p) (fine : wrongBin (p .bin) ≡ false) (read : readingOf (p .cfg) .refusal .number ≡ 0)
-    (accepted : Accepted (p .bin) (entriesOf (p .cfg))) (room : imageLimit ≤ length (p .out)) where
+    (accepted : Accepted (p .bin) (entriesOf (p .cfg))) (few : needed (entriesOf (p .cfg)) ≤ lentLimit) (room : imageLimit ≤ length (p .out)) where
+  not-large : tooLarge (entriesOf (p .cfg)) ≡ false
+  unfolding tooLarge
+  not-large = le-ltb lentLimit (needed (entriesOf (p .cfg))) few
+
   fits : tooShort (p .bin) (p .cfg) (p .out) ≡ false
   unfolding tooShort pressedImage
   fits =
       le-ltb (length (p .out)) (length (pressedImage (p .bin) (p .cfg)))
-      (omega (arith, room, within-limit (p .bin) (p .cfg) (entriesOf (p .cfg)) accepted))
+      (omega (arith, room, within-limit (p .bin) (p .cfg) (entriesOf (p .cfg))))
 
   silent : Silent (refusalRows (p .bin) (p .cfg) (p .out))
   silent =
       also fine
       (silent-append (Cfg.exactly (p .cfg) .accepts .0 read)
-      (silent-append (Rules.exactly (binWords (p .bin)) (entriesOf (p .cfg)) .accepts .0 (accepted .judged)) (also fits none)))
+      (silent-append (Rules.exactly (binWords (p .bin)) (entriesOf (p .cfg)) .accepts .0 (accepted .judged)) (also not-large (also fits none))))
 
   number-0 : p .building .refusal .number ≡ 0
   number-0 = ap (λ (b : Building). b .refusal .number) (q .answer) ∙ Build.answers (p .bin) (p .cfg) (p .out) .accepted .1 silent
@@ -68,7 +72,7 @@ case-6 : (p : Pressing) → Case six 512 4096 p → Six p
 case-6 p c =
     let says : entriesOf (p .cfg) ≡ sixLines = ap entriesOf (c .file) ∙ six-says in
     let b : p .building ≡ built (p .bin) (p .cfg) =
-    built-so p (c .pressed) (fine-512 (p .bin) (c .long)) (rw (c .file) six-read) (rw says (six-accepted (p .bin) (c .long))) (c .room) in
+    built-so p (c .pressed) (fine-512 (p .bin) (c .long)) (rw (c .file) six-read) (rw says (six-accepted (p .bin) (c .long))) (rw (says, six-words) (omega arith)) (c .room) in
     let n : p .building .refusal ≡ noRefusal = ap (λ (x : Building). x .refusal) b in
     let w : p .building .needed ≡ 4096 = ap (λ (x : Building). x .needed) b ∙ ap needed says ∙ six-words in
     let t : p .loading .cartridge ≡ cartridgeWith 0 (tablesFor sixLines) =
@@ -84,7 +88,7 @@ case-7 : (p : Pressing) → Case seven 8192 4096 p → Seven p
 case-7 p c =
     let says : entriesOf (p .cfg) ≡ sevenLines = ap entriesOf (c .file) ∙ seven-says in
     let b : p .building ≡ built (p .bin) (p .cfg) =
-    built-so p (c .pressed) (fine-8192 (p .bin) (c .long)) (rw (c .file) seven-read) (rw says (seven-accepted (p .bin) (c .long))) (c .room) in
+    built-so p (c .pressed) (fine-8192 (p .bin) (c .long)) (rw (c .file) seven-read) (rw says (seven-accepted (p .bin) (c .long))) (rw (says, seven-words) (omega arith)) (c .room) in
     let n : p .building .refusal ≡ noRefusal = ap (λ (x : Building). x .refusal) b in
     let z : p .building .refusal .number ≡ 0 = ap (λ (r : Refusal). r .number) n in
     let w : p .building .needed ≡ 4096 = ap (λ (x : Building). x .needed) b ∙ ap needed says ∙ seven-words in
@@ -106,7 +110,7 @@ fine-510 bin e = rw e
 
 module _ (bin cfg out : List ℕ) (e : length bin ≡ 510) (read : Silent (cfgRows cfg)) (says : entriesOf cfg ≡ sixLines) where
   abbrev behind : List (Row Refusal)
-  behind = ruleRows (binWords bin) (entriesOf cfg) ++ ((tooShort bin cfg out, refuse 29 0) ∷ [])
+  behind = ruleRows (binWords bin) (entriesOf cfg) ++ roomRows bin cfg out
 
   by-the-rules : refusalOf bin cfg out ≡ firstRefusal behind
   unfolding refusalOf
@@ -140,6 +144,6 @@ bench =
       rom = case-6;
       rom-short = case-6-short;
       page-2 = case-7;
-      entries-64 = case8 .0;
-      entries-65 = case8 .2;
+      entries-128 = case8 .0;
+      entries-129 = case8 .2;
     }

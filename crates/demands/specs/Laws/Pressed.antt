@@ -21,13 +21,11 @@ use Rattle.trip.specs.Laws.Smallest.{chosen-smallest}
 use Rattle.lines.specs.declared.Line.{Line}
 use Rattle.cfg.specs.File.{entriesOf}
 use Rattle.rules.specs.Accepted.{Accepted}
-use Rattle.rules.specs.Laws.Rules.{good}
 use Rattle.layout.specs.Layout.{needed, covered, paragraphWords}
-use Rattle.plan.specs.Laws.Pages.{needed-small}
 use Rattle.layout.specs.Laws.Uses.{covered-inside}
 use Rattle.build.specs.declared.Building.{Building}
 use Rattle.build.specs.Building.{builds, flagBytes, tablesFor, pressedImage, uidOf, buildingOf, refused, refusalOf, built, builtOf}
-use Rattle.build.specs.Laws.Refusals.{lines-accepted}
+use Rattle.build.specs.Laws.Refusals.{lines-accepted, words-fit}
 use Rattle.build.specs.Laws.Image.{sized, within-limit, supported, lie}
 use Rattle.plays.specs.Loaded.{Loaded}
 use Rattle.plays.specs.Plain.{plainAnswers, fresh}
@@ -43,31 +41,31 @@ module _ (bin cfg out : List ℕ) (accepts : builds bin cfg out ≡ true) (ram :
   accepted = lines-accepted bin cfg out accepts
 
   inside : needed lines ≤ lent ram
-  inside = omega (arith, room, needed-small (good accepted))
+  inside = omega (arith, room, words-fit bin cfg out accepts)
 
   -- the image loads: the layout's tables, and the covered paragraphs laid over the RAM
   pub loads-as : LoadsChosen flagBytes (tablesFor lines) (covered lines) (paragraphWords bin lines) (pressedImage bin cfg) ram
   unfolding pressedImage
   loads-as =
       load-chosen flagBytes (uidOf bin cfg) (tablesFor lines) (covered lines) (paragraphWords bin lines) ram (sized bin cfg lines)
-      (within-limit bin cfg lines accepted) (supported bin cfg lines accepted (lent ram)) (lie bin cfg lines (lent ram) inside)
+      (within-limit bin cfg lines) (supported bin cfg lines accepted (lent ram)) (lie bin cfg lines (lent ram) inside)
 
   -- and none like it is shorter
   smallest-as : (other : List ℕ) → Alike (pressedImage bin cfg) other ram → length (pressedImage bin cfg) ≤ length other
   unfolding pressedImage
   smallest-as =
       chosen-smallest flagBytes (uidOf bin cfg) (tablesFor lines) (covered lines) (paragraphWords bin lines) ram (sized bin cfg lines)
-      (within-limit bin cfg lines accepted) (supported bin cfg lines accepted (lent ram)) (lie bin cfg lines (lent ram) inside)
+      (within-limit bin cfg lines) (supported bin cfg lines accepted (lent ram)) (lie bin cfg lines (lent ram) inside)
 
   words-there : Loaded bin lines (loadRamOf (pressedImage bin cfg) ram)
   words-there =
       record {
-        room = rw (loads-as .back .same) room;
+        room = rw (loads-as .back .same) inside;
         words =
             λ p i c h.
             let q : (256 * p + i) / 256 ≡ p = omega arith in
             let r : (256 * p + i) % 256 ≡ i = omega arith in
-            let b : p < locutusParagraphs = omega (arith, covered-inside lines p c, needed-small (good accepted)) in
+            let b : p < locutusParagraphs = omega (arith, covered-inside lines p c, words-fit bin cfg out accepts) in
             rw (q, r) at (loads-as .back .given (256 * p + i) (rw q b) (rw q c));
       }
 

@@ -7,7 +7,7 @@ use lib.Dec.{eqb, leb, ltb}
 use Rattle.basics.specs.Counts.{any, all, count}
 use Rattle.basics.specs.Laws.Counts.{all-at}
 use Rattle.basics.specs.Laws.Tests.{cases, and-left, and-right, or-left}
-use Rattle.places.specs.Limits.{lineLimit}
+use Rattle.places.specs.Limits.{lineLimit, pageLimit}
 use Rattle.cart.specs.Reads.{silent}
 use Rattle.lines.specs.Lines.{holds}
 use Rattle.rules.specs.Chapters.{uses}
@@ -17,7 +17,6 @@ use Rattle.plan.specs.Valid.{Valid, quiet, mayFlip, allowed}
 use Rattle.plan.specs.Image.{size, base, pagesOf}
 use Rattle.plan.specs.Fewest.{starts, fewest}
 use Rattle.plan.specs.OfLines.{planOf}
-use Rattle.plan.specs.Laws.Pages.{mostPages}
 
 -- pages from page 0 of chapter 5 on
 abbrev pub most : Plan
@@ -26,7 +25,7 @@ most x = record { kind = λ k. cond (quiet (16 * x + k)) 0 1; page = λ y. leb 8
 pub record Most : Type 0 where
   pub valid : Valid most
   pub lines : fewest most ≡ lineLimit
-  pub pages : pagesOf most ≡ mostPages
+  pub pages : pagesOf most ≡ pageLimit
 
 kind-allowed : (p : ℕ) → allowed p (cond (quiet p) 0 1) ≡ true
 unfolding allowed
@@ -43,7 +42,7 @@ most-lines : fewest most ≡ lineLimit
 unfolding fewest starts count quiet silent
 most-lines = refl
 
-most-pages : pagesOf most ≡ mostPages
+most-pages : pagesOf most ≡ pageLimit
 unfolding base size count hasPlain any quiet silent
 most-pages = refl
 

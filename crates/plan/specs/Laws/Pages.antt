@@ -12,7 +12,7 @@ use borrow.Author.Tests.{eqb-true, eqb-false, leb-false}
 use Rattle.basics.specs.Counts.{any, count}
 use Rattle.basics.specs.Laws.Counts.{any-of, any-at, Place, count-add, count-same, count-imp, count-or, count-more, count-most, count-last}
 use Rattle.basics.specs.Laws.Tests.{cases, true-is-not-false, not-true, or-left, or-right, or-cases, and-left, or-false-left, or-false-right}
-use Rattle.places.specs.Limits.{lineLimit, pageLimit, lentLimit}
+use Rattle.places.specs.Limits.{pageLimit, pageSize}
 use Rattle.cart.specs.Reads.{silent}
 use Rattle.lines.specs.declared.Line.{Line}
 use Rattle.rules.specs.Laws.Rules.{Good}
@@ -154,20 +154,13 @@ module _ (q : Plan) where
         let b : count startsIn 16 ≤ count (starts (kinds q)) 256 = starts-few 16 in
         omega (arith, count-imp (λ x. hasPlain (q x)) (λ x. startsIn x || leb 5 x) 16 start-or-high, count-or startsIn (leb 5) 16, eleven)
 
--- the most pages that accepted lines can need
-abbrev pub mostPages : ℕ
-mostPages = lineLimit + 11
-
 module _ {lines : List Line} (g : Good lines) where
   pub few-pages : pages lines ≤ length lines + 11
   few-pages = omega (arith, pages-is lines, plan-pages (planOf lines) (plan-valid g), plan-fewest g)
 
-  pub pages-most : pages lines ≤ mostPages
-  pages-most = omega (arith, few-pages, g .few)
-
-  -- so many pages as a build has room for, and so many words as a lent RAM can have
+  -- the most pages that accepted lines can need, and the most words (02, W-210)
   pub pages-limit : pages lines ≤ pageLimit
-  pages-limit = omega (arith, pages-most)
+  pages-limit = omega (arith, few-pages, g .few)
 
-  pub needed-small : needed lines ≤ lentLimit
-  needed-small = omega (arith, pages-most)
+  pub needed-limit : needed lines ≤ pageSize * pageLimit
+  needed-limit = omega (arith, pages-limit)

@@ -12,6 +12,7 @@ use borrow.Author.Tests.{eqb-true, eq-eqb, eqb-false, ne-eqb}
 use Rattle.basics.specs.Laws.Tests.{true-is-not-false}
 use Rattle.basics.specs.Options.{isSome}
 use Rattle.places.specs.declared.Console.{Console}
+use Rattle.places.specs.Limits.{lent}
 use Rattle.lines.specs.declared.Entry.{Entry}
 use Rattle.lines.specs.declared.Entry.the-variants.{Rom, Paged, Ram}
 use Rattle.lines.specs.declared.Width.the-variants.{Sixteen, Eight}
@@ -36,7 +37,7 @@ isNarrow (Ram lo hi Eight) = true
 pub record Held (bin : List ℕ) (lines : List Line) (ram : List ℕ) (mem : Console → ℕ) : Type 0 where
   pub words : (t : ℕ) (a : Console) (l : Line) → lineAt lines t (a .0) ≡ some l → getD ram (placeOf lines t a .0) 0 ≡ wordBy bin mem (l .entry) a
   pub narrow : (a : Console) (l : Line) → lineAt lines 0 (a .0) ≡ some l → isNarrow (l .entry) ≡ true → mem a < 256
-  pub room : needed lines ≤ length ram
+  pub room : needed lines ≤ lent ram
 
 pub ram-word : (e : Entry) (bin : List ℕ) (mem : Console → ℕ) (a : Console) → isRam e ≡ true → wordBy bin mem e a ≡ mem a
 ram-word (Rom lo hi at) bin mem a h = true-is-not-false h refl

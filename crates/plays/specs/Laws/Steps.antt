@@ -40,7 +40,6 @@ use Rattle.rules.specs.Chapters.{paged}
 use Rattle.layout.specs.Layout.{permissionsAt, flipEntry, mappingAt, needed}
 use Rattle.layout.specs.Laws.Layout.{placeOf}
 use Rattle.layout.specs.Laws.Places.{place-below}
-use Rattle.plan.specs.Laws.Pages.{needed-small}
 use Rattle.layout.specs.Laws.Shows.{pfe-is}
 use Rattle.layout.specs.Laws.Tables.{unbanked}
 use Rattle.plays.specs.Plain.{shownLine, answerBy, plainRead, ramBy, ramAfter, isRequest, numberAfter}
@@ -117,12 +116,12 @@ module _ {bin : List ℕ} {lines : List Line} (g : Good lines) (c : Cartridge) (
         let p : mappingAt lines (number (at .0 / 4096)) (at .0 / 256) * 256 + at .0 % 256 ≡ placeOf lines (layer (l .entry)) at .0 =
         shows g (number (at .0 / 4096)) at .mapping l e in
         let b : placeOf lines (layer (l .entry)) at .0 < needed lines = place-below (g .fine) (layer (l .entry)) at l line-there in
-        let s : placeOf lines (layer (l .entry)) at .0 % lentLimit ≡ placeOf lines (layer (l .entry)) at .0 = omega (arith, needed-small g) in
+        let s : placeOf lines (layer (l .entry)) at .0 % lentLimit ≡ placeOf lines (layer (l .entry)) at .0 = omega (arith, h .room) in
         rw (m, p, s)
 
   lies-there : (u : ℕ) (l : Line) → lineAt lines u (at .0) ≡ some l → lies (placeOf lines u at) ram ≡ true
   lies-there u l e =
-      lt-ltb (placeOf lines u at .0) (lent ram) (omega (arith, place-below (g .fine) u at l e, h .room, needed-small g))
+      lt-ltb (placeOf lines u at .0) (lent ram) (omega (arith, place-below (g .fine) u at l e, h .room))
 
   -- a read
   read-case : (o : Option Line) → shown ≡ o → readOf c ram at ≡ answerBy bin mem o at
