@@ -7,3 +7,4 @@ pub mod Demand3
 pub mod Smallest
 pub mod Files
 pub mod Bench
+pub mod Collections
