@@ -3,10 +3,12 @@
 // and the reason.
 ghost use mathlib.Core.Path.{_≡_};
 ghost use lib.ListN.{length};
+ghost use Rattle.places.specs.Limits.{imageLimit};
 use build::Building;
 use files::INPUTS;
 use files::Seen;
 use places::BIN_LIMIT;
+use places::IMAGE_LIMIT;
 
 // Room for one byte more than a BIN and a CFG may have, so that a longer file is seen to be longer, and for any image that the
 // builder makes.
@@ -22,10 +24,10 @@ fn cfg_room() -> [u8; 16385]
     [0; 16385]
 }
 
-fn image_room() -> [u8; 655360]
-    ensures { λ r. ⌜ 655360 ≡ length r ⌝ }
+fn image_room() -> [u8; IMAGE_LIMIT]
+    ensures { λ r. ⌜ imageLimit ≡ length r ⌝ }
 {
-    [0; 655360]
+    [0; IMAGE_LIMIT]
 }
 
 // What the desk reads of a build.

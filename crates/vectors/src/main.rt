@@ -32,10 +32,16 @@ pub enum Family {
 const FAMILIES: usize = 9;
 
 // Room for any family's file, any image or buffer, and any RAM.
-fn byte_room() -> [u8; 1048600]
+fn file_room() -> [u8; 1048600]
     ensures { λ r. ⌜ 1048600 ≡ length r ⌝ }
 {
     [0; 1048600]
+}
+
+fn image_room() -> [u8; 2097176]
+    ensures { λ r. ⌜ 2097176 ≡ length r ⌝ }
+{
+    [0; 2097176]
 }
 
 fn word_room() -> [u16; 524300]
@@ -174,9 +180,9 @@ fn run_files(
 }
 
 fn main() {
-    let mut file = byte_room();
-    let mut a = byte_room();
-    let mut b = byte_room();
+    let mut file = file_room();
+    let mut a = image_room();
+    let mut b = image_room();
     let mut cfg = [0u8; 20480];
     let mut ram = word_room();
     let first = checksums::vectors();

@@ -1,0 +1,12 @@
+-- `file_room` meets its contract: a repeat has the length that it says, with no element counted.
+use Prim.Native.Nat.{ℕ}
+use mathlib.Core.Path.{sym}
+use lib.ListN.{length-replicate}
+use Rattle.vectors.proofs.file_room.Statement.{statement}
+use Rattle.vectors.proofs.file_room.Tie as tie
+
+returns : tie.Need-returns
+returns c = sym (length-replicate {A = ℕ} 1048600 0)
+
+pub file-room-spec : {M : Type 1} → statement M
+file-room-spec = tie.close (tie.spec returns)
