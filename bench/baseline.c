@@ -459,7 +459,8 @@ static size_t write_image(uint8_t *out, const uint8_t *flags, const uint8_t *uid
 
 /* ---- the builder: lines, rules, layout, image ---- */
 
-enum { MOST_LINES = 64, MOST_PAGES = 80, BIN_LIMIT = 524288 };
+/* So many pages at most are laid out, and then more than LENT_LIMIT words are refused. */
+enum { MOST_LINES = 128, MOST_PAGES = 139, BIN_LIMIT = 524288 };
 
 typedef enum { ROM, PAGED, RAM16, RAM8 } Kind;
 
@@ -724,7 +725,7 @@ static size_t length_of(const uint16_t *ram, const bool *marks) {
 Building c_build(const uint8_t *bin, size_t nbin, const uint8_t *cfg, size_t ncfg, uint8_t *out, size_t room) {
     Line lines[MOST_LINES];
     Owners o;
-    bool covers[16], marks[2048] = {0};
+    bool covers[16], marks[MOST_PAGES * 16] = {0};
     uint16_t ram[MOST_PAGES * 4096] = {0};
     Cartridge c;
     size_t count;
@@ -738,6 +739,8 @@ Building c_build(const uint8_t *bin, size_t nbin, const uint8_t *cfg, size_t ncf
     if (r.number != 0)
         return r;
     uint32_t pages = lay_out(lines, &o, covers, bin, &c, ram, marks);
+    if (4096 * pages > LENT_LIMIT)
+        return refused_build(20, 0);
     size_t length = length_of(ram, marks);
     if (length > room)
         return (Building){.number = 29, .length = length};

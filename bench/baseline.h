@@ -5,7 +5,7 @@
 #include <stdint.h>
 
 #define LENT_LIMIT 524288
-#define IMAGE_LIMIT 1048576
+#define IMAGE_LIMIT 2097152
 #define SILENCE 65536
 #define CFG_LIMIT 16384
 

@@ -771,6 +771,48 @@ code_26_for_a_page_at_4000() {
     says 'of $4800 ($800 words, so never $4000)'
 }
 
+# ---- the largest titles: 128 lines, and 128 pages of 4,096 words
+pages() { # HOW MANY, from page 0 of chapter 5 on
+    n=0
+    while [ $n -lt "$1" ]; do
+        printf '$0000 - $0FFF = $%X000 PAGE %X\n' $((5 + n / 16)) $((n % 16))
+        n=$((n + 1))
+    done
+}
+a_title_of_128_lines_and_128_pages_in_16_bits() {
+    yes | head -c 524288 >title.bin
+    { echo '[mapping]'; pages 128; } >title.cfg
+    press
+    status_is 0
+    says '^length=1082665$'
+    says '^needed=524288$'
+    [ "$(wc -c <out)" = 1082665 ] || differs "the image has $(wc -c <out) bytes"
+}
+a_title_of_128_lines_and_139_pages() {
+    yes | head -c 524288 >title.bin
+    { printf '[mapping]\n$0000 - $0AFF = $0500\n$0000 - $0FFF = $2000\n$0000 - $BFFF = $4000\n'; pages 125; } >title.cfg
+    press
+    status_is 1
+    says '^code=20$'
+    says '^at=0$'
+    is_image out old
+}
+a_title_of_129_lines() {
+    { echo '[mapping]'; pages 129; } >title.cfg
+    press
+    status_is 1
+    says '^code=24$'
+    says '^at=130$'
+}
+a_title_whose_128th_line_collides() {
+    { echo '[mapping]'; pages 127; echo '$0000 - $0FFF = $5000 PAGE 0'; } >title.cfg
+    press
+    status_is 1
+    says '^code=27$'
+    says '^at=129$'
+    says '^with=2$'
+}
+
 # ---- the command itself
 no_arguments() {
     run "$luigi"
