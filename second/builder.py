@@ -7,6 +7,7 @@ from typing import Optional, Sequence
 
 from cfg import Entry, read_cfg
 from checksums import crc32
+from load import LOCUTUS_WORDS
 from machine import SILENT
 from refusal import Refused
 from tables import PFE, READ, Tables
@@ -114,6 +115,11 @@ def lay_out(entries: Sequence[Entry]) -> Layout:
             for number, (chapter, page) in enumerate(order)}
 
 
+def words_needed(entries: Sequence[Entry]) -> int:
+    """Count 4,096 words for each Locutus page (01, How an image is laid out; 02, W-210)."""
+    return 4096 * len(lay_out(entries))
+
+
 def flip_entry(chapter: int, page: int, layout: Layout, kinds: dict[int, str]) -> int:
     """Give the flip entry of a paged chapter's page (01, Permissions; READINGS B1)."""
     number = layout.get((chapter, page))
@@ -156,7 +162,7 @@ def entry_hunks(entry: Entry, layout: Layout, bin_file: bytes) -> list[tuple[int
 
 
 def checked_entries(bin_file: bytes, cfg: bytes) -> tuple[Entry, ...]:
-    """Give the entries of a title that 21 to 28 let through (01, Build order; READINGS C13)."""
+    """Give the entries of a title that 21 to 28 and 20 let through (01, Build order; 02, W-210; READINGS C13)."""
     check_bin(bin_file)
     entries = read_cfg(cfg)
     for entry in entries:
@@ -164,6 +170,8 @@ def checked_entries(bin_file: bytes, cfg: bytes) -> tuple[Entry, ...]:
         check_shape(entry)
     check_shared(entries)
     check_paged_chapters(entries)
+    if words_needed(entries) > LOCUTUS_WORDS:
+        raise Refused(20, 0)
     return tuple(entries)
 
 
@@ -184,6 +192,6 @@ def build(bin_file: bytes, cfg: bytes, buffer: bytearray) -> Built:
         image = make_image(bin_file, cfg, entries)
         length = len(image)
         put(image, buffer)
-        return Built(0, 0, length, 4096 * len(lay_out(entries)))
+        return Built(0, 0, length, words_needed(entries))
     except Refused as refused:
         return Built(refused.number, refused.place, length)

@@ -194,7 +194,7 @@ def large_edges() -> Iterator[Image]:
     small = simple(hunk_block(1, hunk.block_16([7, 8])))
     for length in range(IMAGE_LIMIT - 1, IMAGE_LIMIT + 8):
         yield f"L1 {length} bytes", small + bytes(length - len(small)), 10, 3
-    steps = [DraftBlock(3, bytes(65_535))] * 15 + [DraftBlock(0x70, bytes(64_103))]
+    steps = [DraftBlock(0x42, bytes(65_535))] * 31 + [DraftBlock(0x70, bytes(63_991))]
     yield "L1 no 0xFF at the limit", simple(*steps, tail=b""), 10, 3
     yield "L1 0xFF past the limit", simple(*steps), 10, 3
     for address in (0x7FFFE, 0x7FFFF, 0x80000, 0x80001, 0x100001, 0xFFFFFF):
@@ -259,11 +259,11 @@ def write_edges() -> Iterator[Case]:
                     for few in (set(), {287}):
                         label = f"LW-7 field {jlp}, size {size}, RAM {words}, marks {few}, buffer {buffer}, flag 32 {other >> 32}"
                         yield (label, *write_record(head, tables, (words, 3), [], marks_of(few), (buffer, 13)))
-    for count in (1982, 1983, 1984, 2048):
+    for count in (1983, 1984, 2048):
         marks = marks_of(set(range(count - 1)) | {2047})
         for head in (none, mapper):
             for words in (524_287, 524_288, 524_300):
-                for buffer in (min(1321 + 528 * count, 1_048_577), 1320 + 528 * min(count, 1983), 0):
+                for buffer in (1321 + 528 * count, 1320 + 528 * count, 0):
                     label = f"{count} marks, RAM {words}, buffer {buffer}, flag 32 {head[4]}"
                     yield (label, *write_record(head, tables, (words, 3), [], marks, (buffer, 13)))
     for words in (0, 255, 256, 511, 512):

@@ -1,5 +1,6 @@
 """Cases on titles: build, cfg and bus (README.md, Families)."""
 
+import re
 from pathlib import Path
 from typing import Iterator
 
@@ -27,9 +28,8 @@ def cfg_edges() -> Iterator[tuple[str, Title]]:
     lines = (Path(__file__).parent / "cfg_edges.txt").read_text().split("\n")
     for line in lines[1:-1]:
         label, words, text = line.split(" / ", 2)
-        for sign, meant in (("@64@", ram_lines(64)), ("@65@", ram_lines(65)),
-                            ("@61@", page_lines(61)), ("@pages@", page_lines(16))):
-            text = text.replace(sign, meant)
+        text = re.sub("@ram([0-9]+)@", lambda match: ram_lines(int(match[1])), text)
+        text = re.sub("@pages([0-9]+)@", lambda match: page_lines(int(match[1])), text)
         cfg = text.replace("|", "\n").encode().decode("unicode_escape").encode("latin-1")
         yield label, Title(2 * int(words), 1 + int(words) % 7, [], cfg)
 

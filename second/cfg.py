@@ -7,7 +7,7 @@ from typing import Optional
 from refusal import Refused
 
 CFG_LIMIT = 16_384
-MOST_ENTRIES = 64
+MOST_ENTRIES = 128
 HEX = "[0-9A-Fa-f]"
 BLANK = "[ \t]*"
 SECTION = re.compile(r"\[(mapping|memattr)\]")

@@ -9,7 +9,7 @@ from refusal import Refused
 from tables import PFE, TABLES_SIZE, Tables, read_tables
 
 HEADER, BLOCK_HEADER = 32, 8
-IMAGE_LIMIT = 1_048_576
+IMAGE_LIMIT = 2_097_152
 LOCUTUS_WORDS = 524_288
 JLP_WORDS = 73_600
 MAGIC = b"\x4C\x54\x4F"

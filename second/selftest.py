@@ -217,7 +217,7 @@ def check_jlp(g: Generator, rounds: int) -> Iterator[Check]:
 
 def built(bin_length: int, text: str) -> tuple:
     """Build lines after [mapping], and load the image (01, Bench cases 6 and 7)."""
-    buffer, ram = bytearray(700_000), [7] * 524_288
+    buffer, ram = bytearray(1_100_000), [7] * 524_288
     answer = build(fill_bytes(bin_length, 0, 5), b"[mapping]\n" + text.encode(), buffer)
     return answer, load(bytes(buffer[:answer.length]), ram), ram
 
@@ -246,11 +246,20 @@ def check_cases_6_to_8() -> Iterator[Check]:
     accesses = [(0, 0xC000, 0), (1, 0xCFFF, 0xCA52), (0, 0xC000, 0), (2, 0, 0), (0, 0xC000, 0)]
     answers = play_machine(Machine(loaded.tables), ram, accesses)
     yield "case 7", answers == [(None, 0), (None, 16), (word, 0), (None, 0), (None, 0)]
-    lines = [f"${256 * p:X}-${256 * p + 255:X}=RAM 8\n" for p in range(0x50, 0x91)]
-    yield "case 8", built(2, "[memattr]\n" + "".join(lines[:64]))[0].number == 0
+    lines = [f"${256 * p:X}-${256 * p + 255:X}=RAM 8\n" for p in range(0x50, 0xD1)]
+    yield "case 8", built(2, "[memattr]\n" + "".join(lines[:128]))[0].number == 0
     answer = built(2, "[memattr]\n" + "".join(lines))[0]
-    yield "case 8", (answer.number, answer.place) == (24, 67)
+    yield "case 8", (answer.number, answer.place) == (24, 131)
     yield "card", card(b"") == "result=refused\ncode=1\nat=0\n"
+
+
+def check_pages() -> Iterator[Check]:
+    """Ask 20 of titles with a plain page in each of 14 chapters and any number of PAGE lines (02, W-210)."""
+    plain = "$0-$FFF=$2000\n$0-$BFFF=$4000\n[memattr]\n$500-$FFF=RAM 8\n[mapping]\n"
+    for count in (1, 61, 113, 114, 115, 116, 124, 125):
+        text = plain + "".join(f"$0-$FFF=${5 + n // 16:X}000 PAGE {n % 16:X}\n" for n in range(count))
+        answer = built(98_304, text)[0]
+        yield "words needed", (answer.number, answer.needed) == ((0, 4096 * (14 + count)) if 14 + count <= 128 else (20, 0))
 
 
 def check_titles(g: Generator, rounds: int) -> Iterator[Check]:
@@ -290,7 +299,7 @@ def main() -> None:
     """Run every check, and say how many there were (01, Bench cases)."""
     g, ran = Generator(2019), 0
     for checks in (check_sums(), check_hunks(), check_cases_1_to_5(), check_cases_6_to_8(),
-                   check_faults(g, 1000), check_forms(g, 1000), check_fields(), check_rows(), check_switches(g, 300), check_jlp(g, 2000),
+                   check_faults(g, 1000), check_forms(g, 1000), check_pages(), check_fields(), check_rows(), check_switches(g, 300), check_jlp(g, 2000),
                    check_titles(g, 200),
                    check_round_trips(g, 500)):
         for name, passed in checks:

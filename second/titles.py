@@ -4,7 +4,7 @@ from dataclasses import dataclass, replace
 from pathlib import Path
 from typing import Optional
 
-from cfg import Entry
+from cfg import MOST_ENTRIES, Entry
 from generator import Generator, fill_bytes
 
 PAGED = [2] + list(range(4, 16))
@@ -88,7 +88,7 @@ def random_title(g: Generator, chapters: int) -> Title:
     for chapter in g.shuffled([0, 2] + list(range(4, 16)))[:g.between(1, chapters)]:
         paged += [(chapter, page) for page in fill_chapter(g, chapter, kinds)]
     lines = cut_lines(g, kinds)
-    if not lines and not paged or len(lines) > 64:
+    if not lines and not paged or len(lines) > MOST_ENTRIES:
         return random_title(g, chapters)
     longest = max([256 * count for kind, _, count in lines if kind == "rom"] + [4096 if paged else 1])
     words = min(longest + g.pick([0, 1, 255, 4096]), 262_144)
@@ -99,7 +99,7 @@ def random_title(g: Generator, chapters: int) -> Title:
         else:
             last = 256 * (first + count) - 1
             plan.append(Entry(0, kind, 256 * first, last, 256 * first))
-    plan += [page_line(g, chapter, page, words) for chapter, page in g.shuffled(paged)[:64 - len(lines)]]
+    plan += [page_line(g, chapter, page, words) for chapter, page in g.shuffled(paged)[:MOST_ENTRIES - len(lines)]]
     title = Title(2 * words, g.between(1, 12), g.shuffled(plan))
     if g.one_in(5):
         title.bin_seed, title.bin_base = 0, g.pick([0, 1, 3, 4, 0xFF])
@@ -181,7 +181,7 @@ def spoil_chapter(g: Generator, title: Title) -> None:
     chapter = g.pick(PAGED)
     words = max(title.bin_length // 2, 4096)
     title.bin_length = 2 * words
-    title.plan = [entry for entry in title.plan if entry.chapter != chapter][:60]
+    title.plan = [entry for entry in title.plan if entry.chapter != chapter][:MOST_ENTRIES - 4]
     title.plan.append(page_line(g, chapter, g.below(16), words))
     inside = 4096 * chapter + 256 * g.between(8, 15)
     ram = Entry(0, g.pick(["ram8", "ram16"]), inside, inside + 255, inside)
@@ -199,10 +199,9 @@ def spoil_text(g: Generator, number: int, cfg: bytes) -> bytes:
     if number == 23:
         lines.insert(g.below(len(lines)), g.pick(BAD_LINES).encode())
         return b"\n".join(lines)
-    if g.one_in(3):
+    if g.below(3):
         return g.pick([b"", b"\n\n", b"[mapping]\n", b"[memattr]\n; none\n[mapping]", b";\n"])
-    more = [b"$%X-$%X=RAM 8\n" % (256 * n, 256 * n + 255) for n in range(g.between(64, 90))]
-    return cfg + b"\n[memattr]\n" + b"".join(more)
+    return cfg + b"\n[memattr]\n" + b"$0-$0=RAM 8\n" * g.between(MOST_ENTRIES, MOST_ENTRIES + 20)
 
 
 def spoil(g: Generator, title: Title, numbers: list[int]) -> None:
