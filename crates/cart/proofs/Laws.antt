@@ -1,12 +1,18 @@
 -- One law for each return that makes a cartridge or a count, its premises as the code's calls give them.
-use Prim.Native.Nat.{ℕ}
+use Prim.Native.Nat.{ℕ, _%_, _<_}
 use mathlib.Core.Path.{_≡_, _∙_}
+use mathlib.Core.Bool.{cond}
 use mathlib.Core.List.{List}
+use native.Mathlib.Omega.{arith}
+use lib.ListN.{length, getD}
+use Rattle.places.specs.Limits.{paragraphs, flipEntries}
 use Rattle.places.specs.declared.Console.{Console}
 use Rattle.switches.specs.Flips.{Active, active, flipFrom, flipSize, flipped}
 use Rattle.jlp.specs.declared.Jlp.{Jlp}
 use Rattle.jlp.specs.Accelerators.{freshJlp, resetJlp, writtenJlp}
 use Rattle.cart.specs.declared.Cartridge.{Cartridge}
+use Rattle.cart.specs.Cells.{READ}
+use Rattle.cart.specs.Laws.Readable.{flip-readable}
 use Rattle.cart.specs.Readable.{readableIn, readableOf, recounted}
 use Rattle.cart.specs.Writes.{leaves, assigned, leavesReadable}
 use Rattle.cart.specs.Cartridges.{assembled, initialOf, activeOf, fresh, withActive, writtenOf, resetOf}
@@ -24,11 +30,18 @@ reset-is c k j r e g h = rw (← e, ← g) h
 pub part-is : (p : List ℕ) (n a s r : ℕ) → a ≡ flipFrom n → s ≡ flipSize n → r ≡ readableIn p a s → r ≡ readableIn p (flipFrom n) (flipSize n)
 part-is p n a s r e f g = rw (← e, ← f) g
 
+-- when it has acted, all of them or none
+pub after-none : (e x : ℕ) → e % 2 ≡ 0 → 0 ≡ cond (READ e) x 0
+after-none e x z = rw z
+
+pub after-all : (e x r : ℕ) → (e % 2 ≡ 0 → ⊥) → r ≡ x → r ≡ cond (READ e) x 0
+after-all e x r h q = let o : e % 2 ≡ 1 = omega arith in rw o q
+
 -- before a flip and after it
-pub flip-recounts : (a : Active) (flips : List ℕ) (n kept before after r : ℕ) (q : List ℕ) → before ≡ readableIn (a .permissions) (flipFrom n) (flipSize n)
-    → q ≡ flipped flips n a .permissions → after ≡ readableIn q (flipFrom n) (flipSize n) → r ≡ recounted kept before after
+pub flip-recounts : (a : Active) (flips : List ℕ) (n kept before after r : ℕ) → length (a .permissions) ≡ paragraphs → n < flipEntries
+    → before ≡ readableIn (a .permissions) (flipFrom n) (flipSize n) → after ≡ cond (READ (getD flips n 0)) (flipSize n) 0 → r ≡ recounted kept before after
     → r ≡ recounted kept (readableIn (a .permissions) (flipFrom n) (flipSize n)) (readableIn (flipped flips n a .permissions) (flipFrom n) (flipSize n))
-flip-recounts a flips n kept before after r q e f g h = rw (← f, ← e, ← g) h
+flip-recounts a flips n kept before after r l s e f h = rw (flip-readable a flips n l s, ← e, ← f) h
 
 -- what a write answers, from what the lent tables and the number have become
 pub written-is : (c : Cartridge) (at : Console) (v : ℕ) (m p : List ℕ) (n k : ℕ) (j : Jlp) (d : Cartridge)

@@ -1,12 +1,14 @@
 // The cartridge that answers the console: reads, writes and resets over lent RAM (01, "The machine"; 02, W-206).
 ghost use mathlib.Core.Path.{_≡_};
+ghost use mathlib.Core.Bool.{cond};
 ghost use Prim.Native.Nat.{_+_, _%_, _≤_};
+ghost use lib.ListN.{length, getD};
 ghost use Rattle.places.specs.Limits.{paragraphs};
 ghost use Rattle.switches.specs.Flips.{active, asks, flipFrom, flipSize, flipped};
 ghost use Rattle.switches.specs.Banks.{registerAt};
 ghost use Rattle.cart.specs.declared.Taker.the-variants.{Ram};
 ghost use Rattle.cart.specs.Code.Takers.{bankedOnly, actingOnly};
-ghost use Rattle.cart.specs.Cells.{locate, rightsOf, cellAt, windowCell};
+ghost use Rattle.cart.specs.Cells.{READ, locate, rightsOf, cellAt, windowCell};
 ghost use Rattle.cart.specs.Readable.{readableIn, readableOf, recounted};
 ghost use Rattle.cart.specs.Reads.{fetched, registerSource, windowSource, mappedSource, sourceOf, readBy};
 ghost use Rattle.cart.specs.Writes.{storedWord, stored, flipTaker, mappedTaker, windowTaker, takerOf, leftBy, assignedBy, readableBy, leaves, leavesRam, assigned, leavesReadable};
@@ -352,8 +354,8 @@ fn read_bit(permission: u8) -> u16
 }
 
 // How many of n permissions from place a on have READ.
-fn readable_in(permissions: &[u8; PARAGRAPHS], a: usize, n: usize) -> u16
-    requires { ⌜ a + n ≤ paragraphs ⌝ }
+fn readable_in(permissions: &[u8], a: usize, n: usize) -> u16
+    requires { ⌜ (a + n ≤ length (now permissions)) × (n ≤ paragraphs) ⌝ }
     ensures { λ r. ⌜ (r ≡ readableIn (now (permissions .entry)) a n) × (r ≤ n) ⌝ }
 {
     let mut k = 0;
@@ -363,15 +365,26 @@ fn readable_in(permissions: &[u8; PARAGRAPHS], a: usize, n: usize) -> u16
     k
 }
 
-// Of those that flip entry n changes.
+// Of those that flip entry n changes, among all 256.
 fn readable_by(permissions: &[u8; PARAGRAPHS], n: u8) -> u16
-    ensures { λ r. ⌜ r ≡ readableIn (now (permissions .entry)) (flipFrom n) (flipSize n) ⌝ }
+    ensures { λ r. ⌜ (r ≡ readableIn (now (permissions .entry)) (flipFrom n) (flipSize n)) × (length (now (permissions .entry)) ≡ paragraphs) ⌝ }
 {
     readable_in(
         permissions,
         switches::flip_from(n),
         switches::flip_size(n) as usize,
     )
+}
+
+// Of those that flip entry n changes, when it has acted: all or none, for each gets the entry's permission.
+fn readable_after(flips: &[u16; FLIP_ENTRIES], n: u8) -> u16
+    ensures { λ r. ⌜ r ≡ cond (READ (getD (now (flips .entry)) n 0)) (flipSize n) 0 ⌝ }
+{
+    let i = n as usize;
+    if flips[i] % 2 == 0 {
+        return 0;
+    }
+    switches::flip_size(n) as u16
 }
 
 // Of all.
@@ -402,9 +415,9 @@ fn flip_counted(
         × (now (permissions .exit) ≡ flipped (now (flips .entry)) n (active (now (mapping .entry)) (now (permissions .entry))) .permissions) ⌝ }
 {
     let before = readable_by(permissions, n);
-    let assigned = switches::flip(mapping, permissions, flips, n);
-    *readable = recount(*readable, before, readable_by(permissions, n));
-    assigned
+    let after = readable_after(flips, n);
+    *readable = recount(*readable, before, after);
+    switches::flip(mapping, permissions, flips, n)
 }
 
 // What a taker leaves of the lent tables and of the number, and answers: apart, so that the way of a store stays short.

@@ -1,21 +1,23 @@
 -- The number of readable paragraphs that is kept is the count over the active permissions, after every write and reset where it was so
 -- before (02, W-211).
-use Prim.Native.Nat.{ℕ, zero, suc, _+_, _-_, _%_, _^_, _<_, _≤_}
+use Prim.Native.Nat.{ℕ, zero, suc, _+_, _-_, _/_, _%_, _^_, _<_, _≤_}
 use mathlib.Core.Path.{_≡_, refl, sym, ap, _∙_}
 use mathlib.Core.List.{List, [], _∷_}
-use mathlib.Core.Bool.{cond}
+use mathlib.Core.Bool.{Bool, true, false, cond}
 use mathlib.Core.Logic.{inl, inr}
 use native.Mathlib.Omega.{arith}
 use native.Mathlib.Numerals.{add-one}
 use lib.ListN.{length, getD}
+use lib.Dec.{eqb}
 use borrow.Author.Tests.{eqb-true, eqb-false}
 use Rattle.basics.specs.Lists.{laid}
 use Rattle.basics.specs.Counts.{count}
 use Rattle.basics.specs.Laws.Tests.{cases}
 use Rattle.basics.specs.Laws.Lists.{laid-out}
 use Rattle.basics.specs.Laws.Counts.{count-most}
-use Rattle.places.specs.Limits.{paragraphs, flipEntries}
+use Rattle.places.specs.Limits.{paragraphs, chapterPages, flipEntries}
 use Rattle.switches.specs.Flips.{Active, flipFrom, flipSize, flipPermissions, turned, flipped}
+use Rattle.switches.specs.Laws.Flips.{first-small, turned-in}
 use Rattle.cart.specs.declared.Cartridge.{Cartridge}
 use Rattle.cart.specs.declared.Taker.{Taker}
 use Rattle.cart.specs.declared.Taker.the-variants.{Accelerators, Bank, Flip, Ram}
@@ -68,6 +70,25 @@ readable-same : (m t : List ℕ) (a n : ℕ) → ((i : ℕ) → a ≤ i → i < 
 unfolding readableIn count
 readable-same m t a zero h = refl
 readable-same m t a (suc n) h = rw (h (a + n) (omega arith) (omega arith), readable-same m t a n (λ i p q. h i p (omega arith)))
+
+-- where all entries have the same READ, all are counted or none
+readable-all : (t : List ℕ) (a n : ℕ) (b : Bool) → ((i : ℕ) → a ≤ i → i < a + n → READ (getD t i 0) ≡ b) → readableIn t a n ≡ cond b n 0
+unfolding readableIn count
+readable-all t a zero true h = refl
+readable-all t a zero false h = refl
+readable-all t a (suc n) true h = rw (h (a + n) (omega arith) (omega arith), readable-all t a n true (λ i p q. h i p (omega arith)))
+readable-all t a (suc n) false h = rw (h (a + n) (omega arith) (omega arith), readable-all t a n false (λ i p q. h i p (omega arith)))
+
+-- so of the paragraphs that a flip entry changes: each gets the entry's permission
+pub flip-readable : (a : Active) (flips : List ℕ) (n : ℕ) → length (a .permissions) ≡ paragraphs → n < flipEntries
+    → readableIn (flipped flips n a .permissions) (flipFrom n) (flipSize n) ≡ cond (READ (getD flips n 0)) (flipSize n) 0
+flip-readable a flips n l h =
+    readable-all (flipped flips n a .permissions) (flipFrom n) (flipSize n) (READ (getD flips n 0))
+    (λ i p q.
+    let f = first-small (n / chapterPages) in
+    let e : getD flips n 0 % 8 % 2 ≡ getD flips n 0 % 2 = omega arith in
+    ap READ (turned-in (n / chapterPages) (flipPermissions (getD flips n 0)) (a .permissions) i (omega (arith, l, f)) (omega (arith, f)) (omega (arith, f)))
+    ∙ ap (λ (x : ℕ). eqb x 1) e)
 
 -- what a change of n entries from a on changes: the count of that part
 module _ (m : List ℕ) (a n : ℕ) (w : ℕ → ℕ) (h : a + n ≤ paragraphs) where
