@@ -53,6 +53,7 @@ tooLarge lines = ltb lentLimit (needed lines)
 unfoldable pub tooShort : List ℕ → List ℕ → List ℕ → Bool
 tooShort bin cfg out = ltb (length out) (length (pressedImage bin cfg))
 
+-- what is asked behind the rules: 20, then 29
 abbrev pub roomRows : List ℕ → List ℕ → List ℕ → List (Row Refusal)
 roomRows bin cfg out =
     (tooLarge (entriesOf cfg), refuse 20 0)

@@ -59,7 +59,7 @@ headerOf flags uid = headOf flags uid ++ (dowcrcOf (headOf flags uid) ∷ [])
 abbrev pub flagsOf : List ℕ → List ℕ
 flagsOf s = part s flagsAt uidAt
 
--- 1: under 32 or over 1,048,576 bytes; 2: magic; 3: version not 1; 4: header checksum
+-- 1: under 32 or over 2,097,152 bytes (02, W-210); 2: magic; 3: version not 1; 4: header checksum
 abbrev pub wrongLength : List ℕ → Bool
 wrongLength s = ltb (length s) headerSize || ltb imageLimit (length s)
 

@@ -2,12 +2,12 @@
 use Prim.Native.Nat.{ℕ}
 use mathlib.Core.List.{List, _∷_, []}
 use mathlib.Core.Path.{_≡_, refl}
-use mathlib.Core.Bool.{true}
-use lib.ListN.{replicate, set}
+use mathlib.Core.Bool.{true, false}
+use lib.ListN.{length, replicate, set}
 use Rattle.basics.specs.Counts.{any}
 use Rattle.basics.specs.Refusals.{refuse, noRefusal}
 use Rattle.sums.specs.Crc.{crcFrom, crcByte, crcBits, crcBit}
-use Rattle.header.specs.Header.{headOf, headerOf, headerRows, headerRefusal}
+use Rattle.header.specs.Header.{headOf, headerOf, wrongLength, headerRows, headerRefusal}
 use Rattle.header.specs.declared.TutorVision.the-variants.{Incompatible, Tolerates, Enhanced, Requires, NotStated}
 use Rattle.header.specs.Flags.{flag, field, settingOf, statedAt, compatOf}
 
@@ -32,6 +32,13 @@ accepted = refl
 pub empty : headerRefusal [] ≡ refuse 1 0
 unfolding headerRows
 empty = refl
+
+-- the longest image, and one byte more (02, W-210)
+pub longest : (s : List ℕ) → length s ≡ 2097152 → wrongLength s ≡ false
+longest s e = rw e
+
+pub longer : (s : List ℕ) → length s ≡ 2097153 → wrongLength s ≡ true
+longer s e = rw e
 
 pub other-magic : headerRefusal (set head 2 0x4E) ≡ refuse 2 0
 unfolding headerRows any
