@@ -1,4 +1,4 @@
--- The integers that words stand for.
+-- The integers that words stand for (000, JLP Multiply and Divide Accelerators).
 use Prim.Native.Nat.{ℕ, _+_, _-_, _*_, _/_}
 use mathlib.Core.Bool.{Bool, cond, _&&_}
 use lib.Dec.{leb}

@@ -29,10 +29,6 @@ module _ (low high a : ℕ) where
   unfolding between
   between-below h = rw (lt-leb _ _ h)
 
-  pub between-above : high < a → between low high a ≡ false
-  unfolding between
-  between-above h = and-false (leb low a) (leb a high) (lt-leb _ _ h)
-
 -- the RAM stands in the window, and so many lent words hold all of it (02, W-206)
 pub ram-in-window : (at : Console) → inRam at ≡ true → inWindow at ≡ true
 ram-in-window at e = between-in _ _ _ (omega (arith, between-low _ _ _ e)) (omega (arith, between-high _ _ _ e))
