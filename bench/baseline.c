@@ -63,8 +63,8 @@ static bool is_silent(uint16_t at) {
 
 /* ---- the accelerators: on for fields 1 and 3, in $8000-$9FFF ---- */
 
-static Jlp fresh_jlp(uint16_t field) {
-    return (Jlp){.field = field, .on = field == 1 || field == 3};
+static Jlp fresh_jlp(uint16_t field, uint16_t sectors) {
+    return (Jlp){.field = field, .on = field == 1 || field == 3, .sectors = field >= 2 ? sectors : 0};
 }
 
 static bool in_window(uint16_t at) {
@@ -100,6 +100,37 @@ static uint16_t crc_word(uint16_t crc, uint16_t word) {
     return crc;
 }
 
+enum { ROW = 96, SECTOR = 8, SECTOR_LIMIT = 682, ERASED = 0xFFFF };
+
+static bool has_flash(const Jlp *j) {
+    return j->sectors >= 1 && j->sectors <= SECTOR_LIMIT;
+}
+
+static bool ram_lent(uint16_t at, size_t words) {
+    return at >= 0x8040 && at + ROW <= 0x9F80 && at + 0x8000u + ROW <= words;
+}
+
+static bool is_empty(const uint16_t *row) {
+    for (int i = 0; i < ROW; i++)
+        if (row[i] != ERASED)
+            return false;
+    return true;
+}
+
+/* A command acts, or is dropped and changes nothing. */
+static void command(const Jlp *j, uint16_t *ram, size_t words, uint16_t *flash, size_t flash_words, uint16_t at, uint16_t value) {
+    if (!has_flash(j) || j->row >= SECTOR * j->sectors)
+        return;
+    size_t from = (size_t)ROW * j->row, sector = (size_t)ROW * SECTOR * (j->row / SECTOR);
+    bool there = from + ROW <= flash_words && ram_lent(j->addr, words);
+    if (at == 0x802D && value == 0xC0DE && there && is_empty(flash + from))
+        memcpy(flash + from, ram + j->addr + 0x8000u, ROW * sizeof *ram);
+    if (at == 0x802E && value == 0xDEC0 && there)
+        memcpy(ram + j->addr + 0x8000u, flash + from, ROW * sizeof *ram);
+    if (at == 0x802F && value == 0xBEEF && sector + ROW * SECTOR <= flash_words)
+        memset(flash + sector, 0xFF, ROW * SECTOR * sizeof *flash);
+}
+
 static void write_register(Jlp *j, uint16_t at, uint16_t value) {
     if (at == 0x8034 && value == 0x6A7A)
         j->on = 0;
@@ -109,9 +140,15 @@ static void write_register(Jlp *j, uint16_t at, uint16_t value) {
         j->crc = crc_word(j->crc, value);
     else if (at == 0x9FFD)
         j->crc = value;
+    else if (at == 0x8025 && has_flash(j))
+        j->addr = value;
+    else if (at == 0x8026 && has_flash(j))
+        j->row = value;
 }
 
 static uint32_t read_register(const Jlp *j, uint16_t at) {
+    if (has_flash(j) && (at == 0x8023 || at == 0x8024))
+        return at == 0x8023 ? 0 : SECTOR * j->sectors - 1;
     return at == 0x9F8E ? j->first : at == 0x9F8F ? j->second : at == 0x9FFD ? j->crc : SILENCE;
 }
 
@@ -146,7 +183,7 @@ static uint8_t bankswitch(Cartridge *c, int h, uint8_t first) {
     return 8;
 }
 
-static uint8_t write_word(Cartridge *c, uint16_t *ram, size_t words, uint16_t at, uint16_t value) {
+static uint8_t write_word(Cartridge *c, uint16_t *ram, size_t words, uint16_t *flash, size_t flash_words, uint16_t at, uint16_t value) {
     int x = at / 4096;
     Jlp *j = &c->jlp;
     if (at == 0x8033 && value == 0x4A5A && j->field) {
@@ -154,9 +191,10 @@ static uint8_t write_word(Cartridge *c, uint16_t *ram, size_t words, uint16_t at
         return 0;
     }
     if (j->on && in_window(at)) {
-        if (!in_jlp_ram(at))
+        if (!in_jlp_ram(at)) {
+            command(j, ram, words, flash, flash_words, at, value);
             write_register(j, at, value);
-        else if (at + 0x8000u < words)
+        } else if (at + 0x8000u < words)
             ram[at + 0x8000u] = value;
         return 0;
     }
@@ -185,11 +223,11 @@ void c_reads(const Cartridge *c, const uint16_t *ram, size_t words, const uint16
         out[i] = read_word(c, ram, words, at[i]);
 }
 
-void c_writes(Cartridge *c, uint16_t *ram, size_t words, const uint16_t *at, const uint16_t *value, size_t n, uint8_t *assigned) {
+void c_writes(Cartridge *c, uint16_t *ram, size_t words, uint16_t *flash, size_t flash_words, const uint16_t *at, const uint16_t *value, size_t n, uint8_t *assigned) {
     if (words > LENT_LIMIT)
         words = LENT_LIMIT;
     for (size_t i = 0; i < n; i++)
-        assigned[i] = write_word(c, ram, words, at[i], value[i]);
+        assigned[i] = write_word(c, ram, words, flash, flash_words, at[i], value[i]);
 }
 
 /* ---- the loader: a pass that checks, then one that stores ---- */
@@ -266,15 +304,22 @@ static Cartridge cartridge_of(const uint8_t *s) {
     return c;
 }
 
-/* Refusal 10, or 11. */
-static int not_had(const uint8_t *flags, const Cartridge *c, size_t words) {
+static uint16_t flash_size(const uint8_t *flags) {
+    return flags[2] / 64 + 4 * flags[3];
+}
+
+/* Refusal 10, 11, or 13. */
+static int not_had(const uint8_t *flags, const Cartridge *c, size_t words, size_t flash_words) {
     bool flipped = false;
     for (int i = 16; i < 32; i++)
         flipped = flipped || c->flips[i] & PFE;
-    int field = flags[2] & 3, size = flags[2] / 64 + 4 * flags[3];
-    if ((field >= 2 && size) || flags[4] & 1 || flipped)
+    if (flags[4] & 1 || flipped)
         return 10;
-    return field && words < 73600 ? 11 : 0;
+    int field = flags[2] & 3;
+    if (field && words < 73600)
+        return 11;
+    size_t size = flash_size(flags);
+    return field >= 2 && (size > SECTOR_LIMIT || flash_words != ROW * SECTOR * size) ? 13 : 0;
 }
 
 /* TutorVision's number where an image states nothing of it. */
@@ -289,7 +334,7 @@ static Loading refused_load(uint32_t number, size_t place) {
     return r;
 }
 
-Loading c_load(const uint8_t *s, size_t n, uint16_t *ram, size_t words) {
+Loading c_load(const uint8_t *s, size_t n, uint16_t *ram, size_t words, size_t flash_words) {
     Tables dow, c324;
     make_tables(DOW, dow);
     make_tables(C324, c324);
@@ -330,10 +375,10 @@ Loading c_load(const uint8_t *s, size_t n, uint16_t *ram, size_t words) {
     if (!tables)
         return refused_load(8, n);
     Loading r = {.blocks = blocks, .words = stored, .cartridge = cartridge_of(s + tables + 8)};
-    int refused = not_had(s + 4, &r.cartridge, words);
+    int refused = not_had(s + 4, &r.cartridge, words, flash_words);
     if (refused)
         return refused_load(refused, 0);
-    r.cartridge.jlp = fresh_jlp(s[6] & 3);
+    r.cartridge.jlp = fresh_jlp(s[6] & 3, flash_size(s + 4));
     static const int field[5] = {0, 2, 4, 6, 10};
     for (int i = 0; i < 5; i++)
         r.compat[i] = s[4 + field[i] / 8] >> field[i] % 8 & 3;

@@ -14,7 +14,7 @@ uint32_t c_crc324(const uint8_t *s, size_t n);
 uint32_t c_crc32(const uint8_t *s, size_t n);
 
 typedef struct {
-    uint16_t field, on, operands[12], first, second, crc;
+    uint16_t field, on, operands[12], first, second, crc, sectors, addr, row;
 } Jlp;
 
 typedef struct {
@@ -29,7 +29,7 @@ typedef struct {
 
 void c_reads(const Cartridge *c, const uint16_t *ram, size_t words, const uint16_t *at, size_t n, uint32_t *out);
 /* assigned[i]: how many mapping entries write i assigned. */
-void c_writes(Cartridge *c, uint16_t *ram, size_t words, const uint16_t *at, const uint16_t *value, size_t n, uint8_t *assigned);
+void c_writes(Cartridge *c, uint16_t *ram, size_t words, uint16_t *flash, size_t flash_words, const uint16_t *at, const uint16_t *value, size_t n, uint8_t *assigned);
 
 typedef struct {
     uint32_t number;
@@ -38,7 +38,7 @@ typedef struct {
     Cartridge cartridge;
 } Loading;
 
-Loading c_load(const uint8_t *image, size_t n, uint16_t *ram, size_t words);
+Loading c_load(const uint8_t *image, size_t n, uint16_t *ram, size_t words, size_t flash_words);
 
 typedef struct {
     uint32_t number;

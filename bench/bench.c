@@ -8,7 +8,8 @@
 #include <time.h>
 
 enum { MIB = 1048576, BIN_BYTES = 524288, ROOM = IMAGE_LIMIT, WORDS = LENT_LIMIT };
-enum { SCRIPT = 20000, TIMES = 500 }; /* 10 million accesses: 500 times a script of 20,000 */
+enum { SECTORS = 8, FLASH = 768 * SECTORS }; /* the flash of the accelerated cartridge */
+enum { SCRIPT = 20000, TIMES = 500, SAVES = 50 }; /* 10 million accesses: 500 times a script of 20,000; of saves a million */
 
 /* ---- inputs, from one seed ---- */
 
@@ -17,7 +18,7 @@ static size_t cfg_length;
 static uint8_t image[ROOM], packed[ROOM];
 static size_t image_length, packed_length;
 static uint16_t read_at[SCRIPT], write_at[SCRIPT], value[SCRIPT];
-static uint16_t switch_at[SCRIPT], switch_value[SCRIPT], jlp_at[SCRIPT], operand_at[SCRIPT];
+static uint16_t switch_at[SCRIPT], switch_value[SCRIPT], jlp_at[SCRIPT], operand_at[SCRIPT], flash_at[SCRIPT], flash_value[SCRIPT];
 
 static uint32_t random_bits(void) {
     static uint32_t x = 12345;
@@ -41,11 +42,16 @@ static void make_cfg(void) {
 }
 
 /* Reads anywhere; writes anywhere, and every sixteenth asks for a page; the same, where every sixteenth switches a half-page
-   of chapters 8 to 10; in JLP RAM; and to the operands of the four multiplies. */
+   of chapters 8 to 10; in JLP RAM; to the operands of the four multiplies; and to the flash's registers, by threes an address, a row and a
+   command: a save after an erase, or a row read back. */
+static const uint16_t keys[3] = {0xC0DE, 0xDEC0, 0xBEEF};
+
 static void make_scripts(void) {
     for (int i = 0; i < SCRIPT; i++) {
         jlp_at[i] = 0x8040 + random_bits() % 0x1F40;
         operand_at[i] = 0x9F80 + random_bits() % 8;
+        flash_at[i] = i % 3 == 0 ? 0x8025 : i % 3 == 1 ? 0x8026 : 0x802D + random_bits() % 3;
+        flash_value[i] = i % 3 == 0 ? 0x8040 + random_bits() % 0x1EE1 : i % 3 == 1 ? random_bits() % (8 * SECTORS) : keys[flash_at[i] - 0x802D];
         switch_at[i] = random_bits();
         switch_value[i] = random_bits();
         if (i % 16 == 0)
@@ -120,7 +126,7 @@ static Loading loading;
 static Built built;
 static Building building;
 static uint8_t made[2][ROOM];
-static uint16_t ram[2][WORDS];
+static uint16_t ram[2][WORDS], flash[2][FLASH];
 static Cartridge cartridge[2], banked[2], accelerated[2];
 static uint32_t heard[2][SCRIPT];
 static uint8_t assigned[2][SCRIPT];
@@ -133,10 +139,10 @@ static void proved_crc32(void) { sum[0] = luigi_crc32(bytes, MIB); }
 static void plain_crc32(void) { sum[1] = c_crc32(bytes, MIB); }
 static bool same_sum(void) { return sum[0] == sum[1]; }
 
-static void proved_load(void) { luigi_load(&loaded, image, image_length, ram[0], WORDS); }
-static void plain_load(void) { loading = c_load(image, image_length, ram[1], WORDS); }
-static void proved_load_packed(void) { luigi_load(&loaded, packed, packed_length, ram[0], WORDS); }
-static void plain_load_packed(void) { loading = c_load(packed, packed_length, ram[1], WORDS); }
+static void proved_load(void) { luigi_load(&loaded, image, image_length, ram[0], WORDS, flash[0], 0); }
+static void plain_load(void) { loading = c_load(image, image_length, ram[1], WORDS, 0); }
+static void proved_load_packed(void) { luigi_load(&loaded, packed, packed_length, ram[0], WORDS, flash[0], 0); }
+static void plain_load_packed(void) { loading = c_load(packed, packed_length, ram[1], WORDS, 0); }
 
 static bool same_load(void) {
     const Cartridge *c = &loading.cartridge;
@@ -157,7 +163,7 @@ static bool same_build(void) {
         && !memcmp(made[0], made[1], ROOM);
 }
 
-/* C's struct of the accelerators is the 17 words. */
+/* C's struct of the accelerators is the 20 words. */
 static const uint16_t *words_of(const Cartridge *c) { return &c->jlp.field; }
 static uint16_t *lent_words_of(Cartridge *c) { return &c->jlp.field; }
 
@@ -170,7 +176,7 @@ static void proved_reads(void) {
 static void proved_reads_by_value(void) {
     const Cartridge *c = &cartridge[0];
     for (int i = 0; i < TIMES; i++)
-        luigi_reads_by_value(c->mapping, c->permissions, c->flips, c->jlp.field, ram[0], WORDS, read_at, SCRIPT, heard[0], SCRIPT);
+        luigi_reads_by_value(c->mapping, c->permissions, c->flips, words_of(c), ram[0], WORDS, read_at, SCRIPT, heard[0], SCRIPT);
 }
 
 static void plain_reads(void) {
@@ -183,14 +189,14 @@ static bool same_heard(void) { return !memcmp(heard[0], heard[1], sizeof heard[0
 static void proved_writes(void) {
     Cartridge *c = &cartridge[0];
     for (int i = 0; i < TIMES; i++)
-        luigi_writes(c->mapping, c->permissions, c->flips, &c->readable, lent_words_of(c), ram[0], WORDS, write_at, SCRIPT, value, SCRIPT, assigned[0], SCRIPT);
+        luigi_writes(c->mapping, c->permissions, c->flips, &c->readable, lent_words_of(c), ram[0], WORDS, flash[0], FLASH, write_at, SCRIPT, value, SCRIPT, assigned[0], SCRIPT);
 }
 
 static void proved_writes_by_value(void) {
     Cartridge *c = &cartridge[0];
     for (int i = 0; i < TIMES; i++) {
         Active a;
-        luigi_writes_by_value(&a, c->mapping, c->permissions, c->flips, c->jlp.field, ram[0], WORDS, write_at, SCRIPT, value, SCRIPT);
+        luigi_writes_by_value(&a, c->mapping, c->permissions, c->flips, words_of(c), ram[0], WORDS, flash[0], FLASH, write_at, SCRIPT, value, SCRIPT);
         memcpy(c->mapping, a.mapping, sizeof a.mapping);
         memcpy(c->permissions, a.permissions, sizeof a.permissions);
         c->readable = a.readable;
@@ -200,7 +206,7 @@ static void proved_writes_by_value(void) {
 
 static void plain_writes(void) {
     for (int i = 0; i < TIMES; i++)
-        c_writes(&cartridge[1], ram[1], WORDS, write_at, value, SCRIPT, assigned[1]);
+        c_writes(&cartridge[1], ram[1], WORDS, flash[1], FLASH, write_at, value, SCRIPT, assigned[1]);
 }
 
 static bool same_numbers(void) { return !memcmp(assigned[0], assigned[1], sizeof assigned[0]); }
@@ -214,12 +220,12 @@ static bool same_writes(void) { return same_worlds() && same_numbers(); }
 static void proved_switches(void) {
     Cartridge *c = &banked[0];
     for (int i = 0; i < TIMES; i++)
-        luigi_writes(c->mapping, c->permissions, c->flips, &c->readable, lent_words_of(c), ram[0], WORDS, switch_at, SCRIPT, switch_value, SCRIPT, assigned[0], SCRIPT);
+        luigi_writes(c->mapping, c->permissions, c->flips, &c->readable, lent_words_of(c), ram[0], WORDS, flash[0], FLASH, switch_at, SCRIPT, switch_value, SCRIPT, assigned[0], SCRIPT);
 }
 
 static void plain_switches(void) {
     for (int i = 0; i < TIMES; i++)
-        c_writes(&banked[1], ram[1], WORDS, switch_at, switch_value, SCRIPT, assigned[1]);
+        c_writes(&banked[1], ram[1], WORDS, flash[1], FLASH, switch_at, switch_value, SCRIPT, assigned[1]);
 }
 
 static bool same_after(const Cartridge *c) {
@@ -240,21 +246,24 @@ static void plain_jlp_reads(void) {
         c_reads(&accelerated[1], ram[1], WORDS, jlp_at, SCRIPT, heard[1]);
 }
 
-static void proved_jlp(const uint16_t *at) {
+static void proved_jlp(const uint16_t *at, const uint16_t *v, int times) {
     Cartridge *c = &accelerated[0];
-    for (int i = 0; i < TIMES; i++)
-        luigi_writes(c->mapping, c->permissions, c->flips, &c->readable, lent_words_of(c), ram[0], WORDS, at, SCRIPT, value, SCRIPT, assigned[0], SCRIPT);
+    for (int i = 0; i < times; i++)
+        luigi_writes(c->mapping, c->permissions, c->flips, &c->readable, lent_words_of(c), ram[0], WORDS, flash[0], FLASH, at, SCRIPT, v, SCRIPT, assigned[0], SCRIPT);
 }
 
-static void plain_jlp(const uint16_t *at) {
-    for (int i = 0; i < TIMES; i++)
-        c_writes(&accelerated[1], ram[1], WORDS, at, value, SCRIPT, assigned[1]);
+static void plain_jlp(const uint16_t *at, const uint16_t *v, int times) {
+    for (int i = 0; i < times; i++)
+        c_writes(&accelerated[1], ram[1], WORDS, flash[1], FLASH, at, v, SCRIPT, assigned[1]);
 }
 
-static void proved_jlp_writes(void) { proved_jlp(jlp_at); }
-static void plain_jlp_writes(void) { plain_jlp(jlp_at); }
-static void proved_multiplies(void) { proved_jlp(operand_at); }
-static void plain_multiplies(void) { plain_jlp(operand_at); }
+static void proved_jlp_writes(void) { proved_jlp(jlp_at, value, TIMES); }
+static void plain_jlp_writes(void) { plain_jlp(jlp_at, value, TIMES); }
+static void proved_multiplies(void) { proved_jlp(operand_at, value, TIMES); }
+static void plain_multiplies(void) { plain_jlp(operand_at, value, TIMES); }
+static void proved_saves(void) { proved_jlp(flash_at, flash_value, SAVES); }
+static void plain_saves(void) { plain_jlp(flash_at, flash_value, SAVES); }
+static bool same_saves(void) { return same_accelerated() && !memcmp(flash[0], flash[1], sizeof flash[0]); }
 
 /* ---- measuring ---- */
 
@@ -280,6 +289,7 @@ static const Row rows[] = {
     {"10 million reads of JLP RAM", 9, proved_jlp_reads, plain_jlp_reads, same_heard, 1e7},
     {"10 million writes to JLP RAM", 9, proved_jlp_writes, plain_jlp_writes, same_accelerated, 1e7},
     {"10 million multiplies by JLP", 9, proved_multiplies, plain_multiplies, same_accelerated, 1e7},
+    {"a million writes to the flash's registers, every third a command", 9, proved_saves, plain_saves, same_saves, 1e6},
     {"10 million bus reads, the cartridge by value", 3, proved_reads_by_value, plain_reads, same_heard, 1e7},
     {"10 million bus writes, the cartridge by value", 3, proved_writes_by_value, plain_writes, same_worlds, 1e7},
 };
@@ -320,11 +330,12 @@ int main(void) {
         printf("the title does not build\n");
         return 1;
     }
-    Loading l = c_load(image, image_length, ram[1], WORDS);
+    Loading l = c_load(image, image_length, ram[1], WORDS, 0);
     memcpy(ram[0], ram[1], sizeof ram[0]);
     cartridge[0] = cartridge[1] = l.cartridge;
     accelerated[0] = accelerated[1] = l.cartridge;
-    accelerated[0].jlp = accelerated[1].jlp = (Jlp){.field = 1, .on = 1};
+    accelerated[0].jlp = accelerated[1].jlp = (Jlp){.field = 3, .on = 1, .sectors = SECTORS};
+    memset(flash, 0xFF, sizeof flash);
     for (int p = 16 * 8; p < 16 * 11; p += 8)
         l.cartridge.permissions[p] |= 8; /* BANKSW */
     banked[0] = banked[1] = l.cartridge;

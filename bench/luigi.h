@@ -18,10 +18,11 @@ typedef struct {
     uint8_t permissions[256];
     uint16_t flips[256];
     uint16_t readable;
-    uint16_t accelerators[17]; /* the JLP field, 1 for on, twelve operands, the two results, the CRC */
+    uint16_t accelerators[20]; /* the JLP field, 1 for on, twelve operands, the two results, the CRC; the flash's sectors, address and row */
 } Loaded;
 
-Loaded *luigi_load(Loaded *answer, const uint8_t *image, size_t n, uint16_t *ram, size_t words);
+/* The flash is lent, measured and left as found. */
+Loaded *luigi_load(Loaded *answer, const uint8_t *image, size_t n, uint16_t *ram, size_t words, const uint16_t *flash, size_t flash_words);
 
 typedef struct {
     uint32_t number, needed;
@@ -34,19 +35,18 @@ typedef struct {
     uint16_t mapping[256];
     uint8_t permissions[256];
     uint16_t readable;
-    uint16_t accelerators[17];
+    uint16_t accelerators[20];
 } Active;
 
-/* The caller owns tables, accelerators and RAM: they stay as a run of writes leaves them. By value, a run starts with the accelerators as a load
-   with this JLP field leaves them. */
+/* The caller owns tables, accelerators, RAM and flash: they stay as a run of writes leaves them. */
 void luigi_reads(const uint16_t *mapping, const uint8_t *permissions, const uint16_t *accelerators,
                  const uint16_t *ram, size_t words, const uint16_t *at, size_t n, uint32_t *out, size_t room);
-void luigi_reads_by_value(const uint16_t *mapping, const uint8_t *permissions, const uint16_t *flips, uint8_t field,
+void luigi_reads_by_value(const uint16_t *mapping, const uint8_t *permissions, const uint16_t *flips, const uint16_t *accelerators,
                           const uint16_t *ram, size_t words, const uint16_t *at, size_t n, uint32_t *out, size_t room);
 /* assigned[i]: how many mapping entries write i assigned, 16, 8 or 0. readable: how many of the permissions have READ. */
 void luigi_writes(uint16_t *mapping, uint8_t *permissions, const uint16_t *flips, uint16_t *readable, uint16_t *accelerators,
-                  uint16_t *ram, size_t words, const uint16_t *at, size_t n, const uint16_t *value, size_t m,
+                  uint16_t *ram, size_t words, uint16_t *flash, size_t flash_words, const uint16_t *at, size_t n, const uint16_t *value, size_t m,
                   uint8_t *assigned, size_t room);
-Active *luigi_writes_by_value(Active *answer, const uint16_t *mapping, const uint8_t *permissions, const uint16_t *flips, uint8_t field,
-                              uint16_t *ram, size_t words, const uint16_t *at, size_t n, const uint16_t *value, size_t m);
+Active *luigi_writes_by_value(Active *answer, const uint16_t *mapping, const uint8_t *permissions, const uint16_t *flips, const uint16_t *accelerators,
+                              uint16_t *ram, size_t words, uint16_t *flash, size_t flash_words, const uint16_t *at, size_t n, const uint16_t *value, size_t m);
 #endif

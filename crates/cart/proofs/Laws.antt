@@ -1,6 +1,6 @@
 -- One law for each return that makes a cartridge or a count, its premises as the code's calls give them.
 use Prim.Native.Nat.{ℕ, _%_, _<_}
-use mathlib.Core.Path.{_≡_, _∙_}
+use mathlib.Core.Path.{_≡_, ap, _∙_}
 use mathlib.Core.Bool.{cond}
 use mathlib.Core.List.{List}
 use native.Mathlib.Omega.{arith}
@@ -8,8 +8,12 @@ use lib.ListN.{length, getD}
 use Rattle.places.specs.Limits.{paragraphs, flipEntries}
 use Rattle.places.specs.declared.Console.{Console}
 use Rattle.switches.specs.Flips.{Active, active, flipFrom, flipSize, flipped}
+use Rattle.flash.specs.declared.Command.{Command}
+use Rattle.flash.specs.declared.Saves.{Saves}
+use Rattle.flash.specs.Flash.{Memories, acted}
+use Rattle.flash.specs.Registers.{commandOf}
 use Rattle.jlp.specs.declared.Jlp.{Jlp}
-use Rattle.jlp.specs.Accelerators.{freshJlp, resetJlp, writtenJlp}
+use Rattle.jlp.specs.Accelerators.{resetJlp, writtenJlp}
 use Rattle.cart.specs.declared.Cartridge.{Cartridge}
 use Rattle.cart.specs.Cells.{READ}
 use Rattle.cart.specs.Laws.Readable.{flip-readable}
@@ -18,9 +22,8 @@ use Rattle.cart.specs.Writes.{leaves, assigned, leavesReadable}
 use Rattle.cart.specs.Cartridges.{assembled, initialOf, activeOf, fresh, withActive, writtenOf, resetOf}
 
 -- a cartridge as loaded, and one that is reset, each with its count
-pub fresh-is : (field : ℕ) (m p f : List ℕ) (k : ℕ) (j : Jlp) (r : Cartridge) → k ≡ readableOf p → j ≡ freshJlp field
-    → r ≡ assembled (active m p) (active m p) f k j → r ≡ fresh field m p f
-fresh-is field m p f k j r e g h = rw (← e, ← g) h
+pub fresh-is : (j : Jlp) (m p f : List ℕ) (k : ℕ) (r : Cartridge) → k ≡ readableOf p → r ≡ assembled (active m p) (active m p) f k j → r ≡ fresh j m p f
+fresh-is j m p f k r e h = rw (← e) h
 
 pub reset-is : (c : Cartridge) (k : ℕ) (j : Jlp) (r : Cartridge) → k ≡ readableOf (c .«initial_permissions») → j ≡ resetJlp (c .jlp)
     → r ≡ withActive c (initialOf c) k j → r ≡ resetOf c
@@ -49,3 +52,11 @@ pub written-is : (c : Cartridge) (at : Console) (v : ℕ) (m p : List ℕ) (n k 
     → n ≡ assigned (c .jlp) (activeOf c) (c .flips) at v → k ≡ leavesReadable (c .jlp) (activeOf c) (c .flips) (c .readable) at v
     → j ≡ writtenJlp (c .jlp) at v → d ≡ withActive c (active m p) k j → record { cartridge = d; assigned = n } ≡ writtenOf c at v
 written-is c at v m p n k j d e f g i l h = rw (h, e, f, g, i, l)
+
+-- the command that is asked for, done
+module _ (s : Saves) (m : Memories) (at : Console) (v : ℕ) (c : Command) (x : List ℕ) (e : c ≡ commandOf s at v) where
+  pub command-flash : x ≡ acted (s .sectors) m c .flash → x ≡ acted (s .sectors) m (commandOf s at v) .flash
+  command-flash f = f ∙ ap (λ (d : Command). acted (s .sectors) m d .flash) e
+
+  pub command-ram : x ≡ acted (s .sectors) m c .ram → x ≡ acted (s .sectors) m (commandOf s at v) .ram
+  command-ram f = f ∙ ap (λ (d : Command). acted (s .sectors) m d .ram) e

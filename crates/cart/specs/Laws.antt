@@ -6,3 +6,4 @@ pub mod Jlp
 pub mod Moves
 pub mod Readable
 pub mod Run
+pub mod Flash

@@ -6,11 +6,11 @@ use lib.Dec.{eqb, ltb}
 use lib.ListN.{getD}
 use Rattle.places.specs.declared.Console.{Console}
 use Rattle.switches.specs.Flips.{Active}
+use Rattle.flash.specs.declared.Heard.{Heard}
+use Rattle.flash.specs.declared.Heard.the-variants as Hears
 use Rattle.jlp.specs.declared.Jlp.{Jlp}
-use Rattle.jlp.specs.declared.Heard.{Heard}
 use Rattle.jlp.specs.Window.{inWindow, inRam}
 use Rattle.jlp.specs.Accelerators.{heardAt}
-use Rattle.jlp.specs.declared.Heard.the-variants as Hears
 use Rattle.cart.specs.declared.Cell.{Cell}
 use Rattle.cart.specs.declared.Source.{Source}
 use Rattle.cart.specs.declared.Source.the-variants.{Nobody, Latched, Ram}

@@ -1,4 +1,5 @@
--- A write: who takes it, then what it leaves of the active tables and of the RAM (01, The machine; 02, W-202, W-206, W-211 and W-212).
+-- A write: who takes it, then what it leaves of the active tables, of the RAM and of the flash (01, The machine; 02, W-202, W-206, W-209, W-211
+-- and W-212).
 use Prim.Native.Nat.{ℕ, _+_, _*_, _/_, _%_}
 use mathlib.Core.Bool.{Bool, cond, _&&_}
 use mathlib.Core.List.{List}
@@ -10,6 +11,9 @@ use Rattle.switches.specs.declared.Request.{Request}
 use Rattle.switches.specs.declared.Request.the-variants.{Entry, Nothing}
 use Rattle.switches.specs.Flips.{Active, asks, acts, flipFrom, flipSize, flipped}
 use Rattle.switches.specs.Banks.{halfPageParagraphs, registerAt, banked, bankswitched}
+use Rattle.flash.specs.declared.Saves.{Saves}
+use Rattle.flash.specs.Flash.{Memories, memories, acted}
+use Rattle.flash.specs.Registers.{commandOf}
 use Rattle.jlp.specs.declared.Jlp.{Jlp}
 use Rattle.jlp.specs.Window.{inRam}
 use Rattle.jlp.specs.Accelerators.{takes}
@@ -56,18 +60,19 @@ stored c ram v =
     (set ram (c .location .0) (storedWord (c .rights .narrow) (getD ram (c .location .0) 0) v))
     ram
 
--- what each taker leaves of the active tables, by the flip table, and of the RAM: only the RAM stores
+-- what each taker leaves of the active tables, by the flip table
 abbrev pub leftBy : Taker → Active → List ℕ → Active
 leftBy Accelerators a flips = a
 leftBy (Bank p first) a flips = bankswitched p first a
 leftBy (Flip n) a flips = flipped flips n a
 leftBy (Ram c) a flips = a
 
-abbrev pub ramBy : Taker → List ℕ → ℕ → List ℕ
-ramBy Accelerators ram v = ram
-ramBy (Bank p first) ram v = ram
-ramBy (Flip n) ram v = ram
-ramBy (Ram c) ram v = stored c ram v
+-- and of the lent memories, by the flash's registers: a command acts on them, only the RAM stores (02, W-209)
+abbrev pub memoriesBy : Taker → Saves → Memories → Console → ℕ → Memories
+memoriesBy Accelerators s m at v = acted (s .sectors) m (commandOf s at v)
+memoriesBy (Bank p first) s m at v = m
+memoriesBy (Flip n) s m at v = m
+memoriesBy (Ram c) s m at v = memories (m .flash) (stored c (m .ram) v)
 
 -- how many active mapping entries each taker assigns, whatever they held before (02, W-212)
 abbrev pub assignedBy : Taker → ℕ
@@ -88,8 +93,11 @@ readableBy (Ram c) a flips kept = kept
 unfoldable pub leaves : Jlp → Active → List ℕ → Console → ℕ → Active
 leaves j a flips at v = leftBy (takerOf j a flips at v) a flips
 
-unfoldable pub leavesRam : Jlp → Active → List ℕ → List ℕ → Console → ℕ → List ℕ
-leavesRam j a flips ram at v = ramBy (takerOf j a flips at v) ram v
+unfoldable pub leavesRam : Jlp → Active → List ℕ → List ℕ → List ℕ → Console → ℕ → List ℕ
+leavesRam j a flips flash ram at v = memoriesBy (takerOf j a flips at v) (j .saves) (memories flash ram) at v .ram
+
+unfoldable pub leavesFlash : Jlp → Active → List ℕ → List ℕ → List ℕ → Console → ℕ → List ℕ
+leavesFlash j a flips flash ram at v = memoriesBy (takerOf j a flips at v) (j .saves) (memories flash ram) at v .flash
 
 unfoldable pub assigned : Jlp → Active → List ℕ → Console → ℕ → ℕ
 assigned j a flips at v = assignedBy (takerOf j a flips at v)

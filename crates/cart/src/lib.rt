@@ -1,4 +1,4 @@
-// The cartridge that answers the console: reads, writes and resets over lent RAM (01, "The machine"; 02, W-206).
+// The cartridge that answers the console: reads, writes and resets over lent RAM and flash (01, "The machine"; 02, W-206 and W-209).
 ghost use mathlib.Core.Path.{_≡_};
 ghost use mathlib.Core.Bool.{cond};
 ghost use Prim.Native.Nat.{_+_, _%_, _≤_};
@@ -6,14 +6,17 @@ ghost use lib.ListN.{length, getD};
 ghost use Rattle.places.specs.Limits.{paragraphs};
 ghost use Rattle.switches.specs.Flips.{active, asks, flipFrom, flipSize, flipped};
 ghost use Rattle.switches.specs.Banks.{registerAt};
+ghost use Rattle.flash.specs.Flash.{memories, acted};
+ghost use Rattle.flash.specs.Registers.{commandOf};
 ghost use Rattle.cart.specs.declared.Taker.the-variants.{Ram};
 ghost use Rattle.cart.specs.Code.Takers.{bankedOnly, actingOnly};
 ghost use Rattle.cart.specs.Cells.{READ, locate, rightsOf, cellAt, windowCell};
 ghost use Rattle.cart.specs.Readable.{readableIn, readableOf, recounted};
 ghost use Rattle.cart.specs.Reads.{fetched, registerSource, windowSource, mappedSource, sourceOf, readBy};
-ghost use Rattle.cart.specs.Writes.{storedWord, stored, flipTaker, mappedTaker, windowTaker, takerOf, leftBy, assignedBy, readableBy, leaves, leavesRam, assigned, leavesReadable};
-ghost use Rattle.cart.specs.Cartridges.{assembled, fresh, withActive, readOf, writtenOf, writeRamOf, resetOf};
-use jlp::Heard;
+ghost use Rattle.cart.specs.Writes.{storedWord, stored, flipTaker, mappedTaker, windowTaker, takerOf, leftBy, assignedBy, readableBy, leaves, leavesRam, leavesFlash, assigned, leavesReadable};
+ghost use Rattle.cart.specs.Cartridges.{assembled, fresh, withActive, readOf, writtenOf, writeRamOf, writeFlashOf, resetOf};
+use flash::Heard;
+use flash::Saves;
 use jlp::Jlp;
 use places::Console;
 use places::FLIP_ENTRIES;
@@ -441,6 +444,14 @@ fn shift<'a>(
     }
 }
 
+// The command that a write to the accelerators' registers asks for, done.
+fn command(s: Saves, ram: &mut [u16], flash: &mut [u16], at: Console, value: u16)
+    ensures { λ _. ⌜ (now (flash .exit) ≡ acted (s .sectors) (memories (now (flash .entry)) (now (ram .entry))) (commandOf s at value) .flash)
+        × (now (ram .exit) ≡ acted (s .sectors) (memories (now (flash .entry)) (now (ram .entry))) (commandOf s at value) .ram) ⌝ }
+{
+    flash::act(s.sectors, flash, ram, flash::asked(s, at, value));
+}
+
 // A write by the active tables, the flip table and the number of readable paragraphs, all lent, and the accelerators as they are before it:
 // no table of the cartridge is copied.
 pub fn write_by<'a>(
@@ -450,6 +461,7 @@ pub fn write_by<'a>(
     readable: &'a mut u16,
     j: Jlp,
     ram: &mut [u16],
+    flash: &mut [u16],
     at: Console,
     value: u16,
 ) -> u8
@@ -457,14 +469,18 @@ pub fn write_by<'a>(
         × (now (readable .exit) ≡ leavesReadable j (active (now (mapping .entry)) (now (permissions .entry))) (now (flips .entry)) (now (readable .entry)) at value)
         × (now (mapping .exit) ≡ leaves j (active (now (mapping .entry)) (now (permissions .entry))) (now (flips .entry)) at value .mapping)
         × (now (permissions .exit) ≡ leaves j (active (now (mapping .entry)) (now (permissions .entry))) (now (flips .entry)) at value .permissions)
-        × (now (ram .exit) ≡ leavesRam j (active (now (mapping .entry)) (now (permissions .entry))) (now (flips .entry)) (now (ram .entry)) at value) ⌝ }
+        × (now (ram .exit) ≡ leavesRam j (active (now (mapping .entry)) (now (permissions .entry))) (now (flips .entry)) (now (flash .entry)) (now (ram .entry)) at value)
+        × (now (flash .exit) ≡ leavesFlash j (active (now (mapping .entry)) (now (permissions .entry))) (now (flips .entry)) (now (flash .entry)) (now (ram .entry)) at value) ⌝ }
 {
     match taker_of(mapping, permissions, flips, j, at, value) {
         Taker::Ram(cell) => {
             store(cell, ram, value);
             0
         }
-        Taker::Accelerators => 0,
+        Taker::Accelerators => {
+            command(j.saves, ram, flash, at, value);
+            0
+        }
         Taker::Bank(p, first) => shift(
             mapping,
             permissions,
@@ -499,17 +515,16 @@ fn assembled(
     }
 }
 
-// A cartridge as loaded with this JLP field: the active tables are the initial ones.
+// A cartridge as loaded with these accelerators: the active tables are the initial ones.
 pub fn fresh(
-    field: u8,
+    j: Jlp,
     mapping: [u16; PARAGRAPHS],
     permissions: [u8; PARAGRAPHS],
     flips: [u16; FLIP_ENTRIES],
 ) -> Cartridge
-    ensures { λ r. ⌜ r ≡ fresh field mapping permissions flips ⌝ }
+    ensures { λ r. ⌜ r ≡ fresh j mapping permissions flips ⌝ }
 {
     let readable = readable_of(&permissions);
-    let j = jlp::fresh(field);
     assembled(
         mapping,
         permissions,
@@ -545,14 +560,26 @@ fn with_active(
     )
 }
 
-pub fn write(c: Cartridge, ram: &mut [u16], at: Console, value: u16) -> Written
-    ensures { λ r. ⌜ (r ≡ writtenOf c at value) × (now (ram .exit) ≡ writeRamOf c (now (ram .entry)) at value) ⌝ }
+pub fn write(c: Cartridge, ram: &mut [u16], flash: &mut [u16], at: Console, value: u16) -> Written
+    ensures { λ r. ⌜ (r ≡ writtenOf c at value)
+        × (now (ram .exit) ≡ writeRamOf c (now (flash .entry)) (now (ram .entry)) at value)
+        × (now (flash .exit) ≡ writeFlashOf c (now (flash .entry)) (now (ram .entry)) at value) ⌝ }
 {
     let mut m = c.mapping;
     let mut p = c.permissions;
     let mut readable = c.readable;
     let j = c.jlp;
-    let assigned = write_by(&mut m, &mut p, &c.flips, &mut readable, j, ram, at, value);
+    let assigned = write_by(
+        &mut m,
+        &mut p,
+        &c.flips,
+        &mut readable,
+        j,
+        ram,
+        flash,
+        at,
+        value,
+    );
     let k = jlp::write(j, at, value);
     Written {
         cartridge: with_active(c, m, p, readable, k),

@@ -58,7 +58,7 @@ pub record Seven (p : Pressing) : Type 0 where
   pub accepted : p .building .refusal ≡ noRefusal
   pub entry : getD (p .loading .cartridge .flips) 194 0 ≡ 0x0009
   pub others : (y : ℕ) → y < 16 → (y ≡ 2 → ⊥) → getD (p .loading .cartridge .flips) (192 + y) 0 ≡ 0x0008
-  pub reads : answers (worldOf (p .loading) (p .stored)) sevenAccesses ≡ sevenAnswers (p .bin)
+  pub reads : answers (worldOf (p .loading) (p .flash) (p .stored)) sevenAccesses ≡ sevenAnswers (p .bin)
 
 pub record Bench : Type 0 where
   -- 1. DOWCRC

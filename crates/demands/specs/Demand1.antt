@@ -25,11 +25,11 @@ abbrev pub Refused : Refusal → Type 0
 Refused r = r .number ≡ 0 → ⊥
 
 pub record Demand1 : Type 0 where
-  -- loading: all else zero, no RAM word changed
-  pub load : (image ram : List ℕ) → Decides (loadRows image (lent ram)) (loadingOf image (lent ram) .refusal)
-  pub load-zero : (image ram : List ℕ) → Refused (loadingOf image (lent ram) .refusal)
-      → loadingOf image (lent ram) ≡ loadRefused (loadingOf image (lent ram) .refusal)
-  pub load-keeps : (image ram : List ℕ) → Refused (loadingOf image (lent ram) .refusal) → loadRamOf image ram ≡ ram
+  -- loading, with f words of flash: all else zero, no RAM word changed
+  pub load : (image ram : List ℕ) (f : ℕ) → Decides (loadRows image (lent ram) f) (loadingOf image (lent ram) f .refusal)
+  pub load-zero : (image ram : List ℕ) (f : ℕ) → Refused (loadingOf image (lent ram) f .refusal)
+      → loadingOf image (lent ram) f ≡ loadRefused (loadingOf image (lent ram) f .refusal)
+  pub load-keeps : (image ram : List ℕ) (f : ℕ) → Refused (loadingOf image (lent ram) f .refusal) → loadRamOf image ram f ≡ ram
   -- reading a CFG, and the rules on its lines
   pub cfg : (cfg : List ℕ) → Decides (cfgRows cfg) (readingOf cfg .refusal)
   pub cfg-zero : (cfg : List ℕ) → Refused (readingOf cfg .refusal) → readingOf cfg ≡ cfgRefused (readingOf cfg .refusal)

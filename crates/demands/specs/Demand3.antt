@@ -1,5 +1,5 @@
--- Demand 3: a built image plays as its CFG reads. Over any RAM of at least the words reported, holding anything, it loads, and every
--- sequence of reads, writes and resets gets from the loaded image what the plain cartridge of 01 gives.
+-- Demand 3: a built image plays as its CFG reads. Over any RAM of at least the words reported, holding anything, and any flash, it loads, and
+-- every sequence of reads, writes and resets gets from the loaded image what the plain cartridge of 01 gives.
 use Prim.Native.Nat.{_≤_}
 use mathlib.Core.List.{List}
 use mathlib.Core.Path.{_≡_}
@@ -19,4 +19,4 @@ pub record Playable (p : Pressing) : Type 0 where
 pub record Demand3 : Type 0 where
   pub loads : (p : Pressing) → Playable p → p .loading .refusal ≡ noRefusal
   pub plays : (p : Pressing) → Playable p → (xs : List Access)
-      → answers (worldOf (p .loading) (p .stored)) xs ≡ plainAnswers (p .bin) (entriesOf (p .cfg)) fresh xs
+      → answers (worldOf (p .loading) (p .flash) (p .stored)) xs ≡ plainAnswers (p .bin) (entriesOf (p .cfg)) fresh xs

@@ -54,11 +54,17 @@ one-writes-accelerators κs a y z e f p q = same (p .3) (q .3)
 pub one-writes-ram : OneLent luigi-writes.Learnt (λ κs e. now (e .1 .1 .1 .1 .1 .0))
 one-writes-ram κs a y z e f p q = same (p .4) (q .4)
 
-pub one-writes-assigned : OneLent luigi-writes.Learnt (λ κs e. now (e .1 .1 .1 .1 .1 .1 .1 .1 .0))
-one-writes-assigned κs a y z e f p q = same (p .5) (q .5)
+pub one-writes-flash : OneLent luigi-writes.Learnt (λ κs e. now (e .1 .1 .1 .1 .1 .1 .0))
+one-writes-flash κs a y z e f p q = same (p .5) (q .5)
+
+pub one-writes-assigned : OneLent luigi-writes.Learnt (λ κs e. now (e .1 .1 .1 .1 .1 .1 .1 .1 .1 .0))
+one-writes-assigned κs a y z e f p q = same (p .6) (q .6)
 
 pub one-writes-by-value : OneAnswer luigi-writes-by-value.Learnt
 one-writes-by-value κs a y z e f p q = same (p .0) (q .0)
 
 pub one-writes-by-value-ram : OneLent luigi-writes-by-value.Learnt (λ κs e. now (e .1 .1 .1 .1 .0))
 one-writes-by-value-ram κs a y z e f p q = same (p .1) (q .1)
+
+pub one-writes-by-value-flash : OneLent luigi-writes-by-value.Learnt (λ κs e. now (e .1 .1 .1 .1 .1 .0))
+one-writes-by-value-flash κs a y z e f p q = same (p .2) (q .2)

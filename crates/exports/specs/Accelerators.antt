@@ -1,4 +1,5 @@
--- The accelerators as C lends them, 17 words: the JLP field, 1 for on, the operands, the two results, the CRC (02, W-206).
+-- The accelerators as C lends them, 20 words: the JLP field, 1 for on, the operands, the two results, the CRC (02, W-206), and the flash's sectors,
+-- address and row (02, W-209).
 use Prim.Native.Nat.{ℕ, _+_, _%_}
 use mathlib.Core.Bool.{Bool, cond, not}
 use mathlib.Core.List.{List, _∷_, [], _++_}
@@ -14,7 +15,10 @@ oneIf b = cond b 1 0
 
 abbrev pub wordsOf : Jlp → List ℕ
 wordsOf j =
-    j .field ∷ oneIf (j .on) ∷ (table operandCount (λ i. getD (j .operands) i 0) ++ (j .results .first ∷ j .results .second ∷ j .crc ∷ []))
+    j .field
+    ∷ oneIf (j .on)
+    ∷ (table operandCount (λ i. getD (j .operands) i 0)
+    ++ (j .results .first ∷ j .results .second ∷ j .crc ∷ j .saves .sectors ∷ j .saves .addr ∷ j .saves .row ∷ []))
 
 -- and back: any words are some accelerators, on for every word but 0
 abbrev pub jlpFrom : List ℕ → Jlp
@@ -25,4 +29,5 @@ jlpFrom w =
       operands = table operandCount (λ i. getD w (2 + i) 0);
       results = results (getD w 14 0) (getD w 15 0);
       crc = getD w 16 0;
+      saves = record { sectors = getD w 17 0; addr = getD w 18 0; row = getD w 19 0 };
     }

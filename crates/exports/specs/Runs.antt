@@ -47,25 +47,28 @@ writes at v zero = []
 writes at v (suc n) = writes at v n ++ (Write (address at n) (getD v n 0) ∷ [])
 
 -- what the first n writes leave
-unfoldable pub written : Cartridge → List ℕ → List ℕ → List ℕ → ℕ → World
-written c ram at v n = after (record { cartridge = c; ram = ram }) (writes at v n)
+unfoldable pub written : Cartridge → List ℕ → List ℕ → List ℕ → List ℕ → ℕ → World
+written c ram flash at v n = after (record { cartridge = c; flash = flash; ram = ram }) (writes at v n)
 
 -- so many active mapping entries write i assigns, after those before it
-abbrev pub assignedAt : Cartridge → List ℕ → List ℕ → List ℕ → ℕ → ℕ
-assignedAt c ram at v i =
-    assigned (written c ram at v i .cartridge .jlp) (activeOf (written c ram at v i .cartridge)) (written c ram at v i .cartridge .flips) (address at i) (getD v i 0)
+abbrev pub assignedAt : Cartridge → List ℕ → List ℕ → List ℕ → List ℕ → ℕ → ℕ
+assignedAt c ram flash at v i =
+    assigned (written c ram flash at v i .cartridge .jlp) (activeOf (written c ram flash at v i .cartridge)) (written c ram flash at v i .cartridge .flips) (address at i) (getD v i 0)
 
 -- those numbers of the first n writes, laid over the first n bytes of a buffer
-unfoldable pub numbered : Cartridge → List ℕ → List ℕ → List ℕ → ℕ → List ℕ → List ℕ
-numbered c ram at v n out = laid 0 n (assignedAt c ram at v) out
+unfoldable pub numbered : Cartridge → List ℕ → List ℕ → List ℕ → List ℕ → ℕ → List ℕ → List ℕ
+numbered c ram flash at v n out = laid 0 n (assignedAt c ram flash at v) out
 
 -- as many writes as there are addresses and values, and places for their numbers
 abbrev pub numberedWrites : List ℕ → List ℕ → List ℕ → ℕ
 numberedWrites at v out = min (min (length at) (length v)) (length out)
 
 -- what so many writes leave
-abbrev pub activeAfter : Cartridge → List ℕ → List ℕ → List ℕ → ℕ → Active
-activeAfter c ram at v n = activeAs (written c ram at v n .cartridge)
+abbrev pub activeAfter : Cartridge → List ℕ → List ℕ → List ℕ → List ℕ → ℕ → Active
+activeAfter c ram flash at v n = activeAs (written c ram flash at v n .cartridge)
 
-abbrev pub ramAfter : Cartridge → List ℕ → List ℕ → List ℕ → ℕ → List ℕ
-ramAfter c ram at v n = written c ram at v n .ram
+abbrev pub ramAfter : Cartridge → List ℕ → List ℕ → List ℕ → List ℕ → ℕ → List ℕ
+ramAfter c ram flash at v n = written c ram flash at v n .ram
+
+abbrev pub flashAfter : Cartridge → List ℕ → List ℕ → List ℕ → List ℕ → ℕ → List ℕ
+flashAfter c ram flash at v n = written c ram flash at v n .flash

@@ -4,17 +4,17 @@ ghost use mathlib.Core.Path.{_≡_};
 ghost use lib.ListN.{length};
 ghost use Rattle.places.specs.Limits.{lent};
 ghost use Rattle.sums.specs.Crc.{dowcrcOf, crc324Of, crc32Of};
-ghost use Rattle.jlp.specs.Accelerators.{freshJlp};
 ghost use Rattle.cart.specs.Cartridges.{fresh};
 ghost use Rattle.load.specs.Load.{loadingOf, loadRamOf};
 ghost use Rattle.build.specs.Building.{buildingOf, builtOf};
 ghost use Rattle.exports.specs.Accelerators.{oneIf, wordsOf, jlpFrom};
 ghost use Rattle.exports.specs.Loads.{fieldsOf, loadedOf};
 ghost use Rattle.exports.specs.Builds.{builtAs};
-ghost use Rattle.exports.specs.Runs.{activeAs, heard, answersIn, carried, numbered, numberedWrites, activeAfter, ramAfter};
+ghost use Rattle.exports.specs.Runs.{activeAs, heard, answersIn, carried, numbered, numberedWrites, activeAfter, ramAfter, flashAfter};
 use build::Building;
 use cart::Answer;
 use cart::Cartridge;
+use flash::Saves;
 use header::Compat;
 use jlp::Jlp;
 use jlp::Results;
@@ -45,8 +45,9 @@ pub extern "C" fn luigi_crc32(s: &[u8]) -> u32
     sums::crc32(s)
 }
 
-// As many words hold the accelerators where C lends them: the JLP field, 1 for on, the operands, the two results, the CRC.
-pub const ACCELERATOR_WORDS: usize = 17;
+// As many words hold the accelerators where C lends them: the JLP field, 1 for on, the operands, the two results, the CRC; the flash's sectors,
+// address and row.
+pub const ACCELERATOR_WORDS: usize = 20;
 
 fn one_if(b: bool) -> u16
     ensures { λ r. ⌜ r ≡ oneIf b ⌝ }
@@ -62,6 +63,7 @@ fn words_of(j: Jlp) -> [u16; ACCELERATOR_WORDS]
 {
     let o = j.operands;
     let results = j.results;
+    let saves = j.saves;
     let field = j.field as u16;
     let on = one_if(j.on);
     [
@@ -82,6 +84,9 @@ fn words_of(j: Jlp) -> [u16; ACCELERATOR_WORDS]
         results.first,
         results.second,
         j.crc,
+        saves.sectors,
+        saves.addr,
+        saves.row,
     ]
 }
 
@@ -107,12 +112,18 @@ fn jlp_from(w: &[u16; ACCELERATOR_WORDS]) -> Jlp
         first: w[14],
         second: w[15],
     };
+    let saves = Saves {
+        sectors: w[17],
+        addr: w[18],
+        row: w[19],
+    };
     Jlp {
         field: (w[0] % 256) as u8,
         on: w[1] != 0,
         operands,
         results,
         crc: w[16],
+        saves,
     }
 }
 
@@ -168,12 +179,13 @@ fn answered(l: Loading) -> Loaded
     }
 }
 
-// The load of an image into a lent RAM.
+// The load of an image into a lent RAM, with a lent flash.
 #[no_mangle]
-pub extern "C" fn luigi_load(image: &[u8], ram: &mut [u16]) -> Loaded
-    ensures { λ r. ⌜ (r ≡ loadedOf (loadingOf (now (image .entry)) (lent (now (ram .entry))))) × (now (ram .exit) ≡ loadRamOf (now (image .entry)) (now (ram .entry))) ⌝ }
+pub extern "C" fn luigi_load(image: &[u8], ram: &mut [u16], flash: &[u16]) -> Loaded
+    ensures { λ r. ⌜ (r ≡ loadedOf (loadingOf (now (image .entry)) (lent (now (ram .entry))) (length (now (flash .entry)))))
+        × (now (ram .exit) ≡ loadRamOf (now (image .entry)) (now (ram .entry)) (length (now (flash .entry)))) ⌝ }
 {
-    answered(load::load(image, ram))
+    answered(load::load(image, ram, flash))
 }
 
 // What building answers, laid out as C's.
@@ -214,19 +226,20 @@ pub struct Active {
     pub accelerators: [u16; ACCELERATOR_WORDS],
 }
 
-// A cartridge as it is loaded with this JLP field and these tables.
+// A cartridge with these accelerators, as it is loaded with these tables.
 fn fresh<'a>(
-    field: u8,
     mapping: &'a [u16; PARAGRAPHS],
     permissions: &'a [u8; PARAGRAPHS],
     flips: &'a [u16; FLIP_ENTRIES],
+    accelerators: &'a [u16; ACCELERATOR_WORDS],
 ) -> Cartridge
-    ensures { λ r. ⌜ r ≡ fresh field (now (mapping .entry)) (now (permissions .entry)) (now (flips .entry)) ⌝ }
+    ensures { λ r. ⌜ r ≡ fresh (jlpFrom (now (accelerators .entry))) (now (mapping .entry)) (now (permissions .entry)) (now (flips .entry)) ⌝ }
 {
     let m = *mapping;
     let p = *permissions;
     let f = *flips;
-    cart::fresh(field, m, p, f)
+    let j = jlp_from(accelerators);
+    cart::fresh(j, m, p, f)
 }
 
 fn active_as(c: Cartridge) -> Active
@@ -271,20 +284,20 @@ pub extern "C" fn luigi_reads<'a>(
     }
 }
 
-// The same, with the cartridge by value at each read, as it is loaded with this JLP field.
+// The same, with the cartridge by value at each read.
 #[no_mangle]
 pub extern "C" fn luigi_reads_by_value<'a>(
     mapping: &'a [u16; PARAGRAPHS],
     permissions: &'a [u8; PARAGRAPHS],
     flips: &'a [u16; FLIP_ENTRIES],
-    field: u8,
+    accelerators: &'a [u16; ACCELERATOR_WORDS],
     ram: &[u16],
     at: &[u16],
     out: &mut [u32],
 )
-    ensures { λ _. ⌜ now (out .exit) ≡ answersIn (freshJlp field) (now (mapping .entry)) (now (permissions .entry)) (now (ram .entry)) (now (at .entry)) (now (out .entry)) ⌝ }
+    ensures { λ _. ⌜ now (out .exit) ≡ answersIn (jlpFrom (now (accelerators .entry))) (now (mapping .entry)) (now (permissions .entry)) (now (ram .entry)) (now (at .entry)) (now (out .entry)) ⌝ }
 {
-    let c = fresh(field, mapping, permissions, flips);
+    let c = fresh(mapping, permissions, flips, accelerators);
     for i in 0..basics::least(at.len(), out.len()) {
         out[i] = heard_as(cart::read(c, ram, Console(at[i])));
     }
@@ -306,22 +319,24 @@ pub extern "C" fn luigi_writes(
     readable: &mut u16,
     accelerators: &mut [u16; ACCELERATOR_WORDS],
     ram: &mut [u16],
+    flash: &mut [u16],
     at: &[u16],
     value: &[u16],
     assigned: &mut [u8],
 )
-    ensures { λ _. ⌜ (now (readable .exit) ≡ activeAfter (carried (now (mapping .entry)) (now (permissions .entry)) (now (flips .entry)) (now (readable .entry)) (jlpFrom (now (accelerators .entry)))) (now (ram .entry)) (now (at .entry)) (now (value .entry)) (numberedWrites (now (at .entry)) (now (value .entry)) (now (assigned .entry))) .readable)
-        × (now (mapping .exit) ≡ activeAfter (carried (now (mapping .entry)) (now (permissions .entry)) (now (flips .entry)) (now (readable .entry)) (jlpFrom (now (accelerators .entry)))) (now (ram .entry)) (now (at .entry)) (now (value .entry)) (numberedWrites (now (at .entry)) (now (value .entry)) (now (assigned .entry))) .mapping)
-        × (now (permissions .exit) ≡ activeAfter (carried (now (mapping .entry)) (now (permissions .entry)) (now (flips .entry)) (now (readable .entry)) (jlpFrom (now (accelerators .entry)))) (now (ram .entry)) (now (at .entry)) (now (value .entry)) (numberedWrites (now (at .entry)) (now (value .entry)) (now (assigned .entry))) .permissions)
-        × (now (accelerators .exit) ≡ activeAfter (carried (now (mapping .entry)) (now (permissions .entry)) (now (flips .entry)) (now (readable .entry)) (jlpFrom (now (accelerators .entry)))) (now (ram .entry)) (now (at .entry)) (now (value .entry)) (numberedWrites (now (at .entry)) (now (value .entry)) (now (assigned .entry))) .accelerators)
-        × (now (ram .exit) ≡ ramAfter (carried (now (mapping .entry)) (now (permissions .entry)) (now (flips .entry)) (now (readable .entry)) (jlpFrom (now (accelerators .entry)))) (now (ram .entry)) (now (at .entry)) (now (value .entry)) (numberedWrites (now (at .entry)) (now (value .entry)) (now (assigned .entry))))
-        × (now (assigned .exit) ≡ numbered (carried (now (mapping .entry)) (now (permissions .entry)) (now (flips .entry)) (now (readable .entry)) (jlpFrom (now (accelerators .entry)))) (now (ram .entry)) (now (at .entry)) (now (value .entry)) (numberedWrites (now (at .entry)) (now (value .entry)) (now (assigned .entry))) (now (assigned .entry))) ⌝ }
+    ensures { λ _. ⌜ (now (readable .exit) ≡ activeAfter (carried (now (mapping .entry)) (now (permissions .entry)) (now (flips .entry)) (now (readable .entry)) (jlpFrom (now (accelerators .entry)))) (now (ram .entry)) (now (flash .entry)) (now (at .entry)) (now (value .entry)) (numberedWrites (now (at .entry)) (now (value .entry)) (now (assigned .entry))) .readable)
+        × (now (mapping .exit) ≡ activeAfter (carried (now (mapping .entry)) (now (permissions .entry)) (now (flips .entry)) (now (readable .entry)) (jlpFrom (now (accelerators .entry)))) (now (ram .entry)) (now (flash .entry)) (now (at .entry)) (now (value .entry)) (numberedWrites (now (at .entry)) (now (value .entry)) (now (assigned .entry))) .mapping)
+        × (now (permissions .exit) ≡ activeAfter (carried (now (mapping .entry)) (now (permissions .entry)) (now (flips .entry)) (now (readable .entry)) (jlpFrom (now (accelerators .entry)))) (now (ram .entry)) (now (flash .entry)) (now (at .entry)) (now (value .entry)) (numberedWrites (now (at .entry)) (now (value .entry)) (now (assigned .entry))) .permissions)
+        × (now (accelerators .exit) ≡ activeAfter (carried (now (mapping .entry)) (now (permissions .entry)) (now (flips .entry)) (now (readable .entry)) (jlpFrom (now (accelerators .entry)))) (now (ram .entry)) (now (flash .entry)) (now (at .entry)) (now (value .entry)) (numberedWrites (now (at .entry)) (now (value .entry)) (now (assigned .entry))) .accelerators)
+        × (now (ram .exit) ≡ ramAfter (carried (now (mapping .entry)) (now (permissions .entry)) (now (flips .entry)) (now (readable .entry)) (jlpFrom (now (accelerators .entry)))) (now (ram .entry)) (now (flash .entry)) (now (at .entry)) (now (value .entry)) (numberedWrites (now (at .entry)) (now (value .entry)) (now (assigned .entry))))
+        × (now (flash .exit) ≡ flashAfter (carried (now (mapping .entry)) (now (permissions .entry)) (now (flips .entry)) (now (readable .entry)) (jlpFrom (now (accelerators .entry)))) (now (ram .entry)) (now (flash .entry)) (now (at .entry)) (now (value .entry)) (numberedWrites (now (at .entry)) (now (value .entry)) (now (assigned .entry))))
+        × (now (assigned .exit) ≡ numbered (carried (now (mapping .entry)) (now (permissions .entry)) (now (flips .entry)) (now (readable .entry)) (jlpFrom (now (accelerators .entry)))) (now (ram .entry)) (now (flash .entry)) (now (at .entry)) (now (value .entry)) (numberedWrites (now (at .entry)) (now (value .entry)) (now (assigned .entry))) (now (assigned .entry))) ⌝ }
 {
     let mut j = jlp_from(accelerators);
     for i in 0..least_of(at.len(), value.len(), assigned.len()) {
         let a = Console(at[i]);
         let v = value[i];
-        assigned[i] = cart::write_by(mapping, permissions, flips, readable, j, ram, a, v);
+        assigned[i] = cart::write_by(mapping, permissions, flips, readable, j, ram, flash, a, v);
         if jlp::latches(j, a, v) {
             j = jlp::write(j, a, v);
         }
@@ -335,16 +350,19 @@ pub extern "C" fn luigi_writes_by_value<'a>(
     mapping: &'a [u16; PARAGRAPHS],
     permissions: &'a [u8; PARAGRAPHS],
     flips: &'a [u16; FLIP_ENTRIES],
-    field: u8,
+    accelerators: &'a [u16; ACCELERATOR_WORDS],
     ram: &mut [u16],
+    flash: &mut [u16],
     at: &[u16],
     value: &[u16],
 ) -> Active
-    ensures { λ r. ⌜ (r ≡ activeAfter (fresh field (now (mapping .entry)) (now (permissions .entry)) (now (flips .entry))) (now (ram .entry)) (now (at .entry)) (now (value .entry)) (min (length (now (at .entry))) (length (now (value .entry))))) × (now (ram .exit) ≡ ramAfter (fresh field (now (mapping .entry)) (now (permissions .entry)) (now (flips .entry))) (now (ram .entry)) (now (at .entry)) (now (value .entry)) (min (length (now (at .entry))) (length (now (value .entry))))) ⌝ }
+    ensures { λ r. ⌜ (r ≡ activeAfter (fresh (jlpFrom (now (accelerators .entry))) (now (mapping .entry)) (now (permissions .entry)) (now (flips .entry))) (now (ram .entry)) (now (flash .entry)) (now (at .entry)) (now (value .entry)) (min (length (now (at .entry))) (length (now (value .entry)))))
+        × (now (ram .exit) ≡ ramAfter (fresh (jlpFrom (now (accelerators .entry))) (now (mapping .entry)) (now (permissions .entry)) (now (flips .entry))) (now (ram .entry)) (now (flash .entry)) (now (at .entry)) (now (value .entry)) (min (length (now (at .entry))) (length (now (value .entry)))))
+        × (now (flash .exit) ≡ flashAfter (fresh (jlpFrom (now (accelerators .entry))) (now (mapping .entry)) (now (permissions .entry)) (now (flips .entry))) (now (ram .entry)) (now (flash .entry)) (now (at .entry)) (now (value .entry)) (min (length (now (at .entry))) (length (now (value .entry))))) ⌝ }
 {
-    let mut c = fresh(field, mapping, permissions, flips);
+    let mut c = fresh(mapping, permissions, flips, accelerators);
     for i in 0..basics::least(at.len(), value.len()) {
-        let done = cart::write(c, ram, Console(at[i]), value[i]);
+        let done = cart::write(c, ram, flash, Console(at[i]), value[i]);
         let next = done.cartridge;
         c = next;
     }

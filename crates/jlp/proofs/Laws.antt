@@ -10,15 +10,17 @@ use borrow.Author.Tests.{le-leb, lt-leb, eq-eqb, ne-eqb}
 use Rattle.basics.specs.Laws.Tests.{cases, not-true, not-false, true-is-not-false, and-false, or-right, cond-true}
 use Rattle.places.specs.declared.Console.{Console}
 use Rattle.sums.specs.Crc.{crcBits}
+use Rattle.flash.specs.declared.Heard.{Heard}
+use Rattle.flash.specs.declared.Heard.the-variants.{Silence}
+use Rattle.flash.specs.declared.Saves.{Saves}
+use Rattle.flash.specs.Registers.{remembered}
 use Rattle.jlp.specs.declared.arith.Number.{Number}
 use Rattle.jlp.specs.declared.Jlp.{Jlp}
-use Rattle.jlp.specs.declared.Heard.{Heard}
-use Rattle.jlp.specs.declared.Heard.the-variants.{Silence}
 use Rattle.jlp.specs.declared.Results.{Results}
 use Rattle.jlp.specs.Window.{between, inWindow, inRam, isOperand, operandsStart, operandsEnd}
 use Rattle.jlp.specs.Arith.{wordValues, longValues, number, numberOf, wordOf, unlike, results, productOf, multiplied, quotientOf, divided}
 use Rattle.jlp.specs.Crc.{jlpPoly, crcWord}
-use Rattle.jlp.specs.Accelerators.{withOn, turnsOn, turnsOff, takes, latches, functionOf, computed, operated, operandCount, crcAfter, withCrc, writtenOn, writtenJlp, registerWord, heardAt}
+use Rattle.jlp.specs.Accelerators.{withOn, turnsOn, turnsOff, takes, latches, functionOf, computed, operated, operandCount, crcAfter, withCrcAndSaves, writtenOn, writtenJlp, registerWord, heardAt}
 use Rattle.jlp.specs.Laws.Values.{signs}
 use Rattle.jlp.specs.Laws.Window.{between-low, between-high}
 use Rattle.jlp.specs.Laws.Accelerators.{on-in-window, off-takes}
@@ -92,7 +94,7 @@ operand-below a b e t = omega (arith, between-high _ _ _ (sym e ∙ t))
 
 -- an operand that is stored, with its function's results
 pub operate-is : (j : Jlp) (k v : ℕ) (r : Results) → r ≡ computed (k / 2) (set (j .operands) k v) (j .results)
-    → record { field = j .field; on = j .on; operands = set (j .operands) k v; results = r; crc = j .crc } ≡ operated j k v
+    → record { field = j .field; on = j .on; operands = set (j .operands) k v; results = r; crc = j .crc; saves = j .saves } ≡ operated j k v
 operate-is j k v r e = rw e
 
 module _ (j : Jlp) (at : Console) where
@@ -136,10 +138,10 @@ module _ (j : Jlp) (at : Console) where
   unfolding writtenOn
   on-operand v t b r e h g k f = rw (← e, h, ← g, k) f
 
-  pub on-other : (v c : ℕ) (t b : Bool) (r : Jlp) → t ≡ turnsOff at v → t ≡ false → b ≡ isOperand at → b ≡ false
-      → c ≡ crcAfter (j .crc) at v → r ≡ withCrc j c → r ≡ writtenOn j at v
+  pub on-other : (v c : ℕ) (s : Saves) (t b : Bool) (r : Jlp) → t ≡ turnsOff at v → t ≡ false → b ≡ isOperand at → b ≡ false
+      → c ≡ crcAfter (j .crc) at v → s ≡ remembered (j .saves) at v → r ≡ withCrcAndSaves j c s → r ≡ writtenOn j at v
   unfolding writtenOn
-  on-other v c t b r e h g k q f = rw (← e, h, ← g, k, ← q) f
+  on-other v c s t b r e h g k q l f = rw (← e, h, ← g, k, ← q, ← l) f
 
   -- the word that turns on, and any other write while off and while on
   pub write-turns : (v : ℕ) (t : Bool) (r : Jlp) → t ≡ turnsOn (j .field) at v → t ≡ true → r ≡ withOn j true → r ≡ writtenJlp j at v

@@ -1,4 +1,4 @@
--- The accelerators: on or off, and what a write, a reset and a read do (02, W-206).
+-- The accelerators: on or off, and what a write, a reset and a read do (02, W-206); with them go the flash's registers (02, W-209).
 use Prim.Native.Nat.{ℕ, _+_, _*_, _/_, _-_}
 use mathlib.Core.Bool.{Bool, true, false, cond, not, _&&_, _||_}
 use mathlib.Core.List.{List, [], _∷_}
@@ -8,8 +8,10 @@ use Rattle.basics.specs.Rows.{firstOf}
 use Rattle.places.specs.declared.Console.{Console}
 use Rattle.jlp.specs.declared.Results.{Results}
 use Rattle.jlp.specs.declared.Jlp.{Jlp}
-use Rattle.jlp.specs.declared.Heard.{Heard}
-use Rattle.jlp.specs.declared.Heard.the-variants.{Word, Silence}
+use Rattle.flash.specs.declared.Heard.{Heard}
+use Rattle.flash.specs.declared.Heard.the-variants.{Word, Silence}
+use Rattle.flash.specs.declared.Saves.{Saves}
+use Rattle.flash.specs.Registers.{freshSaves, flashHeard, remembered}
 use Rattle.jlp.specs.Window.{inWindow, inRam, onAt, onWord, offAt, offWord, operandsStart, isOperand, firstAt, secondAt, dataAt, crcAt}
 use Rattle.jlp.specs.Arith.{results, multiplied, divided}
 use Rattle.jlp.specs.Crc.{crcWord}
@@ -22,16 +24,23 @@ operandCount = 12
 abbrev pub startsOn : ℕ → Bool
 startsOn field = eqb field 1 || eqb field 3
 
--- operands, results and CRC are 0 at load
-abbrev pub freshJlp : ℕ → Jlp
-freshJlp field =
-    record { field = field; on = startsOn field; operands = replicate operandCount 0; results = results 0 0; crc = 0 }
+-- operands, results and CRC are 0 at load, and so are the registers of a flash of so many sectors
+abbrev pub freshJlp : ℕ → ℕ → Jlp
+freshJlp field sectors =
+    record {
+      field = field;
+      on = startsOn field;
+      operands = replicate operandCount 0;
+      results = results 0 0;
+      crc = 0;
+      saves = freshSaves sectors;
+    }
 
 -- turned on or off, all else kept
 abbrev pub withOn : Jlp → Bool → Jlp
-withOn j on = record { field = j .field; on = on; operands = j .operands; results = j .results; crc = j .crc }
+withOn j on = record { field = j .field; on = on; operands = j .operands; results = j .results; crc = j .crc; saves = j .saves }
 
--- operands, results and CRC survive reset
+-- operands, results, CRC and the flash's registers survive reset
 abbrev pub resetJlp : Jlp → Jlp
 resetJlp j = withOn j (startsOn (j .field))
 
@@ -89,32 +98,33 @@ operated j k v =
       operands = set (j .operands) k v;
       results = computed (k / 2) (set (j .operands) k v) (j .results);
       crc = j .crc;
+      saves = j .saves;
     }
 
 -- a write to $9FFC adds a word to the CRC, one to $9FFD sets it (000, JLP CRC-16 Accelerator)
 unfoldable pub crcAfter : ℕ → Console → ℕ → ℕ
 crcAfter c at v = firstOf ((eqb (at .0) dataAt, crcWord c v) ∷ (eqb (at .0) crcAt, v) ∷ []) c
 
-abbrev pub withCrc : Jlp → ℕ → Jlp
-withCrc j c = record { field = j .field; on = j .on; operands = j .operands; results = j .results; crc = c }
+abbrev pub withCrcAndSaves : Jlp → ℕ → Saves → Jlp
+withCrcAndSaves j c s = record { field = j .field; on = j .on; operands = j .operands; results = j .results; crc = c; saves = s }
 
--- what a write leaves while they are on; all other writes change nothing of them
+-- what a write leaves while they are on; one that is not of the CRC or of the flash's registers leaves these as they are
 unfoldable pub writtenOn : Jlp → Console → ℕ → Jlp
 writtenOn j at v =
     firstOf
     ((turnsOff at v, withOn j false) ∷ (isOperand at, operated j (at .0 - operandsStart) v) ∷ [])
-    (withCrc j (crcAfter (j .crc) at v))
+    (withCrcAndSaves j (crcAfter (j .crc) at v) (remembered (j .saves) at v))
 
 -- what a write leaves of them: while off, only the word that turns them on changes anything
 unfoldable pub writtenJlp : Jlp → Console → ℕ → Jlp
 writtenJlp j at v = cond (turnsOn (j .field) at v) (withOn j true) (cond (j .on) (writtenOn j at v) j)
 
--- the registers that answer: the results at $9F8E and $9F8F, and the CRC at $9FFD; all others are silent
+-- the registers that answer: the results at $9F8E and $9F8F, and the CRC at $9FFD; all others are the flash's, or silent
 unfoldable pub registerWord : Jlp → Console → Heard
 registerWord j at =
     firstOf
     ((eqb (at .0) firstAt, Word (j .results .first)) ∷ (eqb (at .0) secondAt, Word (j .results .second)) ∷ (eqb (at .0) crcAt, Word (j .crc)) ∷ [])
-    Silence
+    (flashHeard (j .saves) at)
 
 -- what a read of them gets: while off, silence
 unfoldable pub heardAt : Jlp → Console → Heard

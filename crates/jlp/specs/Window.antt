@@ -5,6 +5,7 @@ use lib.Dec.{leb}
 use Rattle.places.specs.declared.Console.{Console}
 use Rattle.places.specs.declared.Locutus.{Locutus}
 use Rattle.places.specs.Places.{locutus}
+use Rattle.flash.specs.Flash.{ramStart, ramEnd, ramShift}
 
 -- an address from low to high
 unfoldable pub between : ℕ → ℕ → ℕ → Bool
@@ -20,18 +21,9 @@ windowEnd = 0x9FFF
 abbrev pub inWindow : Console → Bool
 inWindow at = between windowStart windowEnd (at .0)
 
--- in it, $8040-$9F7F is 16-bit RAM at Locutus $10040-$11F7F (02, W-206)
-abbrev pub ramStart : ℕ
-ramStart = 0x8040
-
-abbrev pub ramEnd : ℕ
-ramEnd = 0x9F7F
-
+-- in it, $8040-$9F7F is 16-bit RAM at Locutus $10040-$11F7F (02, W-206): the RAM that the flash's rows are copied to and from
 abbrev pub inRam : Console → Bool
 inRam at = between ramStart ramEnd (at .0)
-
-abbrev pub ramShift : ℕ
-ramShift = 0x8000
 
 abbrev pub ramLocation : Console → Locutus
 ramLocation at = locutus (at .0 + ramShift)

@@ -1,14 +1,20 @@
 // The JLP accelerators by value: which writes they take, what a write leaves of them, and what their registers answer (02, W-206; 000,
-// "JLP Multiply and Divide Accelerators", "JLP CRC-16 Accelerator"). Numbers to numbers: no word of the cartridge or of its RAM.
+// "JLP Multiply and Divide Accelerators", "JLP CRC-16 Accelerator"); the flash's registers are among theirs (02, W-209). Numbers to numbers:
+// no word of the cartridge, of its RAM or of its flash.
 mod arith;
 mod sum;
 
 ghost use Prim.Native.Nat.{_<_};
 ghost use mathlib.Core.Path.{_≡_};
 ghost use Rattle.jlp.specs.Window.{between, inWindow, inRam, ramLocation};
-ghost use Rattle.jlp.specs.Accelerators.{operandCount, startsOn, freshJlp, withOn, resetJlp, turnsOn, turnsOff, takes, latches, functionOf, operated, crcAfter, withCrc, writtenOn, writtenJlp, registerWord, heardAt};
+ghost use Rattle.jlp.specs.Accelerators.{operandCount, startsOn, freshJlp, withOn, resetJlp, turnsOn, turnsOff, takes, latches, functionOf, operated, crcAfter, withCrcAndSaves, writtenOn, writtenJlp, registerWord, heardAt};
 pub use arith::divide;
 pub use arith::multiply;
+use flash::Heard;
+use flash::RAM_END;
+use flash::RAM_SHIFT;
+use flash::RAM_START;
+use flash::Saves;
 use places::Console;
 use places::Locutus;
 pub use sum::checksum;
@@ -18,14 +24,7 @@ pub const WINDOW_START: u16 = 0x8000;
 
 pub const WINDOW_END: u16 = 0x9FFF;
 
-// The RAM in it, and how far behind its console address a word of it lies in Locutus RAM.
-pub const RAM_START: u16 = 0x8040;
-
-pub const RAM_END: u16 = 0x9F7F;
-
-pub const RAM_SHIFT: u32 = 0x8000;
-
-// As many lent words hold all of it.
+// As many lent words hold all of the RAM in it.
 pub const RAM_WORDS: usize = 73600;
 
 // The words that turn the accelerators on and off, and where they are written.
@@ -59,19 +58,14 @@ pub struct Results {
     pub second: u16,
 }
 
-// The header's JLP field; whether the accelerators are on; the operands as last written; the results; the CRC.
+// The header's JLP field; whether the accelerators are on; the operands as last written; the results; the CRC; the flash's registers.
 pub struct Jlp {
     pub field: u8,
     pub on: bool,
     pub operands: [u16; OPERAND_COUNT],
     pub results: Results,
     pub crc: u16,
-}
-
-// What a read of a register gets.
-pub enum Heard {
-    Word(u16),
-    Silence,
+    pub saves: Saves,
 }
 
 // An address from low to high.
@@ -113,9 +107,9 @@ fn starts_on(field: u8) -> bool
     field == 3
 }
 
-// The accelerators at load.
-pub fn fresh(field: u8) -> Jlp
-    ensures { λ r. ⌜ r ≡ freshJlp field ⌝ }
+// The accelerators at load, with a flash of so many sectors.
+pub fn fresh(field: u8, sectors: u16) -> Jlp
+    ensures { λ r. ⌜ r ≡ freshJlp field sectors ⌝ }
 {
     let on = starts_on(field);
     let operands = [0u16; OPERAND_COUNT];
@@ -123,12 +117,14 @@ pub fn fresh(field: u8) -> Jlp
         first: 0,
         second: 0,
     };
+    let saves = flash::fresh(sectors);
     Jlp {
         field,
         on,
         operands,
         results,
         crc: 0,
+        saves,
     }
 }
 
@@ -233,10 +229,11 @@ fn crc_after(crc: u16, at: Console, value: u16) -> u16
     crc
 }
 
-fn with_crc(mut j: Jlp, crc: u16) -> Jlp
-    ensures { λ r. ⌜ r ≡ withCrc j crc ⌝ }
+fn with_crc_and_saves(mut j: Jlp, crc: u16, saves: Saves) -> Jlp
+    ensures { λ r. ⌜ r ≡ withCrcAndSaves j crc saves ⌝ }
 {
     j.crc = crc;
+    j.saves = saves;
     j
 }
 
@@ -250,7 +247,11 @@ fn write_on(j: Jlp, at: Console, value: u16) -> Jlp
     if between(OPERANDS_START, OPERANDS_END, at.0) {
         return operate(j, (at.0 - OPERANDS_START) as usize, value);
     }
-    with_crc(j, crc_after(j.crc, at, value))
+    with_crc_and_saves(
+        j,
+        crc_after(j.crc, at, value),
+        flash::remember(j.saves, at, value),
+    )
 }
 
 // What a write leaves of the accelerators.
@@ -279,7 +280,7 @@ fn register_at(j: Jlp, at: Console) -> Heard
     if at.0 == CRC_AT {
         return Heard::Word(j.crc);
     }
-    Heard::Silence
+    flash::hear(j.saves, at)
 }
 
 // What a read of them gets.

@@ -11,6 +11,7 @@ use Rattle.basics.specs.Tables.{table}
 use Rattle.places.specs.declared.Console.{Console}
 use Rattle.places.specs.Places.{console}
 use Rattle.places.specs.Limits.{slots, layers, paragraphs, chapterParagraphs, chapterPages, flipEntries, paragraphSize, pageSize, pageParagraphs}
+use Rattle.jlp.specs.Accelerators.{freshJlp}
 use Rattle.cart.specs.declared.Cartridge.{Cartridge}
 use Rattle.cart.specs.Cartridges.{fresh}
 use Rattle.switches.specs.Flips.{firstK, flipMapping, flipPermissions}
@@ -86,7 +87,7 @@ flipTable lines = table flipEntries (λ n. flipEntry lines (n / chapterPages) (n
 
 -- the cartridge with these tables, as a load leaves it
 abbrev pub cartridgeOf : List Line → Cartridge
-cartridgeOf lines = fresh 0 (mappingTable lines) (permissionsTable lines) (flipTable lines)
+cartridgeOf lines = fresh (freshJlp 0 0) (mappingTable lines) (permissionsTable lines) (flipTable lines)
 
 -- the word that a line has at an address when the image is written: the BIN's; declared RAM is written as zeros
 abbrev pub writtenBy : List ℕ → Entry → Console → ℕ

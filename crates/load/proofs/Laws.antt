@@ -20,9 +20,10 @@ use Rattle.sums.specs.Tables.{tablesOf, byTables}
 use Rattle.sums.specs.Laws.Tables.{c324-by}
 use Rattle.header.specs.declared.Compat.{Compat}
 use Rattle.header.specs.Header.{flagsOf}
-use Rattle.header.specs.Flags.{jlpField, compatOf}
+use Rattle.header.specs.Flags.{compatOf}
+use Rattle.jlp.specs.declared.Jlp.{Jlp}
 use Rattle.cart.specs.declared.Cartridge.{Cartridge}
-use Rattle.tables.specs.Tables.{cartridgeOf, tablesRefusal}
+use Rattle.tables.specs.Tables.{jlpOf, cartridgeOf, tablesRefusal}
 use Rattle.tables.specs.Laws.Tables.{cartridge-flips}
 use Rattle.hunk.specs.Hunk.{storeHunk}
 use Rattle.blocks.specs.declared.Frame.{Frame}
@@ -136,34 +137,34 @@ module _ (size tables blocks words : ℕ) where
   unfolding endedAt
   some-ended e = rw (ne-eqb _ _ e)
 
--- the cartridge, by the field that was read
-pub cartridge-is : (s : List ℕ) (t field : ℕ) (c : Cartridge) → field ≡ jlpField (flagsOf s) → c ≡ cartridgeOf field (tablesAt s t) → c ≡ cartridgeOf (jlpField (flagsOf s)) (tablesAt s t)
-cartridge-is s t field c e g = rw (← e) g
+-- the cartridge, by the accelerators that the flags give
+pub cartridge-is : (s : List ℕ) (t : ℕ) (j : Jlp) (c : Cartridge) → j ≡ jlpOf (flagsOf s) → c ≡ cartridgeOf j (tablesAt s t) → c ≡ cartridgeOf (jlpOf (flagsOf s)) (tablesAt s t)
+cartridge-is s t j c e g = rw (← e) g
 
 -- behind the passes
-module _ (s ram : List ℕ) (t blocks words : ℕ) (c : Cartridge) (ec : c ≡ cartridgeOf (jlpField (flagsOf s)) (tablesAt s t))
-    (m : ℕ) (em : m ≡ lent ram) (r : Refusal) (er : r ≡ tablesRefusal (flagsOf s) (c .flips) m) where
-  end-is : r ≡ endRefusal s t (lent ram)
+module _ (s ram : List ℕ) (t blocks words : ℕ) (c : Cartridge) (ec : c ≡ cartridgeOf (jlpOf (flagsOf s)) (tablesAt s t))
+    (m : ℕ) (em : m ≡ lent ram) (f : ℕ) (r : Refusal) (er : r ≡ tablesRefusal (flagsOf s) (c .flips) m f) where
+  end-is : r ≡ endRefusal s t (lent ram) f
   end-is =
       rw (← em)
-      (er ∙ ap (λ (f : List ℕ). tablesRefusal (flagsOf s) f m) (ap (λ (d : Cartridge). d .flips) ec ∙ cartridge-flips (jlpField (flagsOf s)) (tablesAt s t)))
+      (er ∙ ap (λ (flips : List ℕ). tablesRefusal (flagsOf s) flips m f) (ap (λ (d : Cartridge). d .flips) ec ∙ cartridge-flips (jlpOf (flagsOf s)) (tablesAt s t)))
 
   module _ (h : r .number ≡ 0 → ⊥) where
-    pub refused-answer : (l : Loading) → l ≡ refused r → l ≡ finishedOf s (lent ram) t blocks words
+    pub refused-answer : (l : Loading) → l ≡ refused r → l ≡ finishedOf s (lent ram) f t blocks words
     unfolding finishedOf
     refused-answer l el = el ∙ rw (← end-is, ne-eqb _ _ h)
 
-    pub refused-ram : ram ≡ finishedRamOf s t ram
+    pub refused-ram : ram ≡ finishedRamOf s t ram f
     unfolding finishedRamOf
     refused-ram = rw (← end-is, ne-eqb _ _ h)
 
   module _ (h : r .number ≡ 0) where
     pub loaded-answer : (n : Refusal) → n ≡ noRefusal → (k : Compat) → k ≡ compatOf (flagsOf s)
-        → record { refusal = n; cartridge = c; compat = k; blocks = blocks; words = words } ≡ finishedOf s (lent ram) t blocks words
+        → record { refusal = n; cartridge = c; compat = k; blocks = blocks; words = words } ≡ finishedOf s (lent ram) f t blocks words
     unfolding finishedOf
     loaded-answer n en k ek = rw (← end-is, eq-eqb _ _ h, en, ec, ek)
 
-    pub loaded-ram : (after : List ℕ) → after ≡ eachStored (blocksIn s) ram → after ≡ finishedRamOf s t ram
+    pub loaded-ram : (after : List ℕ) → after ≡ eachStored (blocksIn s) ram → after ≡ finishedRamOf s t ram f
     unfolding finishedRamOf
     loaded-ram after ea = ea ∙ rw (← end-is, eq-eqb _ _ h)
 

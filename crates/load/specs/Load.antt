@@ -8,10 +8,10 @@ use Rattle.basics.specs.Rows.{Row}
 use Rattle.basics.specs.Refusals.{refuse, noRefusal, firstRefusal, passes}
 use Rattle.places.specs.Limits.{lent}
 use Rattle.header.specs.Header.{headerRows, flagsOf}
-use Rattle.header.specs.Flags.{jlpField, compatOf, noCompat}
+use Rattle.header.specs.Flags.{compatOf, noCompat}
 use Rattle.cart.specs.declared.Cartridge.{Cartridge}
 use Rattle.cart.specs.Cartridges.{noCartridge}
-use Rattle.tables.specs.Tables.{tablesIn, cartridgeOf, tablesRows}
+use Rattle.tables.specs.Tables.{tablesIn, jlpOf, cartridgeOf, tablesRows}
 use Rattle.blocks.specs.Images.{firstBlock, blocksIn, stopOf, isCut, judgeAll, anyTables, payloadOfTables, hunksIn, overlay, wordCount}
 use Rattle.load.specs.declared.Loading.{Loading}
 
@@ -23,17 +23,18 @@ walkRows s m =
 
 -- the cartridge of these flags and the first tables block
 abbrev pub cartridgeIn : List ℕ → List (List ℕ) → Cartridge
-cartridgeIn flags xs = cartridgeOf (jlpField flags) (payloadOfTables xs)
+cartridgeIn flags xs = cartridgeOf (jlpOf flags) (payloadOfTables xs)
 
--- every refusal of an image that is loaded into m words of RAM: 1 to 4; the blocks; then 10 and 11, of the flags and the tables
-abbrev pub refusalRows : List ℕ → ℕ → List (Row Refusal)
-refusalRows s m = headerRows s ++ (walkRows s m ++ tablesRows (flagsOf s) (tablesIn (payloadOfTables (blocksIn s)) .flips) m)
+-- every refusal of an image that is loaded into m words of RAM with f words of flash: 1 to 4; the blocks; then 10, 11 and 13, of the flags
+-- and the tables
+abbrev pub refusalRows : List ℕ → ℕ → ℕ → List (Row Refusal)
+refusalRows s m f = headerRows s ++ (walkRows s m ++ tablesRows (flagsOf s) (tablesIn (payloadOfTables (blocksIn s)) .flips) m f)
 
-unfoldable pub refusalOf : List ℕ → ℕ → Refusal
-refusalOf s m = firstRefusal (refusalRows s m)
+unfoldable pub refusalOf : List ℕ → ℕ → ℕ → Refusal
+refusalOf s m f = firstRefusal (refusalRows s m f)
 
-abbrev pub loads : List ℕ → ℕ → Bool
-loads s m = passes (refusalOf s m)
+abbrev pub loads : List ℕ → ℕ → ℕ → Bool
+loads s m f = passes (refusalOf s m f)
 
 -- the answer of a load with these flags and blocks; and of a refused one: number and place, zero in all else, and nothing said of the TutorVision
 abbrev pub loadedOf : List ℕ → List (List ℕ) → Loading
@@ -49,10 +50,10 @@ loadedOf flags xs =
 abbrev pub refused : Refusal → Loading
 refused r = record { refusal = r; cartridge = noCartridge; compat = noCompat; blocks = 0; words = 0 }
 
--- the answer for m words of lent RAM
-unfoldable pub loadingOf : List ℕ → ℕ → Loading
-loadingOf s m = cond (loads s m) (loadedOf (flagsOf s) (blocksIn s)) (refused (refusalOf s m))
+-- the answer for m words of lent RAM and f of lent flash
+unfoldable pub loadingOf : List ℕ → ℕ → ℕ → Loading
+loadingOf s m f = cond (loads s m f) (loadedOf (flagsOf s) (blocksIn s)) (refused (refusalOf s m f))
 
--- the RAM afterwards: the hunks over it in file order, and as it was where the load is refused
-unfoldable pub loadRamOf : List ℕ → List ℕ → List ℕ
-loadRamOf s ram = cond (loads s (lent ram)) (overlay (hunksIn (blocksIn s)) ram) ram
+-- the RAM afterwards: the hunks over it in file order, and as it was where the load is refused; the flash is only measured
+unfoldable pub loadRamOf : List ℕ → List ℕ → ℕ → List ℕ
+loadRamOf s ram f = cond (loads s (lent ram) f) (overlay (hunksIn (blocksIn s)) ram) ram

@@ -8,8 +8,7 @@ ghost use Rattle.places.specs.Limits.{lent};
 ghost use Rattle.sums.specs.Crc.{c324Poly, crc324Of};
 ghost use Rattle.sums.specs.Tables.{tablesOf};
 ghost use Rattle.header.specs.Header.{headerSize, flagsOf};
-ghost use Rattle.header.specs.Flags.{jlpField};
-ghost use Rattle.tables.specs.Tables.{cartridgeOf, tablesRefusal};
+ghost use Rattle.tables.specs.Tables.{jlpOf, cartridgeOf, tablesRefusal};
 ghost use Rattle.blocks.specs.Blocks.{payloadIn};
 ghost use Rattle.blocks.specs.Images.{blocksIn};
 ghost use Rattle.load.specs.Load.{refused, loadingOf, loadRamOf};
@@ -172,36 +171,36 @@ fn refuse(r: Refusal) -> Loading
     }
 }
 
-// The cartridge of the header's JLP field and of the tables block at t.
+// The cartridge of the accelerators that the header's flags give and of the tables block at t.
 fn cartridge_at(s: &[u8], t: usize) -> Cartridge
     requires { ⌜ (headerSize ≤ length (now s)) × Tabled (now s) t ⌝ }
-    ensures { λ r. ⌜ r ≡ cartridgeOf (jlpField (flagsOf (now (s .entry)))) (tablesAt (now (s .entry)) t) ⌝ }
+    ensures { λ r. ⌜ r ≡ cartridgeOf (jlpOf (flagsOf (now (s .entry)))) (tablesAt (now (s .entry)) t) ⌝ }
 {
     let from = header::FLAGS_AT;
     let to = header::UID_AT;
-    let field = header::jlp_field(&s[from..to]);
+    let j = tables::jlp_of(&s[from..to]);
     let a = t + FRAME_SIZE;
     let e = a + tables::TABLES_SIZE;
-    tables::cartridge_of(field, &s[a..e])
+    tables::cartridge_of(j, &s[a..e])
 }
 
-// What is refused of the header's flags and of these flips, with m words lent.
-fn refusal_with(s: &[u8], flips: &[u16; PARAGRAPHS], m: usize) -> Refusal
+// What is refused of the header's flags and of these flips, with m words of RAM and f of flash lent.
+fn refusal_with(s: &[u8], flips: &[u16; PARAGRAPHS], m: usize, f: usize) -> Refusal
     requires { ⌜ headerSize ≤ length (now s) ⌝ }
-    ensures { λ r. ⌜ r ≡ tablesRefusal (flagsOf (now (s .entry))) (now (flips .entry)) m ⌝ }
+    ensures { λ r. ⌜ r ≡ tablesRefusal (flagsOf (now (s .entry))) (now (flips .entry)) m f ⌝ }
 {
     let from = header::FLAGS_AT;
     let to = header::UID_AT;
-    tables::refused(&s[from..to], flips, m)
+    tables::refused(&s[from..to], flips, m, f)
 }
 
-// Behind the checking pass: 10 and 11, then the storing pass and the answer.
-fn finish(s: &[u8], t: usize, blocks: usize, words: usize, ram: &mut [u16]) -> Loading
+// Behind the checking pass: 10, 11 and 13, then the storing pass and the answer.
+fn finish(s: &[u8], t: usize, blocks: usize, words: usize, ram: &mut [u16], f: usize) -> Loading
     requires { ⌜ (headerSize ≤ length (now s)) × Tabled (now s) t ⌝ }
-    ensures { λ r. ⌜ (r ≡ finishedOf (now (s .entry)) (lent (now (ram .entry))) t blocks words) × (now (ram .exit) ≡ finishedRamOf (now (s .entry)) t (now (ram .entry))) ⌝ }
+    ensures { λ r. ⌜ (r ≡ finishedOf (now (s .entry)) (lent (now (ram .entry))) f t blocks words) × (now (ram .exit) ≡ finishedRamOf (now (s .entry)) t (now (ram .entry)) f) ⌝ }
 {
     let cartridge = cartridge_at(s, t);
-    let r = refusal_with(s, &cartridge.flips, places::lent_words(ram));
+    let r = refusal_with(s, &cartridge.flips, places::lent_words(ram), f);
     if r.number != 0 {
         return refuse(r);
     }
@@ -217,9 +216,10 @@ fn finish(s: &[u8], t: usize, blocks: usize, words: usize, ram: &mut [u16]) -> L
     }
 }
 
-// The load of an image into the words of a lent RAM that count.
-pub fn load(image: &[u8], ram: &mut [u16]) -> Loading
-    ensures { λ r. ⌜ (r ≡ loadingOf (now (image .entry)) (lent (now (ram .entry)))) × (now (ram .exit) ≡ loadRamOf (now (image .entry)) (now (ram .entry))) ⌝ }
+// The load of an image into the words of a lent RAM that count, with a lent flash, which is left as found.
+pub fn load(image: &[u8], ram: &mut [u16], flash: &[u16]) -> Loading
+    ensures { λ r. ⌜ (r ≡ loadingOf (now (image .entry)) (lent (now (ram .entry))) (length (now (flash .entry))))
+        × (now (ram .exit) ≡ loadRamOf (now (image .entry)) (now (ram .entry)) (length (now (flash .entry)))) ⌝ }
 {
     let h = header::check(image);
     if h.number != 0 {
@@ -229,6 +229,6 @@ pub fn load(image: &[u8], ram: &mut [u16]) -> Loading
     let v = check_blocks(image, &c324, places::lent_words(ram));
     match v {
         Verdict::Refused(r) => refuse(r),
-        Verdict::Loads(t, blocks, words) => finish(image, t, blocks, words, ram),
+        Verdict::Loads(t, blocks, words) => finish(image, t, blocks, words, ram, flash.len()),
     }
 }

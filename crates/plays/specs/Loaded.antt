@@ -1,4 +1,4 @@
--- A cartridge with a built image loaded: the layout's tables, over a RAM that holds the layout's words.
+-- A cartridge with a built image loaded: the layout's tables, over a RAM that holds the layout's words, and any flash.
 use Prim.Native.Nat.{ℕ, _≤_, _<_, _*_, _+_}
 use mathlib.Core.List.{List}
 use mathlib.Core.Path.{_≡_}
@@ -14,5 +14,5 @@ pub record Loaded (bin : List ℕ) (lines : List Line) (ram : List ℕ) : Type 0
   pub room : needed lines ≤ lent ram
   pub words : (p i : ℕ) → covered lines p ≡ true → i < 256 → getD ram (256 * p + i) 0 ≡ getD (paragraphWords bin lines p) i 0
 
-abbrev pub loaded : List Line → List ℕ → World
-loaded lines ram = record { cartridge = cartridgeOf lines; ram = ram }
+abbrev pub loaded : List Line → List ℕ → List ℕ → World
+loaded lines flash ram = record { cartridge = cartridgeOf lines; flash = flash; ram = ram }

@@ -14,7 +14,7 @@ module _ (s : List ℕ) (m : ℕ) where
   unfolding reportOf
   too-long h = simp (lt-ltb _ _ h)
 
-  pub loaded : length s ≤ cardLimit → (r : Loading) → r ≡ loadingOf s m → printed r ≡ reportOf s m
+  pub loaded : length s ≤ cardLimit → (r : Loading) → r ≡ loadingOf s m 0 → printed r ≡ reportOf s m
   unfolding reportOf
   loaded h r e = simp (le-ltb _ _ h, e)
 
@@ -23,6 +23,6 @@ module _ (s ram : List ℕ) where
   unfolding reportRamOf
   too-long-ram h = simp (lt-ltb _ _ h)
 
-  pub loaded-ram : length s ≤ cardLimit → (next : List ℕ) → next ≡ loadRamOf s ram → next ≡ reportRamOf s ram
+  pub loaded-ram : length s ≤ cardLimit → (next : List ℕ) → next ≡ loadRamOf s ram 0 → next ≡ reportRamOf s ram
   unfolding reportRamOf
   loaded-ram h next e = e ∙ simp (le-ltb _ _ h)

@@ -26,7 +26,8 @@ pub fn answer(image: &[u8], ram: &mut [u16]) -> Report
             words: 0,
         };
     }
-    let r = load::load(image, ram);
+    let none = [0u16; 0];
+    let r = load::load(image, ram, &none);
     let refusal = r.refusal;
     Report {
         refusal,

@@ -24,7 +24,7 @@ use Rattle.places.specs.declared.Locutus.{Locutus}
 use Rattle.places.specs.Limits.{imageLimit, lent, locutusParagraphs, paragraphSize}
 use Rattle.sums.specs.Crc.{crc324Of}
 use Rattle.header.specs.Header.{headerOf}
-use Rattle.tables.specs.Tables.{Tables, tablesPayload, tablesRows, tablesRefusal}
+use Rattle.tables.specs.Tables.{Tables, tablesPayload, flashWords, tablesRows, tablesRefusal}
 use Rattle.tables.specs.Laws.Refusals.{tables-accepted}
 use Rattle.hunk.specs.Hunk.{hunk, hunkPayload, payloadSize}
 use Rattle.hunk.specs.Laws.Sizes.{length-payload}
@@ -99,7 +99,11 @@ module _ (marks : List Bool) (n p : ℕ) where
   past-not e = rw (is-off e)
 
 -- the refusals: what is refused of flags and tables, or a row that holds with none before it
-module _ (room : ℕ) (flags flips : List ℕ) (words : ℕ) (marks : List Bool) (long : ℕ) (t : Refusal) (et : t ≡ tablesRefusal flags flips words) where
+module _ (room : ℕ) (flags flips : List ℕ) (words : ℕ) (marks : List Bool) (long f : ℕ) (size : f ≡ flashWords flags)
+    (t : Refusal) (by : t ≡ tablesRefusal flags flips words f) where
+  et : t ≡ tablesRefusal flags flips words (flashWords flags)
+  et = by ∙ ap (tablesRefusal flags flips words) size
+
   abbrev rest : List (Row Refusal)
   rest =
       (any locutusParagraphs (past marks words), refuse 9 (lowest locutusParagraphs (past marks words)))
@@ -109,12 +113,12 @@ module _ (room : ℕ) (flags flips : List ℕ) (words : ℕ) (marks : List Bool)
 
   pub judge-tables : (t .number ≡ 0 → ⊥) → t ≡ judgedBy room flags flips words marks long
   unfolding judgedBy
-  judge-tables n = et ∙ sym (refused-front (tablesRows flags flips words) rest (rw et at n))
+  judge-tables n = et ∙ sym (refused-front (tablesRows flags flips words (flashWords flags)) rest (rw et at n))
 
   module _ (z : t .number ≡ 0) (r : Refusal) (first : ℕ) (ef : first ≡ lowest locutusParagraphs (past marks words)) where
     judged-rest : judgedBy room flags flips words marks long ≡ firstRefusal rest
     unfolding judgedBy
-    judged-rest = silent-behind (tablesRows flags flips words) rest (tables-accepted flags flips words .0 (rw et at z))
+    judged-rest = silent-behind (tablesRows flags flips words (flashWords flags)) rest (tables-accepted flags flips words (flashWords flags) .0 (rw et at z))
 
     pub judge-9 : first < locutusParagraphs → r ≡ refuse 9 first → r ≡ judgedBy room flags flips words marks long
     judge-9 l e = rw (judged-rest, any-low locutusParagraphs (past marks words) first ef l, ← ef) e

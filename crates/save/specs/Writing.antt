@@ -11,7 +11,7 @@ use Rattle.basics.specs.Counts.{any, lowest}
 use Rattle.basics.specs.Rows.{Row}
 use Rattle.basics.specs.Refusals.{refuse, firstRefusal, passes}
 use Rattle.places.specs.Limits.{imageLimit, lent, locutusParagraphs, paragraphSize}
-use Rattle.tables.specs.Tables.{Tables, tablesRows}
+use Rattle.tables.specs.Tables.{Tables, flashWords, tablesRows}
 use Rattle.hunk.specs.Hunk.{Hunk}
 use Rattle.save.specs.declared.Writing.{Writing}
 use Rattle.save.specs.Chosen.{chosen, imageFor}
@@ -47,10 +47,11 @@ past marks n p = isMarked marks p && ltb n (paragraphSize * p + paragraphSize)
 abbrev pub pastLent : Content → ℕ → Bool
 pastLent c p = past (c .marks) (lent (c .ram)) p
 
--- the refusals in their order: 10 and 11 where loading would; 9 for the lowest such paragraph; 1; 29
+-- the refusals in their order: 10, 11 and 13 where loading would, with a flash of just the size that the flags ask (02, W-209: the writer asks
+-- only the size); 9 for the lowest such paragraph; 1; 29
 abbrev pub refusalRows : List ℕ → Content → List (Row Refusal)
 refusalRows out c =
-    tablesRows (c .flags) (c .tables .flips) (lent (c .ram))
+    tablesRows (c .flags) (c .tables .flips) (lent (c .ram)) (flashWords (c .flags))
     ++ ((any locutusParagraphs (pastLent c), refuse 9 (lowest locutusParagraphs (pastLent c)))
     ∷ (ltb imageLimit (length (imageBy c)), refuse 1 0)
     ∷ (ltb (length out) (length (imageBy c)), refuse 29 0)

@@ -229,7 +229,7 @@ fn lowest_past(marks: &[bool; LOCUTUS_PARAGRAPHS], n: usize) -> usize
     p
 }
 
-// The refusals of a writing whose image has so many bytes, in their order: 10, 11, 9, 1, 29.
+// The refusals of a writing whose image has so many bytes, in their order: 10, 11, 13, 9, 1, 29.
 fn judge(
     room: usize,
     flags: &[u8; FLAGS_SIZE],
@@ -240,7 +240,7 @@ fn judge(
 ) -> Refusal
     ensures { λ r. ⌜ r ≡ judgedBy room (now (flags .entry)) (now (flips .entry)) words (now (marks .entry)) long ⌝ }
 {
-    let of_tables = tables::refused(flags, flips, words);
+    let of_tables = tables::refused(flags, flips, words, tables::flash_words(flags));
     if of_tables.number != 0 {
         return of_tables;
     }

@@ -1,17 +1,19 @@
-// The payload of a tables block, both ways: the cartridge of its tables, and tables written; and refusals 10 and 11.
+// The payload of a tables block, both ways: the cartridge of its tables, and tables written; and refusals 10, 11 and 13.
 ghost use Prim.Native.Nat.{_≤_};
 ghost use mathlib.Core.Path.{_≡_};
+ghost use mathlib.Core.Bool.{_||_};
 ghost use lib.ListN.{length};
 ghost use Rattle.basics.specs.Lists.{putFront};
 ghost use Rattle.places.specs.Limits.{paragraphs};
 ghost use Rattle.cart.specs.Cartridges.{noCartridge};
-ghost use Rattle.tables.specs.Tables.{tables, tablesPayload, tablesSize, wordsAt, bytesAt, cartridgeOf, flipsOne, asksFlash, unsupported, lacksRam, tablesRefusal};
+ghost use Rattle.tables.specs.Tables.{tables, tablesPayload, tablesSize, wordsAt, bytesAt, sectorsOf, jlpOf, cartridgeOf, flipsOne, unsupported, lacksRam, flashWords, oversized, mislent, tablesRefusal};
 use basics::Refusal;
 use basics::byte_at;
 use basics::put_bytes;
 use basics::put_words;
 use basics::word_at;
 use cart::Cartridge;
+use jlp::Jlp;
 use places::CHAPTER_PAGES;
 use places::PARAGRAPHS;
 
@@ -45,14 +47,31 @@ fn bytes_at(t: &[u8], at: usize) -> [u8; PARAGRAPHS]
     w
 }
 
-// The cartridge of a JLP field and a tables block's payload.
-pub fn cartridge_of(field: u8, t: &[u8]) -> Cartridge
-    ensures { λ r. ⌜ r ≡ cartridgeOf field (now (t .entry)) ⌝ }
+// The sectors of flash that flags give: field 2 or 3 has some.
+fn sectors_of(flags: &[u8]) -> u16
+    ensures { λ r. ⌜ r ≡ sectorsOf (now (flags .entry)) ⌝ }
+{
+    if header::jlp_field(flags) < 2 {
+        return 0;
+    }
+    header::flash_size(flags)
+}
+
+// The accelerators that are loaded with these flags.
+pub fn jlp_of(flags: &[u8]) -> Jlp
+    ensures { λ r. ⌜ r ≡ jlpOf (now (flags .entry)) ⌝ }
+{
+    jlp::fresh(header::jlp_field(flags), sectors_of(flags))
+}
+
+// The cartridge of these accelerators and a tables block's payload.
+pub fn cartridge_of(j: Jlp, t: &[u8]) -> Cartridge
+    ensures { λ r. ⌜ r ≡ cartridgeOf j (now (t .entry)) ⌝ }
 {
     let mapping = words_at(t, 0);
     let permissions = bytes_at(t, PERMISSIONS_AT);
     let flips = words_at(t, FLIPS_AT);
-    cart::fresh(field, mapping, permissions, flips)
+    cart::fresh(j, mapping, permissions, flips)
 }
 
 // The cartridge of a refused load.
@@ -61,7 +80,7 @@ pub fn no_cartridge() -> Cartridge
 {
     let words = [0u16; PARAGRAPHS];
     let bytes = [0u8; PARAGRAPHS];
-    cart::fresh(0, words, bytes, words)
+    cart::fresh(jlp::fresh(0, 0), words, bytes, words)
 }
 
 // The tables, at the front of a buffer that has room for them: each into its own part.
@@ -118,23 +137,10 @@ fn has_flip(flips: &[u16; PARAGRAPHS]) -> bool
     false
 }
 
-// A JLP flash that is asked for.
-fn asks_flash(flags: &[u8]) -> bool
-    ensures { λ r. ⌜ r ≡ asksFlash (now (flags .entry)) ⌝ }
-{
-    if header::jlp_field(flags) < 2 {
-        return false;
-    }
-    header::flash_size(flags) != 0
-}
-
 // Refusal 10.
 fn is_unsupported(flags: &[u8], flips: &[u16; PARAGRAPHS]) -> bool
     ensures { λ r. ⌜ r ≡ unsupported (now (flags .entry)) (now (flips .entry)) ⌝ }
 {
-    if asks_flash(flags) {
-        return true;
-    }
     if byte_at(flags, 4) % 2 == 1 {
         return true;
     }
@@ -151,15 +157,38 @@ fn lacks_ram(flags: &[u8], m: usize) -> bool
     m < jlp::RAM_WORDS
 }
 
-// What is refused of flags and flip table, with m words lent.
-pub fn refused(flags: &[u8], flips: &[u16; PARAGRAPHS], m: usize) -> Refusal
-    ensures { λ r. ⌜ r ≡ tablesRefusal (now (flags .entry)) (now (flips .entry)) m ⌝ }
+// The words of the flash that the size asks.
+pub fn flash_words(flags: &[u8]) -> usize
+    ensures { λ r. ⌜ r ≡ flashWords (now (flags .entry)) ⌝ }
+{
+    flash::SECTOR_WORDS * header::flash_size(flags) as usize
+}
+
+// Refusal 13.
+fn misfits(flags: &[u8], f: usize) -> bool
+    ensures { λ r. ⌜ r ≡ (oversized (now (flags .entry)) || mislent (now (flags .entry)) f) ⌝ }
+{
+    if header::jlp_field(flags) < 2 {
+        return false;
+    }
+    if flash::SECTOR_LIMIT < header::flash_size(flags) as usize {
+        return true;
+    }
+    f != flash_words(flags)
+}
+
+// What is refused of flags and flip table, with m words of RAM and f of flash lent.
+pub fn refused(flags: &[u8], flips: &[u16; PARAGRAPHS], m: usize, f: usize) -> Refusal
+    ensures { λ r. ⌜ r ≡ tablesRefusal (now (flags .entry)) (now (flips .entry)) m f ⌝ }
 {
     if is_unsupported(flags, flips) {
         return basics::refuse(10, 0);
     }
     if lacks_ram(flags, m) {
         return basics::refuse(11, 0);
+    }
+    if misfits(flags, f) {
+        return basics::refuse(13, 0);
     }
     basics::no_refusal()
 }

@@ -25,10 +25,11 @@ pub data SameBlocks : List (List ℕ) → List (List ℕ) → Type 0 where
   same : {x : List ℕ} {xs ys : List (List ℕ)} → SameBlocks xs ys → SameBlocks (x ∷ xs) (x ∷ ys)
   coded : {x y : List ℕ} {xs ys : List (List ℕ)} → Recoded x y → SameBlocks xs ys → SameBlocks (x ∷ xs) (y ∷ ys)
 
--- bytes that load into a RAM, have 0xFF where their blocks stop, and leave the same words there (what they have for a header is not asked)
-pub record Alike (image other ram : List ℕ) : Type 0 where
+-- bytes that load into a RAM with f words of flash, have 0xFF where their blocks stop, and leave the same words there (what they have for a
+-- header is not asked)
+pub record Alike (image other ram : List ℕ) (f : ℕ) : Type 0 where
   pub bytes : Bytes other
-  pub loads : loadingOf other (lent ram) .refusal .number ≡ 0
+  pub loads : loadingOf other (lent ram) f .refusal .number ≡ 0
   pub ended : getD other (stopOf other) 0 ≡ endMark
   pub blocks : SameBlocks (blocksIn image) (blocksIn other)
-  pub words : loadRamOf other ram ≡ loadRamOf image ram
+  pub words : loadRamOf other ram f ≡ loadRamOf image ram f

@@ -8,15 +8,15 @@ use lib.ListN.{length, getD}
 use Rattle.basics.specs.Counts.{count}
 use Rattle.basics.specs.Refusals.{noRefusal}
 use Rattle.places.specs.Limits.{locutusParagraphs, paragraphSize}
-use Rattle.header.specs.Flags.{jlpField, compatOf}
-use Rattle.tables.specs.Tables.{Tables, cartridgeWith}
+use Rattle.header.specs.Flags.{compatOf}
+use Rattle.tables.specs.Tables.{Tables, jlpOf, cartridgeWith}
 use Rattle.load.specs.declared.Loading.{Loading}
 use Rattle.save.specs.Writing.{Content, isMarked}
 
 -- the answer of a load: these tables, what the flags say of each device and, of the TutorVision, may leave unsaid, so many blocks and words
 abbrev pub answerOf : List ℕ → Tables → ℕ → ℕ → Loading
 answerOf flags t blocks words =
-    record { refusal = noRefusal; cartridge = cartridgeWith (jlpField flags) t; compat = compatOf flags; blocks = blocks; words = words }
+    record { refusal = noRefusal; cartridge = cartridgeWith (jlpOf flags) t; compat = compatOf flags; blocks = blocks; words = words }
 
 -- a RAM after a load: each word of a chosen paragraph is as given, and every other word is kept
 pub record Overlaid (on : ℕ → Bool) (words : ℕ → List ℕ) (ram after : List ℕ) : Type 0 where

@@ -55,6 +55,6 @@ module _ (bin cfg : List ℕ) (lines : List Line) where
         let f : flipsOne (flipTable lines) ≡ false = any-nothing 16 _ unset in
         rw f
 
-    -- and no JLP field, so that any number of words may be lent
-    pub supported : (m : ℕ) → Silent (tablesRows flagBytes (flipTable lines) m)
-    supported m = field-none flagBytes (flipTable lines) m refl fine
+    -- and no JLP field, so that any number of words may be lent, of RAM and of flash
+    pub supported : (m f : ℕ) → Silent (tablesRows flagBytes (flipTable lines) m f)
+    supported m f = field-none flagBytes (flipTable lines) m f refl fine

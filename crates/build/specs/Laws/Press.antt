@@ -20,7 +20,7 @@ use Rattle.basics.specs.Laws.Refusals.{silent-behind}
 use Rattle.basics.specs.Laws.Puts.{put-room}
 use Rattle.places.specs.Places.{console}
 use Rattle.places.specs.Limits.{locutusParagraphs, lent, lentLimit, imageLimit, pageSize, pageParagraphs, paragraphSize}
-use Rattle.tables.specs.Tables.{tables, tablesRows}
+use Rattle.tables.specs.Tables.{tables, flashWords, tablesRows}
 use Rattle.save.specs.declared.Writing.{Writing}
 use Rattle.save.specs.Chosen.{imageFor}
 use Rattle.save.specs.Writing.{Content, content, paragraphOf, isMarked, marked, pastLent, imageBy, refusalOf, answerFor, writingOf, writtenOf}
@@ -95,7 +95,7 @@ module _ (bin : List ℕ) (lines : List Line) (accepted : Accepted bin lines) (f
     refusal : refusalOf out given ≡ cond (ltb (length out) (length image)) (refuse 29 0) noRefusal
     unfolding refusalOf
     refusal =
-        silent-behind (tablesRows flagBytes (flipTable lines) (lent ram)) _ (supported bin cfg lines accepted (lent ram))
+        silent-behind (tablesRows flagBytes (flipTable lines) (lent ram) (flashWords flagBytes)) _ (supported bin cfg lines accepted (lent ram) (flashWords flagBytes))
         ∙ rw (inside, image-is, le-ltb imageLimit (length image) (within-limit bin cfg lines))
 
     writing : writingOf out given ≡ answerFor (cond (ltb (length out) (length image)) (refuse 29 0) noRefusal) (length image)

@@ -1,7 +1,7 @@
 -- Bankswitches over writes and runs: a switch leaves the next one possible, a flip ends them, and only a reset brings them back.
 use Prim.Native.Nat.{ℕ, _%_}
 use mathlib.Core.List.{List, [], _∷_}
-use mathlib.Core.Path.{_≡_, refl}
+use mathlib.Core.Path.{_≡_, refl, ap}
 use mathlib.Core.Bool.{Bool, true, false}
 use native.Mathlib.Omega.{arith}
 use lib.ListN.{getD}
@@ -12,6 +12,7 @@ use Rattle.switches.specs.declared.Register.the-variants.{HalfPage, Elsewhere}
 use Rattle.switches.specs.Flips.{Active, asks}
 use Rattle.switches.specs.Banks.{registerAt, BANKSW, banked, bankswitched}
 use Rattle.switches.specs.Laws.Banks.{flip-leaves-clear, register-low}
+use Rattle.flash.specs.Flash.{memories}
 use Rattle.jlp.specs.declared.Jlp.{Jlp}
 use Rattle.jlp.specs.Window.{windowStart, windowEnd}
 use Rattle.jlp.specs.Accelerators.{takes}
@@ -21,7 +22,7 @@ use Rattle.cart.specs.declared.Cartridge.{Cartridge}
 use Rattle.cart.specs.declared.Taker.{Taker}
 use Rattle.cart.specs.declared.Taker.the-variants.{Accelerators, Bank, Flip, Ram}
 use Rattle.cart.specs.Cells.{cellAt}
-use Rattle.cart.specs.Writes.{bankTaker, flipTaker, mappedTaker, takerOf, leftBy, leaves, leavesRam}
+use Rattle.cart.specs.Writes.{bankTaker, flipTaker, mappedTaker, takerOf, leftBy, memoriesBy, leaves, leavesRam}
 use Rattle.cart.specs.Cartridges.{activeOf, resetOf}
 use Rattle.cart.specs.Run.{Access, Read, Write, Reset, World, step, after}
 
@@ -38,9 +39,9 @@ module _ (j : Jlp) (a : Active) (flips : List ℕ) (at : Console) (h : ℕ) (r :
   unfolding leaves
   switch-leaves v = rw (switch-takes v)
 
-  pub switch-stores-nothing : (ram : List ℕ) (v : ℕ) → leavesRam j a flips ram at v ≡ ram
+  pub switch-stores-nothing : (flash ram : List ℕ) (v : ℕ) → leavesRam j a flips flash ram at v ≡ ram
   unfolding leavesRam
-  switch-stores-nothing ram v = rw (switch-takes v)
+  switch-stores-nothing flash ram v = ap (λ (t : Taker). memoriesBy t (j .saves) (memories flash ram) at v .ram) (switch-takes v)
 
   pub switch-again : (v w : ℕ) → takerOf j (leaves j a flips at v) flips at w ≡ Bank h (w % 256)
   switch-again v w = rw (not-theirs w, switch-leaves v, r, b)

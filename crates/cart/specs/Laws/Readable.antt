@@ -18,6 +18,7 @@ use Rattle.basics.specs.Laws.Counts.{count-most}
 use Rattle.places.specs.Limits.{paragraphs, chapterPages, flipEntries}
 use Rattle.switches.specs.Flips.{Active, flipFrom, flipSize, flipPermissions, turned, flipped}
 use Rattle.switches.specs.Laws.Flips.{first-small, turned-in}
+use Rattle.jlp.specs.declared.Jlp.{Jlp}
 use Rattle.cart.specs.declared.Cartridge.{Cartridge}
 use Rattle.cart.specs.declared.Taker.{Taker}
 use Rattle.cart.specs.declared.Taker.the-variants.{Accelerators, Bank, Flip, Ram}
@@ -128,8 +129,8 @@ pub record Counted (c : Cartridge) : Type 0 where
   pub readable : c .readable ≡ readableOf (c .permissions)
   pub flips-long : length (c .flips) ≡ flipEntries
 
-pub fresh-counted : (field : ℕ) (mapping permissions flips : List ℕ) → length flips ≡ flipEntries → Counted (fresh field mapping permissions flips)
-fresh-counted field mapping permissions flips l = record { readable = refl; flips-long = l }
+pub fresh-counted : (j : Jlp) (mapping permissions flips : List ℕ) → length flips ≡ flipEntries → Counted (fresh j mapping permissions flips)
+fresh-counted j mapping permissions flips l = record { readable = refl; flips-long = l }
 
 step-counted : (w : World) (x : Access) → Counted (w .cartridge) → Counted (step w x .cartridge)
 unfolding leaves leavesReadable

@@ -15,6 +15,7 @@ use Rattle.switches.specs.declared.Request.{Request}
 use Rattle.switches.specs.declared.Request.the-variants.{Entry, Nothing}
 use Rattle.switches.specs.Flips.{Active, asks, acts}
 use Rattle.switches.specs.Banks.{registerAt, banked}
+use Rattle.flash.specs.Flash.{memories}
 use Rattle.jlp.specs.declared.Jlp.{Jlp}
 use Rattle.jlp.specs.Window.{inRam}
 use Rattle.jlp.specs.Accelerators.{takes}
@@ -23,7 +24,7 @@ use Rattle.cart.specs.declared.Taker.{Taker}
 use Rattle.cart.specs.declared.Taker.the-variants.{Accelerators, Bank, Flip, Ram}
 use Rattle.cart.specs.Cells.{cellAt, windowCell}
 use Rattle.cart.specs.Code.Takers.{bankedOnly, actingOnly}
-use Rattle.cart.specs.Writes.{storedWord, stored, windowTaker, bankTaker, flipTaker, mappedTaker, takerOf, leftBy, ramBy, assignedBy, readableBy, leaves, leavesRam, assigned, leavesReadable}
+use Rattle.cart.specs.Writes.{storedWord, stored, windowTaker, bankTaker, flipTaker, mappedTaker, takerOf, leftBy, memoriesBy, assignedBy, readableBy, leaves, leavesRam, leavesFlash, assigned, leavesReadable}
 
 -- shut by its rights; past the n words that are lent; open, to the word w
 module _ (c : Cell) (ram : List ℕ) (v : ℕ) where
@@ -150,9 +151,13 @@ module _ (j : Jlp) (a : Active) (flips : List ℕ) (at : Console) (v : ℕ) (t w
   unfolding leaves
   by-permissions x g = rw (← h, e, g)
 
-  pub by-ram : (ram x : List ℕ) → x ≡ ramBy w ram v → x ≡ leavesRam j a flips ram at v
+  pub by-ram : (flash ram x : List ℕ) → x ≡ memoriesBy w (j .saves) (memories flash ram) at v .ram → x ≡ leavesRam j a flips flash ram at v
   unfolding leavesRam
-  by-ram ram x g = rw (← h, e, g)
+  by-ram flash ram x g = g ∙ ap (λ (u : Taker). memoriesBy u (j .saves) (memories flash ram) at v .ram) (sym e ∙ h)
+
+  pub by-flash : (flash ram x : List ℕ) → x ≡ memoriesBy w (j .saves) (memories flash ram) at v .flash → x ≡ leavesFlash j a flips flash ram at v
+  unfolding leavesFlash
+  by-flash flash ram x g = g ∙ ap (λ (u : Taker). memoriesBy u (j .saves) (memories flash ram) at v .flash) (sym e ∙ h)
 
   pub by-readable : (kept x : ℕ) → x ≡ readableBy w a flips kept → x ≡ leavesReadable j a flips kept at v
   unfolding leavesReadable
@@ -162,4 +167,4 @@ module _ (j : Jlp) (a : Active) (flips : List ℕ) (at : Console) (v : ℕ) (t w
   unfolding assigned
   by-assigned x g = rw (← h, e, g)
 
-pub ruleset writes = (by-mapping, by-permissions, by-ram, by-readable, by-assigned)
+pub ruleset writes = (by-mapping, by-permissions, by-ram, by-flash, by-readable, by-assigned)

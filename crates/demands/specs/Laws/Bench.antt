@@ -14,6 +14,7 @@ use Rattle.basics.specs.Laws.Refusals.{silent-behind}
 use Rattle.places.specs.Limits.{imageLimit, lentLimit}
 use Rattle.sums.specs.Crc.{crcFrom, crcByte, crcBits, crcBit}
 use Rattle.switches.specs.Flips.{asks}
+use Rattle.jlp.specs.Accelerators.{freshJlp}
 use Rattle.cart.specs.declared.Cartridge.{Cartridge}
 use Rattle.tables.specs.Tables.{cartridgeWith}
 use Rattle.cfg.specs.File.{entriesOf, readingOf, refusalRows as cfgRows}
@@ -75,8 +76,8 @@ case-6 p c =
     built-so p (c .pressed) (fine-512 (p .bin) (c .long)) (rw (c .file) six-read) (rw says (six-accepted (p .bin) (c .long))) (rw (says, six-words) (omega arith)) (c .room) in
     let n : p .building .refusal ≡ noRefusal = ap (λ (x : Building). x .refusal) b in
     let w : p .building .needed ≡ 4096 = ap (λ (x : Building). x .needed) b ∙ ap needed says ∙ six-words in
-    let t : p .loading .cartridge ≡ cartridgeWith 0 (tablesFor sixLines) =
-    pressed-tables p (c .pressed) (ap (λ (r : Refusal). r .number) n) (rw w (c .lent)) ∙ ap (λ (ls : List Line). cartridgeWith 0 (tablesFor ls)) says in
+    let t : p .loading .cartridge ≡ cartridgeWith (freshJlp 0 0) (tablesFor sixLines) =
+    pressed-tables p (c .pressed) (ap (λ (r : Refusal). r .number) n) (rw w (c .lent)) ∙ ap (λ (ls : List Line). cartridgeWith (freshJlp 0 0) (tablesFor ls)) says in
     record {
       accepted = n;
       needed = w;
@@ -92,8 +93,8 @@ case-7 p c =
     let n : p .building .refusal ≡ noRefusal = ap (λ (x : Building). x .refusal) b in
     let z : p .building .refusal .number ≡ 0 = ap (λ (r : Refusal). r .number) n in
     let w : p .building .needed ≡ 4096 = ap (λ (x : Building). x .needed) b ∙ ap needed says ∙ seven-words in
-    let t : p .loading .cartridge ≡ cartridgeWith 0 (tablesFor sevenLines) =
-    pressed-tables p (c .pressed) z (rw w (c .lent)) ∙ ap (λ (ls : List Line). cartridgeWith 0 (tablesFor ls)) says in
+    let t : p .loading .cartridge ≡ cartridgeWith (freshJlp 0 0) (tablesFor sevenLines) =
+    pressed-tables p (c .pressed) z (rw w (c .lent)) ∙ ap (λ (ls : List Line). cartridgeWith (freshJlp 0 0) (tablesFor ls)) says in
     record {
       accepted = n;
       entry = ap (λ (x : Cartridge). getD (x .flips) 194 0) t ∙ seven-entry;

@@ -22,9 +22,10 @@ use Rattle.build.specs.Laws.Refusals as Build
 use Rattle.demands.specs.Demand1.{Refused, Demand1}
 
 -- all else is zero
-load-zero : (image ram : List ℕ) → Refused (loadingOf image (lent ram) .refusal) → loadingOf image (lent ram) ≡ loadRefused (loadingOf image (lent ram) .refusal)
+load-zero : (image ram : List ℕ) (f : ℕ) → Refused (loadingOf image (lent ram) f .refusal)
+    → loadingOf image (lent ram) f ≡ loadRefused (loadingOf image (lent ram) f .refusal)
 unfolding loadingOf
-load-zero image ram n = cases (loads image (lent ram)) (λ e. absurd (n (rw e))) (λ e. rw e)
+load-zero image ram f n = cases (loads image (lent ram) f) (λ e. absurd (n (rw e))) (λ e. rw e)
 
 cfg-zero : (cfg : List ℕ) → Refused (readingOf cfg .refusal) → readingOf cfg ≡ cfgRefused (readingOf cfg .refusal)
 unfolding readingOf
@@ -46,7 +47,7 @@ build-zero bin cfg out n = cases (builds bin cfg out) (λ e. absurd (n (rw e))) 
 pub demand-1 : Demand1
 demand-1 =
     record {
-      load = λ image ram. record { refused = Load.refused-exactly image (lent ram); accepted = Load.loads-exactly image (lent ram) };
+      load = λ image ram f. record { refused = Load.refused-exactly image (lent ram) f; accepted = Load.loads-exactly image (lent ram) f };
       load-zero = load-zero;
       load-keeps = Load.refused-keeps;
       cfg = λ cfg. record { refused = cfg-refused cfg; accepted = Cfg.exactly cfg .accepts };

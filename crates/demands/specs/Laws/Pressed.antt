@@ -10,6 +10,7 @@ use borrow.Author.Tests.{eq-eqb}
 use Rattle.basics.specs.Refusals.{noRefusal}
 use Rattle.basics.specs.Laws.Tests.{cases, true-is-not-false}
 use Rattle.places.specs.Limits.{lent, locutusParagraphs}
+use Rattle.jlp.specs.Accelerators.{freshJlp}
 use Rattle.cart.specs.declared.Cartridge.{Cartridge}
 use Rattle.cart.specs.Run.{Access, answers}
 use Rattle.tables.specs.Tables.{cartridgeWith}
@@ -33,7 +34,7 @@ use Rattle.plays.specs.Laws.Plays.{plays}
 use Rattle.demands.specs.Pressing.{Pressing, Pressed, worldOf}
 
 -- the image of a BIN and a CFG that are accepted, over a RAM of the words needed
-module _ (bin cfg out : List ℕ) (accepts : builds bin cfg out ≡ true) (ram : List ℕ) (room : needed (entriesOf cfg) ≤ length ram) where
+module _ (bin cfg out : List ℕ) (accepts : builds bin cfg out ≡ true) (ram flash : List ℕ) (room : needed (entriesOf cfg) ≤ length ram) where
   abbrev lines : List Line
   lines = entriesOf cfg
 
@@ -44,20 +45,20 @@ module _ (bin cfg out : List ℕ) (accepts : builds bin cfg out ≡ true) (ram :
   inside = omega (arith, room, words-fit bin cfg out accepts)
 
   -- the image loads: the layout's tables, and the covered paragraphs laid over the RAM
-  pub loads-as : LoadsChosen flagBytes (tablesFor lines) (covered lines) (paragraphWords bin lines) (pressedImage bin cfg) ram
+  pub loads-as : LoadsChosen flagBytes (tablesFor lines) (covered lines) (paragraphWords bin lines) (pressedImage bin cfg) ram (length flash)
   unfolding pressedImage
   loads-as =
-      load-chosen flagBytes (uidOf bin cfg) (tablesFor lines) (covered lines) (paragraphWords bin lines) ram (sized bin cfg lines)
-      (within-limit bin cfg lines) (supported bin cfg lines accepted (lent ram)) (lie bin cfg lines (lent ram) inside)
+      load-chosen flagBytes (uidOf bin cfg) (tablesFor lines) (covered lines) (paragraphWords bin lines) ram (length flash) (sized bin cfg lines)
+      (within-limit bin cfg lines) (supported bin cfg lines accepted (lent ram) (length flash)) (lie bin cfg lines (lent ram) inside)
 
   -- and none like it is shorter
-  smallest-as : (other : List ℕ) → Alike (pressedImage bin cfg) other ram → length (pressedImage bin cfg) ≤ length other
+  smallest-as : (other : List ℕ) → Alike (pressedImage bin cfg) other ram (length flash) → length (pressedImage bin cfg) ≤ length other
   unfolding pressedImage
   smallest-as =
-      chosen-smallest flagBytes (uidOf bin cfg) (tablesFor lines) (covered lines) (paragraphWords bin lines) ram (sized bin cfg lines)
-      (within-limit bin cfg lines) (supported bin cfg lines accepted (lent ram)) (lie bin cfg lines (lent ram) inside)
+      chosen-smallest flagBytes (uidOf bin cfg) (tablesFor lines) (covered lines) (paragraphWords bin lines) ram (length flash) (sized bin cfg lines)
+      (within-limit bin cfg lines) (supported bin cfg lines accepted (lent ram) (length flash)) (lie bin cfg lines (lent ram) inside)
 
-  words-there : Loaded bin lines (loadRamOf (pressedImage bin cfg) ram)
+  words-there : Loaded bin lines (loadRamOf (pressedImage bin cfg) ram (length flash))
   words-there =
       record {
         room = rw (loads-as .back .same) inside;
@@ -70,10 +71,11 @@ module _ (bin cfg out : List ℕ) (accepts : builds bin cfg out ≡ true) (ram :
       }
 
   pub plays-as-it-reads : (xs : List Access) →
-      answers (worldOf (loadingOf (pressedImage bin cfg) (lent ram)) (loadRamOf (pressedImage bin cfg) ram)) xs ≡ plainAnswers bin lines fresh xs
+      answers (worldOf (loadingOf (pressedImage bin cfg) (lent ram) (length flash)) flash (loadRamOf (pressedImage bin cfg) ram (length flash))) xs
+      ≡ plainAnswers bin lines fresh xs
   plays-as-it-reads xs =
-      ap (λ (l : Loading). answers (worldOf l (loadRamOf (pressedImage bin cfg) ram)) xs) (loads-as .answer)
-      ∙ plays accepted (loadRamOf (pressedImage bin cfg) ram) words-there xs
+      ap (λ (l : Loading). answers (worldOf l flash (loadRamOf (pressedImage bin cfg) ram (length flash))) xs) (loads-as .answer)
+      ∙ plays accepted flash (loadRamOf (pressedImage bin cfg) ram (length flash)) words-there xs
 
 -- the same of what the functions answered and left
 module _ (p : Pressing) (q : Pressed p) (accepts : p .building .refusal .number ≡ 0) where
@@ -102,11 +104,11 @@ module _ (p : Pressing) (q : Pressed p) (accepts : p .building .refusal .number 
       ap (λ (x : Building). take (x .length) (p .left)) is-built ∙ ap (take (length image)) image-there
       ∙ take-append-seam image (drop (length image) (p .out))
 
-  loading-is : p .loading ≡ loadingOf image (lent (p .ram))
-  loading-is = q .loads .answer ∙ ap (λ (s : List ℕ). loadingOf s (lent (p .ram))) image-front
+  loading-is : p .loading ≡ loadingOf image (lent (p .ram)) (length (p .flash))
+  loading-is = q .loads .answer ∙ ap (λ (s : List ℕ). loadingOf s (lent (p .ram)) (length (p .flash))) image-front
 
-  stored-is : p .stored ≡ loadRamOf image (p .ram)
-  stored-is = q .loads .leaves ∙ ap (λ (s : List ℕ). loadRamOf s (p .ram)) image-front
+  stored-is : p .stored ≡ loadRamOf image (p .ram) (length (p .flash))
+  stored-is = q .loads .leaves ∙ ap (λ (s : List ℕ). loadRamOf s (p .ram) (length (p .flash))) image-front
 
   module _ (enough : p .building .needed ≤ length (p .ram)) where
     room-there : needed (entriesOf (p .cfg)) ≤ length (p .ram)
@@ -114,20 +116,20 @@ module _ (p : Pressing) (q : Pressed p) (accepts : p .building .refusal .number 
 
     pub pressed-loads : p .loading .refusal ≡ noRefusal
     pressed-loads =
-        ap (λ (x : Loading). x .refusal) (loading-is ∙ loads-as (p .bin) (p .cfg) (p .out) it-builds (p .ram) room-there .answer)
+        ap (λ (x : Loading). x .refusal) (loading-is ∙ loads-as (p .bin) (p .cfg) (p .out) it-builds (p .ram) (p .flash) room-there .answer)
 
-    pub pressed-tables : p .loading .cartridge ≡ cartridgeWith 0 (tablesFor (entriesOf (p .cfg)))
+    pub pressed-tables : p .loading .cartridge ≡ cartridgeWith (freshJlp 0 0) (tablesFor (entriesOf (p .cfg)))
     pressed-tables =
-        ap (λ (x : Loading). x .cartridge) (loading-is ∙ loads-as (p .bin) (p .cfg) (p .out) it-builds (p .ram) room-there .answer)
+        ap (λ (x : Loading). x .cartridge) (loading-is ∙ loads-as (p .bin) (p .cfg) (p .out) it-builds (p .ram) (p .flash) room-there .answer)
 
-    pub pressed-plays : (xs : List Access) → answers (worldOf (p .loading) (p .stored)) xs ≡ plainAnswers (p .bin) (entriesOf (p .cfg)) fresh xs
-    pressed-plays xs = rw (loading-is, stored-is) (plays-as-it-reads (p .bin) (p .cfg) (p .out) it-builds (p .ram) room-there xs)
+    pub pressed-plays : (xs : List Access) → answers (worldOf (p .loading) (p .flash) (p .stored)) xs ≡ plainAnswers (p .bin) (entriesOf (p .cfg)) fresh xs
+    pressed-plays xs = rw (loading-is, stored-is) (plays-as-it-reads (p .bin) (p .cfg) (p .out) it-builds (p .ram) (p .flash) room-there xs)
 
-    pub pressed-smallest : (other : List ℕ) → Alike (take (p .building .length) (p .left)) other (p .ram) → p .building .length ≤ length other
+    pub pressed-smallest : (other : List ℕ) → Alike (take (p .building .length) (p .left)) other (p .ram) (length (p .flash)) → p .building .length ≤ length other
     pressed-smallest other r =
-        let s : Alike image other (p .ram) = rw image-front at r in
+        let s : Alike image other (p .ram) (length (p .flash)) = rw image-front at r in
         omega (
           arith,
           ap (λ (x : Building). x .length) is-built,
-          smallest-as (p .bin) (p .cfg) (p .out) it-builds (p .ram) room-there other s,
+          smallest-as (p .bin) (p .cfg) (p .out) it-builds (p .ram) (p .flash) room-there other s,
         )

@@ -11,14 +11,14 @@ use Rattle.build.specs.declared.Building.{Building}
 use Rattle.demands.specs.Pressing.{Loads, Pressed}
 
 pub loads-whole :
-    (left ram stored : List ℕ) (l : Loading) (long : ℕ) → length left ≤ long → (l ≡ loadingOf left (lent ram)) × (stored ≡ loadRamOf left ram)
-    → Loads (take long left) ram l stored
-loads-whole left ram stored l long h q = rw (take-all long left h) (record { answer = q .0; leaves = q .1 })
+    (left ram stored : List ℕ) (f : ℕ) (l : Loading) (long : ℕ) → length left ≤ long → (l ≡ loadingOf left (lent ram) f) × (stored ≡ loadRamOf left ram f)
+    → Loads (take long left) ram f l stored
+loads-whole left ram stored f l long h q = rw (take-all long left h) (record { answer = q .0; leaves = q .1 })
 
 -- what the records promise determines each answer and each buffer
-module _ (bin cfg out ram : List ℕ) (b c : Building) (left after : List ℕ) (l m : Loading) (stored kept : List ℕ)
-    (p : Pressed (record { bin = bin; cfg = cfg; out = out; ram = ram; building = b; left = left; loading = l; stored = stored }))
-    (q : Pressed (record { bin = bin; cfg = cfg; out = out; ram = ram; building = c; left = after; loading = m; stored = kept })) where
+module _ (bin cfg out ram flash : List ℕ) (b c : Building) (left after : List ℕ) (l m : Loading) (stored kept : List ℕ)
+    (p : Pressed (record { bin = bin; cfg = cfg; out = out; ram = ram; flash = flash; building = b; left = left; loading = l; stored = stored }))
+    (q : Pressed (record { bin = bin; cfg = cfg; out = out; ram = ram; flash = flash; building = c; left = after; loading = m; stored = kept })) where
   pub one-building : b ≡ c
   one-building = p .answer ∙ sym (q .answer)
 
@@ -29,7 +29,7 @@ module _ (bin cfg out ram : List ℕ) (b c : Building) (left after : List ℕ) (
   front = ap (λ (x : Building). take (x .length) left) one-building ∙ ap (take (c .length)) one-left
 
   pub one-loading : l ≡ m
-  one-loading = p .loads .answer ∙ ap (λ (s : List ℕ). loadingOf s (lent ram)) front ∙ sym (q .loads .answer)
+  one-loading = p .loads .answer ∙ ap (λ (s : List ℕ). loadingOf s (lent ram) (length flash)) front ∙ sym (q .loads .answer)
 
   pub one-stored : stored ≡ kept
-  one-stored = p .loads .leaves ∙ ap (λ (s : List ℕ). loadRamOf s ram) front ∙ sym (q .loads .leaves)
+  one-stored = p .loads .leaves ∙ ap (λ (s : List ℕ). loadRamOf s ram (length flash)) front ∙ sym (q .loads .leaves)

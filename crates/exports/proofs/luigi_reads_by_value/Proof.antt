@@ -11,11 +11,11 @@ use Rattle.exports.proofs.luigi_reads_by_value.Statement.{statement}
 use Rattle.exports.proofs.luigi_reads_by_value.Tie as tie
 
 abbrev Inv-loop : tie.InvT-loop
-Inv-loop mapping permissions flips field ram at out₀ c i₀ i-end out i =
+Inv-loop mapping permissions flips accelerators ram at out₀ c i₀ i-end out i =
     (i ≤ i-end) × (i-end ≤ length at) × (i-end ≤ length out) × (length out ≡ length out₀) × (out ≡ answered (c .jlp) (c .mapping) (c .permissions) ram at i out₀)
 
 abbrev μ-loop : tie.MeasureT-loop
-μ-loop mapping permissions flips field ram at out₀ c i₀ i-end out i = i-end - i
+μ-loop mapping permissions flips accelerators ram at out₀ c i₀ i-end out i = i-end - i
 
 loop-holds : tie.Need-loop-holds Inv-loop μ-loop
 loop-holds c = search (needs, c .least .ensures, min-le-left, min-le-right, answered-none)

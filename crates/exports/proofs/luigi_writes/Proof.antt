@@ -13,12 +13,12 @@ use Rattle.exports.proofs.luigi_writes.Statement.{statement}
 use Rattle.exports.proofs.luigi_writes.Tie as tie
 
 abbrev Inv-loop : tie.InvT-loop
-Inv-loop mapping₀ permissions₀ flips readable₀ accelerators ram₀ at value assigned₀ j₀ i₀ i-end mapping permissions readable ram assigned j i =
-    (i ≤ i-end) × (i-end ≤ length at) × (i-end ≤ length value) × (i-end ≤ length assigned₀) × (length ram ≡ length ram₀) × (length assigned ≡ length assigned₀)
-    × Ran (carried mapping₀ permissions₀ flips readable₀ (jlpFrom accelerators)) ram₀ at value assigned₀ i mapping permissions flips readable j ram assigned
+Inv-loop mapping₀ permissions₀ flips readable₀ accelerators ram₀ flash₀ at value assigned₀ j₀ i₀ i-end mapping permissions readable ram flash assigned j i =
+    (i ≤ i-end) × (i-end ≤ length at) × (i-end ≤ length value) × (i-end ≤ length assigned₀) × (length ram ≡ length ram₀) × (length flash ≡ length flash₀) × (length assigned ≡ length assigned₀)
+    × Ran (carried mapping₀ permissions₀ flips readable₀ (jlpFrom accelerators)) ram₀ flash₀ at value assigned₀ i mapping permissions flips readable j ram flash assigned
 
 abbrev μ-loop : tie.MeasureT-loop
-μ-loop mapping₀ permissions₀ flips readable₀ accelerators ram₀ at value assigned₀ j₀ i₀ i-end mapping permissions readable ram assigned j i = i-end - i
+μ-loop mapping₀ permissions₀ flips readable₀ accelerators ram₀ flash₀ at value assigned₀ j₀ i₀ i-end mapping permissions readable ram flash assigned j i = i-end - i
 
 loop-holds : tie.Need-loop-holds Inv-loop μ-loop
 loop-holds c = (
@@ -26,6 +26,7 @@ loop-holds c = (
   (search (needs, c .least-of .ensures)),
   (search (needs, c .least-of .ensures)),
   (search (needs, c .least-of .ensures)),
+  (search needs),
   (search needs),
   (search needs),
   (search (ran-none, c .before .jlp-from .ensures)),
@@ -39,16 +40,17 @@ loop-again c = (
   (search needs),
   (search needs),
   (search needs),
+  (search needs),
   (⊎-elim
-      (λ w. search (ran-one, w .2 ∙ w .1 .ensures, c .before .before .before .before .write-by .ensures))
-      (λ w. search (ran-one, w .1 ∙ passed-by _ _ _ _ (c .before .latches .ensures) (w .0 .left), c .before .before .before .before .write-by .ensures))
+      (λ w. search (ran-one, w .2 ∙ w .1 .ensures, c .before .before .before .before .before .before .write-by .ensures))
+      (λ w. search (ran-one, w .1 ∙ passed-by _ _ _ _ (c .before .latches .ensures) (w .0 .left), c .before .before .before .before .before .before .write-by .ensures))
       (c .if1 .came)),
 )
 
 returns : tie.Need-returns Inv-loop μ-loop
 returns c =
     let i : c .before .before .loop .i ≡ c .before .before .before .least-of .result = omega arith in
-    ran-last _ _ _ _ _ _ _ _ _ _ _ _ _ _ _ (i ∙ c .before .before .before .least-of .ensures .0) (c .words-of .ensures) (c .before .before .loop .inv .6)
+    ran-last _ _ _ _ _ _ _ _ _ _ _ _ _ _ _ _ _ (i ∙ c .before .before .before .least-of .ensures .0) (c .words-of .ensures) (c .before .before .loop .inv .7)
 
 pub luigi-writes-spec : {M : Type 1} → statement M
 luigi-writes-spec =
@@ -71,6 +73,7 @@ luigi-writes-spec =
     (λ c. search needs)
     loop-again
     (λ c κs. search needs)
+    (λ c. search needs)
     (λ c. search needs)
     (λ c. search needs)
     returns)

@@ -33,4 +33,5 @@ write-on-spec =
     returns-2
     (λ c κs. search needs)
     (λ c κs. search needs)
+    (λ c κs. search needs)
     returns-3)

@@ -1,4 +1,4 @@
--- Laws of the accelerators: which writes they take, which of those change them, and what stays (02, W-206).
+-- Laws of the accelerators: which writes they take, which of those change them, and what stays (02, W-206 and W-209).
 use Prim.Native.Nat.{ℕ, _≤_}
 use mathlib.Core.Bool.{Bool, true, false, cond, not, _&&_}
 use mathlib.Core.Logic.{_↔_}
@@ -9,9 +9,12 @@ use borrow.Author.Tests.{eq-eqb, ne-eqb, eqb-true, eqb-false}
 use Rattle.basics.specs.Laws.Tests.{cases, and-left, and-right, and-true, and-false, or-none, or-right, or-false-left, or-false-right, not-true, cond-true, true-is-not-false}
 use Rattle.places.specs.declared.Console.{Console}
 use Rattle.places.specs.Places.{console}
+use Rattle.flash.specs.declared.Heard.the-variants.{Silence}
+use Rattle.flash.specs.Flash.{ramStart, ramEnd}
+use Rattle.flash.specs.Registers.{jfFirst, jfLast, jfAddr, jfRow}
+use Rattle.flash.specs.Laws.Registers.{others-silent, registers-stay}
 use Rattle.jlp.specs.declared.Jlp.{Jlp}
-use Rattle.jlp.specs.declared.Heard.the-variants.{Silence}
-use Rattle.jlp.specs.Window.{inWindow, inRam, isOperand, onAt, onWord, offAt, offWord, operandsStart, operandsEnd, ramStart, ramEnd, windowStart, windowEnd, firstAt, secondAt, dataAt, crcAt}
+use Rattle.jlp.specs.Window.{inWindow, inRam, isOperand, onAt, onWord, offAt, offWord, operandsStart, operandsEnd, windowStart, windowEnd, firstAt, secondAt, dataAt, crcAt}
 use Rattle.jlp.specs.Accelerators.{startsOn, withOn, resetJlp, turnsOn, turnsOff, takes, latches, crcAfter, writtenOn, writtenJlp, registerWord, heardAt}
 use Rattle.jlp.specs.Laws.Window.{between-low, between-high, between-in, between-out, between-below}
 
@@ -56,14 +59,17 @@ outside-takes j at v out =
 
 -- a write to none of their registers changes nothing, nor does one that they do not take
 module _ (j : Jlp) (at : Console) (v : ℕ) where
-  quiet : (at .0 ≡ offAt → ⊥) → isOperand at ≡ false → (at .0 ≡ dataAt → ⊥) → (at .0 ≡ crcAt → ⊥) → writtenOn j at v ≡ j
+  quiet : (at .0 ≡ offAt → ⊥) → isOperand at ≡ false → (at .0 ≡ dataAt → ⊥) → (at .0 ≡ crcAt → ⊥) → (at .0 ≡ jfAddr → ⊥) → (at .0 ≡ jfRow → ⊥)
+      → writtenOn j at v ≡ j
   unfolding writtenOn turnsOff crcAfter
-  quiet a b c d = rw (ne-eqb _ _ a, b, ne-eqb _ _ c, ne-eqb _ _ d)
+  quiet a b c d e f = rw (ne-eqb _ _ a, b, ne-eqb _ _ c, ne-eqb _ _ d, registers-stay (j .saves) at v e f)
 
   outside : inWindow at ≡ false → writtenOn j at v ≡ j
   outside out =
       quiet (λ e. here (omega arith) (omega arith))
       (cases (isOperand at) (λ t. absurd (here (omega (arith, between-low _ _ _ t)) (omega (arith, between-high _ _ _ t)))) (λ t. t))
+      (λ e. here (omega arith) (omega arith))
+      (λ e. here (omega arith) (omega arith))
       (λ e. here (omega arith) (omega arith))
       (λ e. here (omega arith) (omega arith))
     where
@@ -103,6 +109,8 @@ module _ (j : Jlp) (at : Console) (v : ℕ) where
       by true =
           quiet (λ q. omega (arith, low)) (between-below operandsStart operandsEnd (at .0) (omega (arith, high))) (λ q. omega (arith, high))
           (λ q. omega (arith, high))
+          (λ q. omega (arith, low))
+          (λ q. omega (arith, low))
       by false = refl
 
   -- so one that does not go to a register changes nothing
@@ -125,16 +133,17 @@ module _ (j : Jlp) (none : j .field ≡ 0) (off : j .on ≡ false) where
   pub none-reset : resetJlp j ≡ j
   none-reset = ap (λ (f : ℕ). withOn j (startsOn f)) none ∙ ap (withOn j) (sym off)
 
--- k has the field, the operands, the results and the CRC of j
+-- k has the field, the operands, the results, the CRC and the flash's registers of j
 pub record Kept (j k : Jlp) : Type 0 where
   pub field : k .field ≡ j .field
   pub operands : k .operands ≡ j .operands
   pub results : k .results ≡ j .results
   pub crc : k .crc ≡ j .crc
+  pub saves : k .saves ≡ j .saves
 
 -- reset keeps them, and so does turning off and on again
 pub reset-keeps : (j : Jlp) → Kept j (resetJlp j)
-reset-keeps j = record { field = refl; operands = refl; results = refl; crc = refl }
+reset-keeps j = record { field = refl; operands = refl; results = refl; crc = refl; saves = refl }
 
 pub off-then-on : (j : Jlp) → (j .field ≡ 0 → ⊥) → j .on ≡ true → writtenJlp (writtenJlp j (console offAt) offWord) (console onAt) onWord ≡ j
 unfolding writtenJlp writtenOn turnsOn turnsOff
@@ -146,15 +155,16 @@ off-then-on j some on = ap after first ∙ rw (ne-eqb _ _ some) (ap (withOn j) (
     first : writtenJlp j (console offAt) offWord ≡ withOn j false
     first = cond-true (j .on) (withOn j false) j on
 
--- reads are silent while off, and but for three registers; so they are outside of the window and in the RAM
+-- reads are silent while off, and but for three registers and the flash's two; so they are outside of the window and in the RAM
 module _ (j : Jlp) (at : Console) where
   pub off-silent : j .on ≡ false → heardAt j at ≡ Silence
   unfolding heardAt
   off-silent off = rw off
 
-  pub other-silent : (at .0 ≡ firstAt → ⊥) → (at .0 ≡ secondAt → ⊥) → (at .0 ≡ crcAt → ⊥) → heardAt j at ≡ Silence
+  pub other-silent : (at .0 ≡ firstAt → ⊥) → (at .0 ≡ secondAt → ⊥) → (at .0 ≡ crcAt → ⊥) → (at .0 ≡ jfFirst → ⊥) → (at .0 ≡ jfLast → ⊥)
+      → heardAt j at ≡ Silence
   unfolding heardAt registerWord
-  other-silent a b c = rw (ne-eqb _ _ a, ne-eqb _ _ b, ne-eqb _ _ c) (by (j .on))
+  other-silent a b c d e = rw (ne-eqb _ _ a, ne-eqb _ _ b, ne-eqb _ _ c, others-silent (j .saves) at d e) (by (j .on))
     where
       by : (b : Bool) → cond b Silence Silence ≡ Silence
       by true = refl
@@ -162,11 +172,14 @@ module _ (j : Jlp) (at : Console) where
 
   pub ram-silent : inRam at ≡ true → heardAt j at ≡ Silence
   ram-silent e =
+      let low : ramStart ≤ at .0 = between-low _ _ _ e in
       let high : at .0 ≤ ramEnd = between-high _ _ _ e in
-      other-silent (λ q. omega arith) (λ q. omega arith) (λ q. omega arith)
+      other-silent (λ q. omega arith) (λ q. omega arith) (λ q. omega arith) (λ q. omega arith) (λ q. omega arith)
 
   pub outside-silent : inWindow at ≡ false → heardAt j at ≡ Silence
-  outside-silent out = other-silent (λ q. here (omega arith) (omega arith)) (λ q. here (omega arith) (omega arith)) (λ q. here (omega arith) (omega arith))
+  outside-silent out =
+      other-silent (λ q. here (omega arith) (omega arith)) (λ q. here (omega arith) (omega arith)) (λ q. here (omega arith) (omega arith))
+      (λ q. here (omega arith) (omega arith)) (λ q. here (omega arith) (omega arith))
     where
       here : windowStart ≤ at .0 → at .0 ≤ windowEnd → ⊥
       here = between-out windowStart windowEnd (at .0) out

@@ -7,9 +7,10 @@ use lib.Bits.{bitXor}
 use lib.ListN.{getD}
 use Rattle.places.specs.Places.{console, locutus}
 use Rattle.sums.specs.Crc.{crcBit, crcBits}
+use Rattle.flash.specs.declared.Heard.the-variants.{Word, Silence}
+use Rattle.flash.specs.Registers.{hasFlash, flashHeard, remembered}
 use Rattle.jlp.specs.declared.Jlp.{Jlp}
 use Rattle.jlp.specs.declared.Results.{Results}
-use Rattle.jlp.specs.declared.Heard.the-variants.{Word, Silence}
 use Rattle.jlp.specs.Window.{between, inWindow, inRam, ramLocation}
 use Rattle.jlp.specs.Arith.{results, productOf, multiplied, quotientOf, divided}
 use Rattle.jlp.specs.Crc.{jlpPoly, crcWord, crcWords}
@@ -93,7 +94,7 @@ pub last-location : ramLocation (console 0x9F7F) ≡ locutus 0x11F7F
 last-location = refl
 
 -- field values 0 to 3 at load
-pub on-at-load : map (λ f. freshJlp f .on) (0 ∷ 1 ∷ 2 ∷ 3 ∷ []) ≡ false ∷ true ∷ false ∷ true ∷ []
+pub on-at-load : map (λ f. freshJlp f 0 .on) (0 ∷ 1 ∷ 2 ∷ 3 ∷ []) ≡ false ∷ true ∷ false ∷ true ∷ []
 on-at-load = refl
 
 -- a write of a word to an address, and what writes leave
@@ -108,24 +109,24 @@ abbrev pub takenBy : Jlp → Write → Bool
 takenBy j w = takes j (console (w .0)) (w .1)
 
 -- while off: the word that turns on; another word there, and that word elsewhere; the word that turns off; an operand
-pub taken-off : map (takenBy (freshJlp 2)) ((0x8033, 0x4A5A) ∷ (0x8033, 0x4A5B) ∷ (0x8034, 0x4A5A) ∷ (0x8034, 0x6A7A) ∷ (0x9F80, 1) ∷ [])
+pub taken-off : map (takenBy (freshJlp 2 0)) ((0x8033, 0x4A5A) ∷ (0x8033, 0x4A5B) ∷ (0x8034, 0x4A5A) ∷ (0x8034, 0x6A7A) ∷ (0x9F80, 1) ∷ [])
     ≡ true ∷ false ∷ false ∷ false ∷ false ∷ []
 unfolding takes turnsOn between
 taken-off = refl
 
 -- while on: the same, but outside of the window; and with field 0
-pub taken-on : map (takenBy (freshJlp 1)) ((0x8033, 0x4A5A) ∷ (0x8034, 0x6A7A) ∷ (0x9FFF, 0x9A50) ∷ (0x7FFF, 0x4A5A) ∷ (0xA000, 1) ∷ [])
+pub taken-on : map (takenBy (freshJlp 1 0)) ((0x8033, 0x4A5A) ∷ (0x8034, 0x6A7A) ∷ (0x9FFF, 0x9A50) ∷ (0x7FFF, 0x4A5A) ∷ (0xA000, 1) ∷ [])
     ≡ true ∷ true ∷ true ∷ false ∷ false ∷ []
 unfolding takes turnsOn between
 taken-on = refl
 
-pub taken-never : map (takenBy (freshJlp 0)) ((0x8033, 0x4A5A) ∷ (0x8034, 0x6A7A) ∷ (0x9F80, 1) ∷ []) ≡ false ∷ false ∷ false ∷ []
+pub taken-never : map (takenBy (freshJlp 0 0)) ((0x8033, 0x4A5A) ∷ (0x8034, 0x6A7A) ∷ (0x9F80, 1) ∷ []) ≡ false ∷ false ∷ false ∷ []
 unfolding takes turnsOn between
 taken-never = refl
 
 -- each function of $FFF9 and $FFFE, -7 and -2 or 65,529 and 65,534, by writes to its two operands
 abbrev pub byWrites : ℕ → Results
-byWrites n = afterWrites (freshJlp 1) ((0x9F80 + 2 * n, 0xFFF9) ∷ (0x9F81 + 2 * n, 0xFFFE) ∷ []) .results
+byWrites n = afterWrites (freshJlp 1 0) ((0x9F80 + 2 * n, 0xFFF9) ∷ (0x9F81 + 2 * n, 0xFFFE) ∷ []) .results
 
 pub six-functions : map byWrites (0 ∷ 1 ∷ 2 ∷ 3 ∷ 4 ∷ 5 ∷ [])
     ≡ results 0x000E 0x0000 ∷ results 0x000E 0xFFF9 ∷ results 0x000E 0xFFFE ∷ results 0x000E 0xFFF7
@@ -134,13 +135,13 @@ unfolding writtenJlp writtenOn turnsOn turnsOff between functionOf multiplied pr
 six-functions = refl
 
 -- 12,345 in decimal digits: the divisor is written once (000, Program Example)
-pub two-digits : afterWrites (freshJlp 1) ((0x9F8B, 10) ∷ (0x9F8A, 12345) ∷ (0x9F8A, 1234) ∷ []) .results ≡ results 123 4
+pub two-digits : afterWrites (freshJlp 1 0) ((0x9F8B, 10) ∷ (0x9F8A, 12345) ∷ (0x9F8A, 1234) ∷ []) .results ≡ results 123 4
 unfolding writtenJlp writtenOn turnsOn turnsOff between functionOf divided quotientOf
 two-digits = refl
 
 -- 3 by 5, then a dividend over a divisor that was never written: the product stays, and the dividend is kept
 abbrev pub over-nothing : Jlp
-over-nothing = afterWrites (freshJlp 1) ((0x9F80, 3) ∷ (0x9F81, 5) ∷ (0x9F88, 9) ∷ [])
+over-nothing = afterWrites (freshJlp 1 0) ((0x9F80, 3) ∷ (0x9F81, 5) ∷ (0x9F88, 9) ∷ [])
 
 pub product-stays : over-nothing .results ≡ results 15 0
 unfolding writtenJlp writtenOn turnsOn turnsOff between functionOf multiplied productOf divided quotientOf
@@ -152,11 +153,11 @@ dividend-kept = refl
 
 -- a CRC from its start at $FFFF, with a product before it; what then answers, of the last operand, the results, the CRC's registers and $9FFE
 abbrev pub summed : Jlp
-summed = afterWrites (freshJlp 3) ((0x9F86, 0x1234) ∷ (0x9F87, 0x100) ∷ (0x9FFD, 0xFFFF) ∷ (0x9FFC, 0xFFFE) ∷ [])
+summed = afterWrites (freshJlp 3 0) ((0x9F86, 0x1234) ∷ (0x9F87, 0x100) ∷ (0x9FFD, 0xFFFF) ∷ (0x9FFC, 0xFFFE) ∷ [])
 
 pub answers : map (λ a. heardAt summed (console a)) (0x9F8B ∷ 0x9F8E ∷ 0x9F8F ∷ 0x9FFC ∷ 0x9FFD ∷ 0x9FFE ∷ [])
     ≡ Silence ∷ Word 0x3400 ∷ Word 0x0012 ∷ Silence ∷ Word 0xEFCA ∷ Silence ∷ []
-unfolding writtenJlp writtenOn turnsOn turnsOff between functionOf multiplied productOf crcAfter crcWord crcBits crcBit heardAt registerWord
+unfolding writtenJlp writtenOn turnsOn turnsOff between functionOf multiplied productOf crcAfter crcWord crcBits crcBit heardAt registerWord remembered flashHeard hasFlash
 answers = refl
 
 -- turned off they are silent, and reset has them answer as before
@@ -164,5 +165,20 @@ abbrev pub silenced : Jlp
 silenced = afterWrites summed ((0x8034, 0x6A7A) ∷ [])
 
 pub off-and-reset : map (λ j. heardAt j (console 0x9FFD)) (silenced ∷ resetJlp silenced ∷ []) ≡ Silence ∷ Word 0xEFCA ∷ []
-unfolding writtenJlp writtenOn turnsOn turnsOff between functionOf multiplied productOf crcAfter crcWord crcBits crcBit heardAt registerWord
+unfolding writtenJlp writtenOn turnsOn turnsOff between functionOf multiplied productOf crcAfter crcWord crcBits crcBit heardAt registerWord remembered flashHeard hasFlash
 off-and-reset = refl
+
+-- the registers of one sector of flash, kept while on: row 5 for $8100; off they are silent and keep nothing, and on again the same
+abbrev pub saving : Jlp
+saving = afterWrites (freshJlp 3 1) ((0x8025, 0x8100) ∷ (0x8026, 5) ∷ [])
+
+abbrev pub not-saving : Jlp
+not-saving = afterWrites saving ((0x8034, 0x6A7A) ∷ (0x8026, 6) ∷ [])
+
+pub rows-heard : map (λ j. heardAt j (console 0x8024)) (saving ∷ not-saving ∷ resetJlp not-saving ∷ []) ≡ Word 7 ∷ Silence ∷ Word 7 ∷ []
+unfolding writtenJlp writtenOn turnsOn turnsOff between crcAfter heardAt registerWord remembered flashHeard hasFlash
+rows-heard = refl
+
+pub rows-kept : map (λ j. j .saves .row) (saving ∷ not-saving ∷ resetJlp not-saving ∷ []) ≡ 5 ∷ 5 ∷ 5 ∷ []
+unfolding writtenJlp writtenOn turnsOn turnsOff between crcAfter remembered hasFlash
+rows-kept = refl

@@ -1,4 +1,4 @@
--- `load::finish` meets its contract: refused by 10 or 11, or stored and answered.
+-- `load::finish` meets its contract: refused by 10, 11 or 13, or stored and answered.
 use Rattle.load.proofs.Laws.{refused-answer, refused-ram, loaded-answer, loaded-ram}
 use borrow.Author.Needs.{needs}
 use Rattle.load.proofs.finish.Statement.{statement}

@@ -20,7 +20,7 @@ returns-3 c =
     let m = c .before .before .before .before .before .before .before .before .lent-words .ensures .0 in
     let v = c .before .before .before .before .before .before .before .check-blocks .ensures in
     let f = c .before .before .finish .ensures in
-    done-so _ _ _ h z _ m _ v _ _ _ (search needs) _ _ (f .0) (f .1)
+    done-so _ _ _ _ h z _ m _ v _ _ _ (search needs) _ _ (f .0) (f .1)
 
 pub load-spec : {M : Type 1} → statement M
 load-spec =

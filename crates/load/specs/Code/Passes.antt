@@ -11,9 +11,9 @@ use Rattle.basics.specs.Refusals.{refuse, noRefusal, firstRefusal, passes}
 use Rattle.places.specs.Limits.{lent}
 use Rattle.sums.specs.Crc.{crc324Of}
 use Rattle.header.specs.Header.{flagsOf}
-use Rattle.header.specs.Flags.{jlpField, compatOf}
+use Rattle.header.specs.Flags.{compatOf}
 use Rattle.hunk.specs.Hunk.{storeHunk}
-use Rattle.tables.specs.Tables.{tablesSize, tablesIn, cartridgeOf, tablesRefusal}
+use Rattle.tables.specs.Tables.{tablesSize, tablesIn, jlpOf, cartridgeOf, tablesRefusal}
 use Rattle.blocks.specs.declared.Judged.{Judged}
 use Rattle.blocks.specs.Blocks.{frameSize, typeOf, payloadIn, tablesType, hunkType, isTables}
 use Rattle.blocks.specs.Frames.{frameAt, onFrame}
@@ -64,16 +64,16 @@ tablesAt s t = part s (t + frameSize) (t + frameSize + tablesSize)
 pub record Tabled (s : List ℕ) (t : ℕ) : Type 0 where
   pub lies : t + frameSize + tablesSize ≤ length s
 
--- behind the checking pass: 10 and 11, then the answer
-abbrev pub endRefusal : List ℕ → ℕ → ℕ → Refusal
-endRefusal s t m = tablesRefusal (flagsOf s) (tablesIn (tablesAt s t) .flips) m
+-- behind the checking pass: 10, 11 and 13, then the answer
+abbrev pub endRefusal : List ℕ → ℕ → ℕ → ℕ → Refusal
+endRefusal s t m f = tablesRefusal (flagsOf s) (tablesIn (tablesAt s t) .flips) m f
 
 abbrev pub loadedBy : List ℕ → ℕ → ℕ → ℕ → Loading
 loadedBy s t blocks words =
-    record { refusal = noRefusal; cartridge = cartridgeOf (jlpField (flagsOf s)) (tablesAt s t); compat = compatOf (flagsOf s); blocks = blocks; words = words }
+    record { refusal = noRefusal; cartridge = cartridgeOf (jlpOf (flagsOf s)) (tablesAt s t); compat = compatOf (flagsOf s); blocks = blocks; words = words }
 
-unfoldable pub finishedOf : List ℕ → ℕ → ℕ → ℕ → ℕ → Loading
-finishedOf s m t blocks words = cond (passes (endRefusal s t m)) (loadedBy s t blocks words) (refused (endRefusal s t m))
+unfoldable pub finishedOf : List ℕ → ℕ → ℕ → ℕ → ℕ → ℕ → Loading
+finishedOf s m f t blocks words = cond (passes (endRefusal s t m f)) (loadedBy s t blocks words) (refused (endRefusal s t m f))
 
 -- the hunk of a block of type t, stored; each hunk stored, one block after the other
 unfoldable pub blockStored : List ℕ → ℕ → List ℕ → List ℕ
@@ -83,5 +83,5 @@ unfoldable pub eachStored : List (List ℕ) → List ℕ → List ℕ
 eachStored [] ram = ram
 eachStored (x ∷ xs) ram = eachStored xs (blockStored x (typeOf x) ram)
 
-unfoldable pub finishedRamOf : List ℕ → ℕ → List ℕ → List ℕ
-finishedRamOf s t ram = cond (passes (endRefusal s t (lent ram))) (eachStored (blocksIn s) ram) ram
+unfoldable pub finishedRamOf : List ℕ → ℕ → List ℕ → ℕ → List ℕ
+finishedRamOf s t ram f = cond (passes (endRefusal s t (lent ram) f)) (eachStored (blocksIn s) ram) ram

@@ -60,10 +60,11 @@ header-other s (later a (here b)) n = omega arith
 header-other s (later a (later b (here c))) n = omega arith
 header-other s (later a (later b (later c (here d)))) n = omega arith
 
-tables-other : {r : Refusal} (flags flips : List ℕ) (m : ℕ) → Gives (tablesRows flags flips m) r → r .number ≡ 9 → ⊥
+tables-other : {r : Refusal} (flags flips : List ℕ) (m f : ℕ) → Gives (tablesRows flags flips m f) r → r .number ≡ 9 → ⊥
 unfolding tablesRows
-tables-other flags flips m (here a) n = omega arith
-tables-other flags flips m (later a (here b)) n = omega arith
+tables-other flags flips m f (here a) n = omega arith
+tables-other flags flips m f (later a (here b)) n = omega arith
+tables-other flags flips m f (later a (later b (here c))) n = omega arith
 
 end-other : {r : Refusal} (a b : Bool) (p q : ℕ) → Gives ((a, refuse 5 p) ∷ (b, refuse 8 q) ∷ []) r → r .number ≡ 9 → ⊥
 end-other a b p q (here e) n = omega arith
@@ -124,8 +125,8 @@ broken-at s m e = by (checkHunk s m) e
 
 -- ---- 9, exactly
 
-module _ (s : List ℕ) (m at : ℕ) where
-  nine-breaks : Gives (refusalRows s m) (refuse 9 at) → HunkBreaks s m at
+module _ (s : List ℕ) (m f at : ℕ) where
+  nine-breaks : Gives (refusalRows s m f) (refuse 9 at) → HunkBreaks s m at
   unfolding walkRows
   nine-breaks g = in-header (gives-cases (headerRows s) _ g)
     where
@@ -158,15 +159,15 @@ module _ (s : List ℕ) (m at : ℕ) where
       in-walk h (inl g) = by-block h (in-block m false firstBlock (blocksIn s) g)
       in-walk h (inr q) = absurd (end-other _ _ _ _ (q .1) refl)
 
-      in-rest : Silent (headerRows s) → (Gives (walkRows s m) (refuse 9 at)) ⊎ ((Silent (walkRows s m)) × (Gives (tablesRows (flagsOf s) (tablesIn (payloadOfTables (blocksIn s)) .flips) m) (refuse 9 at))) → HunkBreaks s m at
+      in-rest : Silent (headerRows s) → (Gives (walkRows s m) (refuse 9 at)) ⊎ ((Silent (walkRows s m)) × (Gives (tablesRows (flagsOf s) (tablesIn (payloadOfTables (blocksIn s)) .flips) m f) (refuse 9 at))) → HunkBreaks s m at
       in-rest h (inl g) = in-walk h (gives-cases (judgeAll m false firstBlock (blocksIn s)) _ g)
-      in-rest h (inr q) = absurd (tables-other _ _ _ (q .1) refl)
+      in-rest h (inr q) = absurd (tables-other _ _ _ _ (q .1) refl)
 
-      in-header : (Gives (headerRows s) (refuse 9 at)) ⊎ ((Silent (headerRows s)) × (Gives (walkRows s m ++ tablesRows (flagsOf s) (tablesIn (payloadOfTables (blocksIn s)) .flips) m) (refuse 9 at))) → HunkBreaks s m at
+      in-header : (Gives (headerRows s) (refuse 9 at)) ⊎ ((Silent (headerRows s)) × (Gives (walkRows s m ++ tablesRows (flagsOf s) (tablesIn (payloadOfTables (blocksIn s)) .flips) m f) (refuse 9 at))) → HunkBreaks s m at
       in-header (inl g) = absurd (header-other s g refl)
       in-header (inr q) = in-rest (q .0) (gives-cases (walkRows s m) _ (q .1))
 
-  breaks-nine : HunkBreaks s m at → Gives (refusalRows s m) (refuse 9 at)
+  breaks-nine : HunkBreaks s m at → Gives (refusalRows s m f) (refuse 9 at)
   unfolding walkRows judgeAll judgeRows
   breaks-nine b =
       let x : List ℕ = b .block in
@@ -183,9 +184,9 @@ module _ (s : List ℕ) (m at : ℕ) where
       rw (b .all, judge-append m false firstBlock (b .before) (x ∷ b .after)) (silent-gives (b .quiet) (gives-append _ g)) in
       rw (← q) (silent-gives (b .header) (gives-append _ (gives-append _ all)))
 
-  pub nine-exactly : (loadingOf s m .refusal ≡ refuse 9 at) ↔ HunkBreaks s m at
+  pub nine-exactly : (loadingOf s m f .refusal ≡ refuse 9 at) ↔ HunkBreaks s m at
   nine-exactly =
-      let r = refused-exactly s m (refuse 9 at) (λ z. omega arith) in
+      let r = refused-exactly s m f (refuse 9 at) (λ z. omega arith) in
       ((λ e. nine-breaks (r .0 e)), (λ b. r .1 (breaks-nine b)))
 
 -- ---- the file's bytes from that place on are the hunk's, from where it breaks

@@ -110,32 +110,32 @@ stored-over (x ∷ xs) m e p ram k q =
 
 -- ---- the load, as the code comes to its answer
 
-module _ (s : List ℕ) (m : ℕ) where
-  refused-by : (r : Refusal) → (r .number ≡ 0 → ⊥) → refusalOf s m ≡ r → refused r ≡ loadingOf s m
+module _ (s : List ℕ) (m f : ℕ) where
+  refused-by : (r : Refusal) → (r .number ≡ 0 → ⊥) → refusalOf s m f ≡ r → refused r ≡ loadingOf s m f
   unfolding loadingOf
   refused-by r n e = rw (e, ne-eqb _ _ n)
 
-  kept-by : (ram : List ℕ) → m ≡ lent ram → (r : Refusal) → (r .number ≡ 0 → ⊥) → refusalOf s m ≡ r → ram ≡ loadRamOf s ram
+  kept-by : (ram : List ℕ) → m ≡ lent ram → (r : Refusal) → (r .number ≡ 0 → ⊥) → refusalOf s m f ≡ r → ram ≡ loadRamOf s ram f
   unfolding loadRamOf
-  kept-by ram em r n e = let f : refusalOf s (lent ram) ≡ r = rw (← em) e in rw (f, ne-eqb _ _ n)
+  kept-by ram em r n e = let q : refusalOf s (lent ram) f ≡ r = rw (← em) e in rw (q, ne-eqb _ _ n)
 
   -- 1 to 4
-  header-refuses : (h : Refusal) → h ≡ headerRefusal s → (h .number ≡ 0 → ⊥) → refusalOf s m ≡ h
+  header-refuses : (h : Refusal) → h ≡ headerRefusal s → (h .number ≡ 0 → ⊥) → refusalOf s m f ≡ h
   unfolding refusalOf
   header-refuses h e n = refused-front (headerRows s) _ (rw e at n) ∙ sym e
 
   module _ (h : Refusal) (eh : h ≡ headerRefusal s) (n : h .number ≡ 0 → ⊥) where
-    header-answer : (l : Loading) → l ≡ refused h → l ≡ loadingOf s m
+    header-answer : (l : Loading) → l ≡ refused h → l ≡ loadingOf s m f
     header-answer l el = el ∙ refused-by h n (header-refuses h eh n)
 
-    header-ram : (ram : List ℕ) → m ≡ lent ram → ram ≡ loadRamOf s ram
+    header-ram : (ram : List ℕ) → m ≡ lent ram → ram ≡ loadRamOf s ram f
     header-ram ram em = kept-by ram em h n (header-refuses h eh n)
 
   module _ (h : Refusal) (eh : h ≡ headerRefusal s) (zero : h .number ≡ 0) where
     header-silent : Silent (headerRows s)
     header-silent = header-accepted s .0 (rw eh at zero)
 
-    behind-header : refusalOf s m ≡ firstRefusal (walkRows s m ++ tablesRows (flagsOf s) (tablesIn (payloadOfTables (blocksIn s)) .flips) m)
+    behind-header : refusalOf s m f ≡ firstRefusal (walkRows s m ++ tablesRows (flagsOf s) (tablesIn (payloadOfTables (blocksIn s)) .flips) m f)
     unfolding refusalOf
     behind-header = silent-behind (headerRows s) _ header-silent
 
@@ -150,21 +150,21 @@ module _ (s : List ℕ) (m : ℕ) where
         let y : firstRefusal (walkRows s m) ≡ r = cc in
         (y, λ z. eqb-false _ _ p (ap (λ (q : Refusal). q .number) y ∙ z)))
 
-    walk-refuses : (v : Verdict) → v ≡ verdictOf s m → (r : Refusal) → v ≡ Refused r → refusalOf s m ≡ r
+    walk-refuses : (v : Verdict) → v ≡ verdictOf s m → (r : Refusal) → v ≡ Refused r → refusalOf s m f ≡ r
     walk-refuses v ev r e =
         let w = walk-by v ev r e in
         behind-header ∙ refused-front (walkRows s m) _ (λ z. w .1 (sym (ap (λ (q : Refusal). q .number) (w .0)) ∙ z)) ∙ w .0
 
-    walk-answer : (v : Verdict) → v ≡ verdictOf s m → (r : Refusal) → v ≡ Refused r → (l : Loading) → l ≡ refused r → l ≡ loadingOf s m
+    walk-answer : (v : Verdict) → v ≡ verdictOf s m → (r : Refusal) → v ≡ Refused r → (l : Loading) → l ≡ refused r → l ≡ loadingOf s m f
     walk-answer v ev r e l el = el ∙ refused-by r (walk-by v ev r e .1) (walk-refuses v ev r e)
 
-    walk-ram : (v : Verdict) → v ≡ verdictOf s m → (r : Refusal) → v ≡ Refused r → (ram : List ℕ) → m ≡ lent ram → ram ≡ loadRamOf s ram
+    walk-ram : (v : Verdict) → v ≡ verdictOf s m → (r : Refusal) → v ≡ Refused r → (ram : List ℕ) → m ≡ lent ram → ram ≡ loadRamOf s ram f
     walk-ram v ev r e ram em = kept-by ram em r (walk-by v ev r e .1) (walk-refuses v ev r e)
 
     pub header-enough : 32 ≤ length s
     header-enough = accepted-length s (rw eh at zero) .0
 
-    -- 10 and 11, and the answer
+    -- 10, 11 and 13, and the answer
     module _ (v : Verdict) (ev : v ≡ verdictOf s m) (t blocks words : ℕ) (e : v ≡ Loads t blocks words) where
       record Went : Type 0 where
         pub good : firstRefusal (walkRows s m) .number ≡ 0
@@ -190,38 +190,38 @@ module _ (s : List ℕ) (m : ℕ) where
       pub loads-tabled : Tabled s t
       loads-tabled = here .tabled
 
-      refusal-end : refusalOf s m ≡ tablesRefusal (flagsOf s) (tablesIn (payloadOfTables (blocksIn s)) .flips) m
+      refusal-end : refusalOf s m f ≡ tablesRefusal (flagsOf s) (tablesIn (payloadOfTables (blocksIn s)) .flips) m f
       refusal-end = behind-header ∙ silent-behind (walkRows s m) _ walk-quiet
 
-      done-answer : (r : Loading) → r ≡ finishedOf s m t blocks words → r ≡ loadingOf s m
+      done-answer : (r : Loading) → r ≡ finishedOf s m f t blocks words → r ≡ loadingOf s m f
       unfolding finishedOf loadingOf
       done-answer r er = er ∙ rw (here .payload, refusal-end, went .counted, went .stored)
 
-      done-ram : (ram after : List ℕ) → m ≡ lent ram → after ≡ finishedRamOf s t ram → after ≡ loadRamOf s ram
+      done-ram : (ram after : List ℕ) → m ≡ lent ram → after ≡ finishedRamOf s t ram f → after ≡ loadRamOf s ram f
       unfolding finishedRamOf loadRamOf
       done-ram ram after em ea =
           let w = walk-silent s m walk-quiet in
-          let g : refusalOf s (lent ram) ≡ tablesRefusal (flagsOf s) (tablesIn (payloadOfTables (blocksIn s)) .flips) (lent ram) = rw (← em) refusal-end in
+          let g : refusalOf s (lent ram) f ≡ tablesRefusal (flagsOf s) (tablesIn (payloadOfTables (blocksIn s)) .flips) (lent ram) f = rw (← em) refusal-end in
           ea ∙ rw (here .payload, g, stored-over (blocksIn s) m false firstBlock ram em (w .0))
 
 -- each way out of the load, for the words that are lent
-module _ (s ram : List ℕ) (h : Refusal) (eh : h ≡ headerRefusal s) where
+module _ (s ram : List ℕ) (f : ℕ) (h : Refusal) (eh : h ≡ headerRefusal s) where
   module _ (n : h .number ≡ 0 → ⊥) where
-    pub head-answers : (l : Loading) → l ≡ refused h → l ≡ loadingOf s (lent ram)
-    head-answers l el = header-answer s (lent ram) h eh n l el
+    pub head-answers : (l : Loading) → l ≡ refused h → l ≡ loadingOf s (lent ram) f
+    head-answers l el = header-answer s (lent ram) f h eh n l el
 
-    pub head-keeps : ram ≡ loadRamOf s ram
-    head-keeps = header-ram s (lent ram) h eh n ram refl
+    pub head-keeps : ram ≡ loadRamOf s ram f
+    head-keeps = header-ram s (lent ram) f h eh n ram refl
 
   module _ (zero : h .number ≡ 0) (m : ℕ) (em : m ≡ lent ram) (v : Verdict) (ev : v ≡ verdictOf s m) where
     module _ (r : Refusal) (e : v ≡ Refused r) where
-      pub walk-answers : (l : Loading) → l ≡ refused r → l ≡ loadingOf s (lent ram)
-      walk-answers l el = rw (← em) (walk-answer s m h eh zero v ev r e l el)
+      pub walk-answers : (l : Loading) → l ≡ refused r → l ≡ loadingOf s (lent ram) f
+      walk-answers l el = rw (← em) (walk-answer s m f h eh zero v ev r e l el)
 
-      pub walk-keeps : ram ≡ loadRamOf s ram
-      walk-keeps = walk-ram s m h eh zero v ev r e ram em
+      pub walk-keeps : ram ≡ loadRamOf s ram f
+      walk-keeps = walk-ram s m f h eh zero v ev r e ram em
 
     module _ (t blocks words : ℕ) (e : v ≡ Loads t blocks words) where
-      pub done-so : (l : Loading) (after : List ℕ) → l ≡ finishedOf s (lent ram) t blocks words → after ≡ finishedRamOf s t ram → (l ≡ loadingOf s (lent ram)) × (after ≡ loadRamOf s ram)
+      pub done-so : (l : Loading) (after : List ℕ) → l ≡ finishedOf s (lent ram) f t blocks words → after ≡ finishedRamOf s t ram f → (l ≡ loadingOf s (lent ram) f) × (after ≡ loadRamOf s ram f)
       done-so l after el ea =
-          (rw (← em) (done-answer s m h eh zero v ev t blocks words e l (rw (← em) at el)), done-ram s m h eh zero v ev t blocks words e ram after em ea)
+          (rw (← em) (done-answer s m f h eh zero v ev t blocks words e l (rw (← em) at el)), done-ram s m f h eh zero v ev t blocks words e ram after em ea)

@@ -134,15 +134,15 @@ each-last [] ys h m (and-block k ks) = k
 each-last (x ∷ xs) ys h m (and-block k ks) = each-last xs ys h m ks
 
 -- a load that is not refused
-pub leaves : (s ram : List ℕ) → loadingOf s (lent ram) .refusal .number ≡ 0 → Leaves s ram (loadingOf s (lent ram)) (loadRamOf s ram)
+pub leaves : (s ram : List ℕ) (f : ℕ) → loadingOf s (lent ram) f .refusal .number ≡ 0 → Leaves s ram (loadingOf s (lent ram) f) (loadRamOf s ram f)
 unfolding loadingOf loadRamOf
-leaves s ram e =
-    let n : refusalOf s (lent ram) .number ≡ 0 = rw answer-refusal at e in
-    let a : Accepted s (lent ram) = accepted s (lent ram) n in
-    let f : loads s (lent ram) ≡ true = eq-eqb _ _ n in
+leaves s ram f e =
+    let n : refusalOf s (lent ram) f .number ≡ 0 = rw answer-refusal at e in
+    let a : Accepted s (lent ram) f = accepted s (lent ram) f n in
+    let go : loads s (lent ram) f ≡ true = eq-eqb _ _ n in
     let hs : List Hunk = hunksIn (blocksIn s) in
     let lie : Each (Lies (lent ram)) hs = hunks-lie (blocksIn s) (lent ram) false firstBlock (a .blocks) in
-    rw f
+    rw go
     (record {
       long = length-overlay hs ram;
       last =

@@ -13,20 +13,21 @@ use Rattle.cart.specs.Laws.Readable.{Counted, fresh-counted, after-counted, non
 use Rattle.tables.specs.Tables.{tablesIn, cartridgeOf}
 use Rattle.load.specs.Load.{loads, loadingOf}
 
-module _ (s : List ℕ) (m : ℕ) where
+module _ (s : List ℕ) (m f : ℕ) where
   -- a cartridge that a load answers, refused or not
-  loading-counted : Counted (loadingOf s m .cartridge)
+  loading-counted : Counted (loadingOf s m f .cartridge)
   unfolding loadingOf cartridgeOf tablesIn
   loading-counted =
-      cases (loads s m) (λ e. rw e (fresh-counted _ _ _ _ (length-table paragraphs _))) (λ e. rw e (fresh-counted _ _ _ _ (length-replicate {A = ℕ} flipEntries 0)))
+      cases (loads s m f) (λ e. rw e (fresh-counted _ _ _ _ (length-table paragraphs _))) (λ e. rw e (fresh-counted _ _ _ _ (length-replicate {A = ℕ} flipEntries 0)))
 
-  abbrev world : List ℕ → World
-  world ram = record { cartridge = loadingOf s m .cartridge; ram = ram }
+  abbrev world : List ℕ → List ℕ → World
+  world flash ram = record { cartridge = loadingOf s m f .cartridge; flash = flash; ram = ram }
 
-  pub always-counted : (ram : List ℕ) (xs : List Access) → after (world ram) xs .cartridge .readable ≡ readableOf (after (world ram) xs .cartridge .permissions)
-  always-counted ram xs = after-counted (world ram) xs loading-counted .readable
+  pub always-counted : (flash ram : List ℕ) (xs : List Access)
+      → after (world flash ram) xs .cartridge .readable ≡ readableOf (after (world flash ram) xs .cartridge .permissions)
+  always-counted flash ram xs = after-counted (world flash ram) xs loading-counted .readable
 
   -- a refused load has 0
-  pub refused-none : loads s m ≡ false → loadingOf s m .cartridge .readable ≡ 0
+  pub refused-none : loads s m f ≡ false → loadingOf s m f .cartridge .readable ≡ 0
   unfolding loadingOf
   refused-none e = rw e none-readable

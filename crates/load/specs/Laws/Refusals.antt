@@ -37,47 +37,47 @@ unfolding walkRows
 walk-refusing s m =
     refusing-append (judgeAll m false firstBlock (blocksIn s)) _ (judge-all-refusing m false firstBlock (blocksIn s)) ((λ z. omega arith), ((λ z. omega arith), tt))
 
-rows-refusing : (s : List ℕ) (m : ℕ) → Refusing (refusalRows s m)
-rows-refusing s m =
+rows-refusing : (s : List ℕ) (m f : ℕ) → Refusing (refusalRows s m f)
+rows-refusing s m f =
     refusing-append (headerRows s) _ (header-refusing s)
-    (refusing-append (walkRows s m) _ (walk-refusing s m) (tables-refusing (flagsOf s) (tablesIn (payloadOfTables (blocksIn s)) .flips) m))
+    (refusing-append (walkRows s m) _ (walk-refusing s m) (tables-refusing (flagsOf s) (tablesIn (payloadOfTables (blocksIn s)) .flips) m f))
 
 -- the answer's refusal
-module _ (s : List ℕ) (m : ℕ) where
-  quiet : refusalOf s m .number ≡ 0 → Silent (refusalRows s m)
+module _ (s : List ℕ) (m f : ℕ) where
+  quiet : refusalOf s m f .number ≡ 0 → Silent (refusalRows s m f)
   unfolding refusalOf
-  quiet e = exactly-accepted (refusalRows s m) (rows-refusing s m) .0 e
+  quiet e = exactly-accepted (refusalRows s m f) (rows-refusing s m f) .0 e
 
-  passed-none : refusalOf s m .number ≡ 0 → refusalOf s m ≡ noRefusal
+  passed-none : refusalOf s m f .number ≡ 0 → refusalOf s m f ≡ noRefusal
   unfolding refusalOf
   passed-none e = silent-first noRefusal (quiet e)
 
-  pub answer-refusal : loadingOf s m .refusal ≡ refusalOf s m
+  pub answer-refusal : loadingOf s m f .refusal ≡ refusalOf s m f
   unfolding loadingOf
-  answer-refusal = cases (loads s m) (λ e. rw e (sym (passed-none (eqb-true _ _ e)))) (λ e. rw e)
+  answer-refusal = cases (loads s m f) (λ e. rw e (sym (passed-none (eqb-true _ _ e)))) (λ e. rw e)
 
-  pub refused-exactly : (r : Refusal) → (r .number ≡ 0 → ⊥) → (loadingOf s m .refusal ≡ r) ↔ Gives (refusalRows s m) r
+  pub refused-exactly : (r : Refusal) → (r .number ≡ 0 → ⊥) → (loadingOf s m f .refusal ≡ r) ↔ Gives (refusalRows s m f) r
   unfolding refusalOf
-  refused-exactly r n = rw answer-refusal (exactly-refused (refusalRows s m) (rows-refusing s m) r n)
+  refused-exactly r n = rw answer-refusal (exactly-refused (refusalRows s m f) (rows-refusing s m f) r n)
 
-  pub loads-exactly : (loadingOf s m .refusal .number ≡ 0) ↔ Silent (refusalRows s m)
+  pub loads-exactly : (loadingOf s m f .refusal .number ≡ 0) ↔ Silent (refusalRows s m f)
   unfolding refusalOf
-  loads-exactly = rw answer-refusal (exactly-accepted (refusalRows s m) (rows-refusing s m))
+  loads-exactly = rw answer-refusal (exactly-accepted (refusalRows s m f) (rows-refusing s m f))
 
 -- a refused load changes no word
-pub refused-keeps : (s ram : List ℕ) → (loadingOf s (lent ram) .refusal .number ≡ 0 → ⊥) → loadRamOf s ram ≡ ram
+pub refused-keeps : (s ram : List ℕ) (f : ℕ) → (loadingOf s (lent ram) f .refusal .number ≡ 0 → ⊥) → loadRamOf s ram f ≡ ram
 unfolding loadRamOf
-refused-keeps s ram n =
-    let e : loads s (lent ram) ≡ false = ne-eqb _ _ (rw answer-refusal at n) in
+refused-keeps s ram f n =
+    let e : loads s (lent ram) f ≡ false = ne-eqb _ _ (rw answer-refusal at n) in
     rw e
 
 -- what nothing refused says of an image
-pub record Accepted (s : List ℕ) (m : ℕ) : Type 0 where
+pub record Accepted (s : List ℕ) (m f : ℕ) : Type 0 where
   pub header : Silent (headerRows s)
   pub blocks : Silent (judgeAll m false firstBlock (blocksIn s))
   pub ended : isCut s ≡ false
   pub tables : anyTables (blocksIn s) ≡ true
-  pub supported : Silent (tablesRows (flagsOf s) (tablesIn (payloadOfTables (blocksIn s)) .flips) m)
+  pub supported : Silent (tablesRows (flagsOf s) (tablesIn (payloadOfTables (blocksIn s)) .flips) m f)
 
 -- by the three tables
 pub walk-silent : (s : List ℕ) (m : ℕ) → Silent (walkRows s m) → (Silent (judgeAll m false firstBlock (blocksIn s))) × ((isCut s ≡ false) × (anyTables (blocksIn s) ≡ true))
@@ -87,9 +87,9 @@ walk-silent s m q = go (silent-right (judgeAll m false firstBlock (blocksIn s)) 
     go : Silent ((isCut s, refuse 5 (stopOf s)) ∷ (not (anyTables (blocksIn s)), refuse 8 (length s)) ∷ []) → (Silent (judgeAll m false firstBlock (blocksIn s))) × ((isCut s ≡ false) × (anyTables (blocksIn s) ≡ true))
     go (also a (also b none)) = (silent-left (judgeAll m false firstBlock (blocksIn s)) _ q, (a, not-false (anyTables (blocksIn s)) b))
 
-pub accepted : (s : List ℕ) (m : ℕ) → refusalOf s m .number ≡ 0 → Accepted s m
-accepted s m e =
-    let q : Silent (refusalRows s m) = quiet s m e in
+pub accepted : (s : List ℕ) (m f : ℕ) → refusalOf s m f .number ≡ 0 → Accepted s m f
+accepted s m f e =
+    let q : Silent (refusalRows s m f) = quiet s m f e in
     let w = walk-silent s m (silent-left (walkRows s m) _ (silent-right (headerRows s) _ q)) in
     record {
       header = silent-left (headerRows s) _ q;
@@ -99,8 +99,8 @@ accepted s m e =
       supported = silent-right (walkRows s m) _ (silent-right (headerRows s) _ q);
     }
 
-pub accepts : (s : List ℕ) (m : ℕ) → Accepted s m → refusalOf s m ≡ noRefusal
+pub accepts : (s : List ℕ) (m f : ℕ) → Accepted s m f → refusalOf s m f ≡ noRefusal
 unfolding refusalOf walkRows
-accepts s m a =
+accepts s m f a =
     let t : not (anyTables (blocksIn s)) ≡ false = rw (a .tables) in
     silent-first noRefusal (silent-append (a .header) (silent-append (silent-append (a .blocks) (also (a .ended) (also t none))) (a .supported)))

@@ -17,6 +17,7 @@ use Rattle.switches.specs.declared.Request.the-variants.{Entry}
 use Rattle.switches.specs.Flips.{firstK, asks}
 use Rattle.switches.specs.Banks.{BANKSW}
 use Rattle.switches.specs.Laws.Flips.{first-small}
+use Rattle.flash.specs.Flash.{memories}
 use Rattle.jlp.specs.declared.Jlp.{Jlp}
 use Rattle.jlp.specs.Accelerators.{freshJlp, writtenJlp}
 use Rattle.jlp.specs.Laws.Accelerators.{none-written}
@@ -26,7 +27,7 @@ use Rattle.cart.specs.declared.Taker.{Taker}
 use Rattle.cart.specs.declared.Taker.the-variants.{Ram, Flip}
 use Rattle.cart.specs.Cells.{READ, WRITE, NARROW, paragraph, locate, cellAt, lies}
 use Rattle.cart.specs.Reads.{silent, fetched, readBy}
-use Rattle.cart.specs.Writes.{flipTaker, takerOf, storedWord, stored, leaves, leavesRam, leavesReadable}
+use Rattle.cart.specs.Writes.{flipTaker, takerOf, storedWord, stored, memoriesBy, leaves, leavesRam, leavesReadable}
 use Rattle.cart.specs.Cartridges.{activeOf, readOf, writeOf, writeRamOf}
 use Rattle.cart.specs.Laws.Banks.{ordinary}
 use Rattle.cart.specs.Laws.Jlp.{unaccelerated-taker}
@@ -209,11 +210,11 @@ module _ {bin : List ℕ} {lines : List Line} (g : Good lines) (c : Cartridge) (
     not-switched : taker ≡ flipTaker (c .flips) (asks at v) (Ram reached)
     not-switched =
         ap (λ (j : Jlp). takerOf j (activeOf c) (c .flips) at v) (t .jlp)
-        ∙ unaccelerated-taker (freshJlp 0) refl refl (activeOf c) at (c .flips) v
+        ∙ unaccelerated-taker (freshJlp 0 0) refl refl (activeOf c) at (c .flips) v
         ∙ ordinary (activeOf c) (c .flips) at v (tabled-unbanked g c number t)
 
     not-accelerated : writtenJlp (c .jlp) at v ≡ c .jlp
-    not-accelerated = rw (t .jlp) (none-written (freshJlp 0) refl refl at v)
+    not-accelerated = rw (t .jlp) (none-written (freshJlp 0 0) refl refl at v)
 
     takes-nothing : isRequest at v ≡ false → taker ≡ Ram reached
     unfolding asks
@@ -260,17 +261,22 @@ module _ {bin : List ℕ} {lines : List Line} (g : Good lines) (c : Cartridge) (
     request-last : isRequest at v ≡ true → at .0 % 4096 ≡ 0xFFF
     request-last e = eqb-true (at .0 % 4096) 0xFFF (and-left (eqb (at .0 % 4096) 0xFFF) _ e)
 
-    ram-of : (b q : Bool) → isRequest at v ≡ b → paged lines (at .0 / 4096) ≡ q →
-        Held bin lines (writeRamOf c ram at v) (ramAfter (lineAt lines 0 (at .0)) mem at v)
-    unfolding leavesRam Stores
-    ram-of true true e p =
+    -- what the taker leaves of the RAM, whatever flash is lent
+    ram-by : (flash : List ℕ) (u : Taker) → taker ≡ u → writeRamOf c flash ram at v ≡ memoriesBy u (c .jlp .saves) (memories flash ram) at v .ram
+    unfolding leavesRam
+    ram-by flash u e = ap (λ (w : Taker). memoriesBy w (c .jlp .saves) (memories flash ram) at v .ram) e
+
+    ram-of : (flash : List ℕ) (b q : Bool) → isRequest at v ≡ b → paged lines (at .0 / 4096) ≡ q →
+        Held bin lines (writeRamOf c flash ram at v) (ramAfter (lineAt lines 0 (at .0)) mem at v)
+    unfolding Stores
+    ram-of flash true true e p =
         let f : firstK (at .0 / 4096) ≤ at .0 / 256 % 16 = omega (arith, request-last e, first-small (at .0 / 4096)) in
-        rw (takes-flip e p, kept-at v (lineAt lines 0 (at .0)) (λ l q. not-ram g (at .0) f p l q)) h
-    ram-of true false e p = rw (takes-ram e p) (held-write v)
-    ram-of false q e p = rw (takes-nothing e) (held-write v)
+        rw (ram-by flash (Flip entry) (takes-flip e p), kept-at v (lineAt lines 0 (at .0)) (λ l q. not-ram g (at .0) f p l q)) h
+    ram-of flash true false e p = rw (ram-by flash (Ram reached) (takes-ram e p)) (held-write v)
+    ram-of flash false q e p = rw (ram-by flash (Ram reached) (takes-nothing e)) (held-write v)
 
     pub tables-after : Tabled lines (writeOf c at v) (numberAfter number at v)
     tables-after = tables-by (isRequest at v) (paged lines (at .0 / 4096)) refl refl
 
-    pub ram-after : Held bin lines (writeRamOf c ram at v) (ramAfter (lineAt lines 0 (at .0)) mem at v)
-    ram-after = ram-of (isRequest at v) (paged lines (at .0 / 4096)) refl refl
+    pub ram-after : (flash : List ℕ) → Held bin lines (writeRamOf c flash ram at v) (ramAfter (lineAt lines 0 (at .0)) mem at v)
+    ram-after flash = ram-of flash (isRequest at v) (paged lines (at .0 / 4096)) refl refl

@@ -26,7 +26,7 @@ pub record Tabled (lines : List Line) (c : Cartridge) (number : ℕ → ℕ) : T
   pub flips : c .flips ≡ flipTable lines
   pub mapping-length : length (c .mapping) ≡ paragraphs
   pub permissions-length : length (c .permissions) ≡ paragraphs
-  pub jlp : c .jlp ≡ freshJlp 0
+  pub jlp : c .jlp ≡ freshJlp 0 0
   pub mapping : (p : ℕ) → p < paragraphs → getD (c .mapping) p 0 ≡ mappingAt lines (number (p / 16)) p
   pub permissions : (p : ℕ) → p < paragraphs → getD (c .permissions) p 0 ≡ permissionsAt lines (number (p / 16)) p
 

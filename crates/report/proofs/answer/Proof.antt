@@ -8,7 +8,7 @@ returns : tie.Need-returns
 returns c = rw (c .refuse .ensures) (too-long _ _ (c .before .if1 .taken), too-long-ram _ _ (c .before .if1 .taken))
 
 returns-2 : tie.Need-returns-2
-returns-2 c = (loaded _ _ (c .before .before .before .before .before .if1 .left) _ (c .before .before .before .load .ensures .0), loaded-ram _ _ (c .before .before .before .before .before .if1 .left) _ (c .before .before .before .load .ensures .1))
+returns-2 c = (search (needs, loaded), search (needs, loaded-ram))
 
 pub answer-spec : {M : Type 1} → statement M
 answer-spec =
@@ -16,6 +16,7 @@ answer-spec =
     (tie.spec
     (λ c κs. search needs)
     returns
+    (λ c. search needs)
     (λ c κs. search needs)
     (λ c. search needs)
     returns-2)

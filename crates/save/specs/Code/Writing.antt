@@ -10,7 +10,7 @@ use Rattle.basics.specs.Counts.{any, lowest}
 use Rattle.basics.specs.Refusals.{refuse, firstRefusal}
 use Rattle.places.specs.Limits.{imageLimit, locutusParagraphs}
 use Rattle.header.specs.Header.{headerOf}
-use Rattle.tables.specs.Tables.{Tables, tablesPayload, tablesRows}
+use Rattle.tables.specs.Tables.{Tables, tablesPayload, flashWords, tablesRows}
 use Rattle.blocks.specs.Blocks.{frameSize, payloadLimit}
 use Rattle.save.specs.Chosen.{tablesBlock, hunkBlock}
 use Rattle.save.specs.Writing.{Content, marked, past}
@@ -37,7 +37,7 @@ imageSize c = frontSize (c .flags) (c .uid) (c .tables) + length (hunkBytes (c .
 unfoldable pub judgedBy : ℕ → List ℕ → List ℕ → ℕ → List Bool → ℕ → Refusal
 judgedBy room flags flips words marks long =
     firstRefusal
-    (tablesRows flags flips words
+    (tablesRows flags flips words (flashWords flags)
     ++ ((any locutusParagraphs (past marks words), refuse 9 (lowest locutusParagraphs (past marks words)))
     ∷ (ltb imageLimit long, refuse 1 0)
     ∷ (ltb room long, refuse 29 0)

@@ -22,7 +22,7 @@ use Rattle.basics.specs.Laws.Refusals.{Refusing, refused-exactly, accepted-exac
 use Rattle.basics.specs.Laws.Lowest.{First, lowest-first, lowest-any}
 use Rattle.basics.specs.Laws.Puts.{put-room}
 use Rattle.places.specs.Limits.{imageLimit, lent, locutusParagraphs, paragraphSize}
-use Rattle.tables.specs.Tables.{tablesRows}
+use Rattle.tables.specs.Tables.{flashWords, tablesRows}
 use Rattle.tables.specs.Laws.Refusals.{tables-refusing}
 use Rattle.save.specs.declared.Writing.{Writing}
 use Rattle.save.specs.Writing.{Content, isMarked, paragraphOf, marked, imageBy, pastLent, refusalRows, refusalOf, answerFor, writingOf, writtenOf}
@@ -42,7 +42,7 @@ pub record Answers (out : List ℕ) (c : Content) : Type 0 where
 
 -- what a writing without refusal says
 pub record Accepted (out : List ℕ) (c : Content) : Type 0 where
-  pub supported : Silent (tablesRows (c .flags) (c .tables .flips) (lent (c .ram)))
+  pub supported : Silent (tablesRows (c .flags) (c .tables .flips) (lent (c .ram)) (flashWords (c .flags)))
   pub inside : (p : ℕ) → p < locutusParagraphs → isMarked (c .marks) p ≡ true → paragraphSize * p + paragraphSize ≤ lent (c .ram)
   pub short : length (imageBy c) ≤ imageLimit
   pub room : length (imageBy c) ≤ length out
@@ -51,7 +51,7 @@ pub record Accepted (out : List ℕ) (c : Content) : Type 0 where
 
 module _ (out : List ℕ) (c : Content) where
   abbrev front : List (Row Refusal)
-  front = tablesRows (c .flags) (c .tables .flips) (lent (c .ram))
+  front = tablesRows (c .flags) (c .tables .flips) (lent (c .ram)) (flashWords (c .flags))
 
   abbrev rest : List (Row Refusal)
   rest =
@@ -62,7 +62,7 @@ module _ (out : List ℕ) (c : Content) where
 
   every-row : Refusing (refusalRows out c)
   every-row =
-      refusing-append front rest (tables-refusing (c .flags) (c .tables .flips) (lent (c .ram)))
+      refusing-append front rest (tables-refusing (c .flags) (c .tables .flips) (lent (c .ram)) (flashWords (c .flags)))
       ((λ z. omega arith), ((λ z. omega arith), ((λ z. omega arith), tt)))
 
   same-refusal : writingOf out c .refusal ≡ refusalOf out c
@@ -74,9 +74,10 @@ module _ (out : List ℕ) (c : Content) where
   unfolding tablesRows
   nine r e (here h) = absurd (omega arith)
   nine r e (later g (here h)) = absurd (omega arith)
-  nine r e (later f (later h (here k))) = lowest-first locutusParagraphs (pastLent c) (ltb-true _ _ (lowest-any locutusParagraphs (pastLent c) ∙ k))
-  nine r e (later f (later h (later k (here i)))) = absurd (omega arith)
-  nine r e (later f (later h (later k (later i (here j))))) = absurd (omega arith)
+  nine r e (later f (later g (here h))) = absurd (omega arith)
+  nine r e (later f (later g (later h (here k)))) = lowest-first locutusParagraphs (pastLent c) (ltb-true _ _ (lowest-any locutusParagraphs (pastLent c) ∙ k))
+  nine r e (later f (later g (later h (later k (here i))))) = absurd (omega arith)
+  nine r e (later f (later g (later h (later k (later i (here j)))))) = absurd (omega arith)
 
   pub answers : Answers out c
   unfolding writingOf writtenOf refusalOf

@@ -10,9 +10,6 @@ returns c = search (needs, tens)
 returns-2 : tie.Need-returns-2
 returns-2 c = search (needs, tens)
 
-returns-3 : tie.Need-returns-3
-returns-3 c = search (needs, tens)
-
 pub is-unsupported-spec : {M : Type 1} → statement M
 is-unsupported-spec =
     tie.close
@@ -20,6 +17,4 @@ is-unsupported-spec =
     (λ c κs. search needs)
     returns
     (λ c κs. search needs)
-    returns-2
-    (λ c κs. search needs)
-    returns-3)
+    returns-2)

@@ -13,6 +13,9 @@ returns-2 c = search (needs, ends)
 returns-3 : tie.Need-returns-3
 returns-3 c = search (needs, ends)
 
+returns-4 : tie.Need-returns-4
+returns-4 c = search (needs, ends)
+
 pub refused-spec : {M : Type 1} → statement M
 refused-spec =
     tie.close
@@ -24,4 +27,7 @@ refused-spec =
     (λ c κs. search needs)
     returns-2
     (λ c κs. search needs)
-    returns-3)
+    (λ c κs. search needs)
+    returns-3
+    (λ c κs. search needs)
+    returns-4)

@@ -1,11 +1,11 @@
--- Sizes and places in numbers, and what refusals 10 and 11 ask: the definitions compute.
+-- Sizes and places in numbers, and what refusals 10, 11 and 13 ask: the definitions compute.
 use Prim.Native.Nat.{ℕ}
 use mathlib.Core.List.{List, _∷_, []}
 use mathlib.Core.Path.{_≡_, refl}
 use mathlib.Core.Bool.{true, false}
 use lib.ListN.{replicate, set}
 use Rattle.basics.specs.Counts.{any}
-use Rattle.tables.specs.Tables.{permissionsAt, flipsAt, tablesSize, unsupported, lacksRam}
+use Rattle.tables.specs.Tables.{permissionsAt, flipsAt, tablesSize, sectorsOf, unsupported, lacksRam, oversized, mislent}
 
 pub places : (permissionsAt ≡ 512) × (flipsAt ≡ 768) × (tablesSize ≡ 1280)
 places = (refl, refl, refl)
@@ -17,18 +17,57 @@ built = 0x55 ∷ 0x05 ∷ replicate 14 0
 abbrev zeros : List ℕ
 zeros = replicate 256 0
 
--- field 2 with a flash of one sector, and of none; field 1 with a size, which has no flash
-pub flash-asked : unsupported (set built 2 0x42) zeros ≡ true
-unfolding unsupported
-flash-asked = refl
+-- field 2 with a flash of one sector: 10 does not speak of it, and 13 wants 768 words
+abbrev one-sector : List ℕ
+one-sector = set built 2 0x42
 
-pub flash-none : unsupported (set built 2 0x02) zeros ≡ false
+pub flash-supported : unsupported one-sector zeros ≡ false
 unfolding unsupported any
-flash-none = refl
+flash-supported = refl
 
-pub flash-not-theirs : unsupported (set (set built 2 0x01) 3 0xFF) zeros ≡ false
-unfolding unsupported any
-flash-not-theirs = refl
+pub a-word-short : mislent one-sector 767 ≡ true
+unfolding mislent
+a-word-short = refl
+
+pub a-sector-lent : mislent one-sector 768 ≡ false
+unfolding mislent
+a-sector-lent = refl
+
+pub a-word-long : mislent one-sector 769 ≡ true
+unfolding mislent
+a-word-long = refl
+
+-- field 2 with a size of 0 wants no word
+pub no-flash-lent : mislent (set built 2 0x02) 0 ≡ false
+unfolding mislent
+no-flash-lent = refl
+
+pub flash-of-none : mislent (set built 2 0x02) 1 ≡ true
+unfolding mislent
+flash-of-none = refl
+
+-- field 3 with 682 sectors, and with 683; field 1 with a size, which has no flash and is not asked
+pub largest-flash : oversized (set (set built 2 0x83) 3 0xAA) ≡ false
+unfolding oversized
+largest-flash = refl
+
+pub too-large : oversized (set (set built 2 0xC3) 3 0xAA) ≡ true
+unfolding oversized
+too-large = refl
+
+abbrev not-theirs : List ℕ
+not-theirs = set (set built 2 0x01) 3 0xFF
+
+pub size-not-asked : oversized not-theirs ≡ false
+unfolding oversized
+size-not-asked = refl
+
+pub words-not-asked : mislent not-theirs 5 ≡ false
+unfolding mislent
+words-not-asked = refl
+
+pub sectors-not-theirs : sectorsOf not-theirs ≡ 0
+sectors-not-theirs = refl
 
 -- field 1 wants 73,600 words, and field 0 none
 pub too-few : lacksRam (set built 2 0x01) 73599 ≡ true

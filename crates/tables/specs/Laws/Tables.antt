@@ -9,6 +9,7 @@ use Rattle.basics.specs.Laws.Bytes.{length-bytes16}
 use Rattle.basics.specs.Laws.Tables.{table-of}
 use Rattle.basics.specs.Laws.Stands.{stands-in, stands-word, stands-after}
 use Rattle.places.specs.Limits.{paragraphs}
+use Rattle.jlp.specs.declared.Jlp.{Jlp}
 use Rattle.tables.specs.Tables.{Tables, permissionsAt, flipsAt, tablesSize, tablesPayload, wordsAt, bytesAt, tablesIn, cartridgeWith, cartridgeOf}
 
 -- a table that stands at p, back
@@ -46,7 +47,7 @@ module _ (t : Tables) (em : length (t .mapping) ≡ paragraphs) (ep : length (t 
           words-back (t .flips) x flipsAt r ef at-flips,
         )
 
-    pub cartridge-back : (jlp : ℕ) → cartridgeOf jlp x ≡ cartridgeWith jlp t
+    pub cartridge-back : (jlp : Jlp) → cartridgeOf jlp x ≡ cartridgeWith jlp t
     unfolding cartridgeOf
     cartridge-back jlp = ap (cartridgeWith jlp) tables-back
 
@@ -54,10 +55,10 @@ module _ (t : Tables) (em : length (t .mapping) ≡ paragraphs) (ep : length (t 
   pub payload-tables : tablesIn (tablesPayload t) ≡ t
   payload-tables = tables-back (tablesPayload t) [] (sym (append-nil (tablesPayload t)))
 
-  pub payload-back : (jlp : ℕ) → cartridgeOf jlp (tablesPayload t) ≡ cartridgeWith jlp t
+  pub payload-back : (jlp : Jlp) → cartridgeOf jlp (tablesPayload t) ≡ cartridgeWith jlp t
   payload-back = cartridge-back (tablesPayload t) [] (sym (append-nil (tablesPayload t)))
 
 -- a payload's cartridge has the payload's flips
-pub cartridge-flips : (jlp : ℕ) (payload : List ℕ) → cartridgeOf jlp payload .flips ≡ tablesIn payload .flips
+pub cartridge-flips : (jlp : Jlp) (payload : List ℕ) → cartridgeOf jlp payload .flips ≡ tablesIn payload .flips
 unfolding cartridgeOf
 cartridge-flips jlp payload = refl

@@ -17,10 +17,11 @@ use Rattle.basics.specs.Laws.Tests.{and-false}
 use Rattle.places.specs.Limits.{imageLimit, lent, lentLimit, paragraphSize}
 use Rattle.sums.specs.Crc.{crc324Of}
 use Rattle.header.specs.Header.{headerOf, flagsOf, headerRows}
-use Rattle.header.specs.Flags.{jlpField, compatOf}
+use Rattle.header.specs.Flags.{compatOf}
+use Rattle.jlp.specs.declared.Jlp.{Jlp}
 use Rattle.header.specs.Laws.Header.{length-header, flags-back, header-silent}
 use Rattle.cart.specs.declared.Cartridge.{Cartridge}
-use Rattle.tables.specs.Tables.{Tables, tablesIn, tablesPayload, cartridgeOf, cartridgeWith, tablesRows}
+use Rattle.tables.specs.Tables.{Tables, tablesIn, tablesPayload, jlpOf, cartridgeOf, cartridgeWith, tablesRows}
 use Rattle.tables.specs.Laws.Tables.{length-tables, payload-tables}
 use Rattle.hunk.specs.declared.Checked.the-variants.{Whole}
 use Rattle.hunk.specs.Hunk.{Hunk, hunkOf, hunkPayload, checkHunk}
@@ -123,7 +124,7 @@ module _ (flags uid : List ℕ) (t : Tables) (xs : List (List ℕ)) (z : Sized f
   unfolding payloadOfTables
   tables-back = rw tables-type (ap tablesIn tables-payload ∙ payload-tables t (z .mapping-long) (z .permissions-long) (z .flips-long))
 
-  cartridge-back : (jlp : ℕ) → cartridgeOf jlp (payloadOfTables (tablesBlock t ∷ xs)) ≡ cartridgeWith jlp t
+  cartridge-back : (jlp : Jlp) → cartridgeOf jlp (payloadOfTables (tablesBlock t ∷ xs)) ≡ cartridgeWith jlp t
   unfolding cartridgeOf
   cartridge-back jlp = ap (cartridgeWith jlp) tables-back
 
@@ -131,7 +132,7 @@ module _ (flags uid : List ℕ) (t : Tables) (xs : List (List ℕ)) (z : Sized f
   unfolding hunksIn
   hunks-all = rw tables-type
 
-  module _ (short : length image ≤ imageLimit) (m : ℕ) (supported : Silent (tablesRows flags (t .flips) m)) (fine : Each (Fine m) xs) where
+  module _ (short : length image ≤ imageLimit) (m f : ℕ) (supported : Silent (tablesRows flags (t .flips) m f)) (fine : Each (Fine m) xs) where
     each-block : Each Block (tablesBlock t ∷ xs)
     each-block = and-block (Made.block-back tablesType (crc324Of (tablesPayload t)) (tablesPayload t) (λ e. omega arith)) (fine-blocks fine)
 
@@ -142,10 +143,10 @@ module _ (flags uid : List ℕ) (t : Tables) (xs : List (List ℕ)) (z : Sized f
     unfolding imageOf
     flags-are = flags-back flags uid (z .flags-long) (z .uid-long) image _ refl
 
-    tables-accepted : Silent (tablesRows (flagsOf image) (tablesIn (payloadOfTables (blocksIn image)) .flips) m)
+    tables-accepted : Silent (tablesRows (flagsOf image) (tablesIn (payloadOfTables (blocksIn image)) .flips) m f)
     tables-accepted = rw (flags-are, read-back, tables-back) supported
 
-    nothing : Accepted image m
+    nothing : Accepted image m f
     unfolding judgeAll imageOf
     nothing =
         record {
@@ -158,14 +159,15 @@ module _ (flags uid : List ℕ) (t : Tables) (xs : List (List ℕ)) (z : Sized f
           supported = tables-accepted;
         }
 
-    pub load-answers : loadingOf image m ≡ answerOf flags t (1 + length xs) (wordCount (hunksIn xs))
+    pub load-answers : loadingOf image m f ≡ answerOf flags t (1 + length xs) (wordCount (hunksIn xs))
     unfolding loadingOf
-    load-answers = rw (accepts image m nothing, flags-are, read-back, cartridge-back (jlpField flags), hunks-all) (ap (λ (n : ℕ). answerOf flags t n (wordCount (hunksIn xs))) (omega arith))
+    load-answers = rw (accepts image m f nothing, flags-are, read-back, cartridge-back (jlpOf flags), hunks-all) (ap (λ (n : ℕ). answerOf flags t n (wordCount (hunksIn xs))) (omega arith))
 
-  pub load-lays : length image ≤ imageLimit → (ram : List ℕ) → Silent (tablesRows flags (t .flips) (lent ram)) → Each (Fine (lent ram)) xs → loadRamOf image ram ≡ overlay (hunksIn xs) ram
+  pub load-lays : length image ≤ imageLimit → (ram : List ℕ) (f : ℕ) → Silent (tablesRows flags (t .flips) (lent ram) f) → Each (Fine (lent ram)) xs
+      → loadRamOf image ram f ≡ overlay (hunksIn xs) ram
   unfolding loadRamOf
-  load-lays short ram supported fine =
-      rw (accepts image (lent ram) (nothing short (lent ram) supported fine), read-back short (lent ram) supported fine, hunks-all)
+  load-lays short ram f supported fine =
+      rw (accepts image (lent ram) f (nothing short (lent ram) f supported fine), read-back short (lent ram) f supported fine, hunks-all)
 
 -- ---- the blocks of hunks
 
@@ -216,22 +218,22 @@ count-words (h ∷ hs) (and-block w ws) = omega (arith, w .whole, count-words hs
 
 -- the image of hunks that lie in the words lent
 module _ (flags uid : List ℕ) (t : Tables) (hs : List Hunk) (z : Sized flags uid t) (short : length (imageFor flags uid t hs) ≤ imageLimit)
-    (ram : List ℕ) (supported : Silent (tablesRows flags (t .flips) (lent ram))) (w : Each (Lies (lent ram)) hs) where
+    (ram : List ℕ) (f : ℕ) (supported : Silent (tablesRows flags (t .flips) (lent ram) f)) (w : Each (Lies (lent ram)) hs) where
   few : lent ram ≤ lentLimit
   few = omega arith
 
   pub image-blocks : blocksIn (imageFor flags uid t hs) ≡ tablesBlock t ∷ map hunkBlock hs
   unfolding imageFor
-  image-blocks = read-back flags uid t (map hunkBlock hs) z short (lent ram) supported (fine-hunks (lent ram) few hs w)
+  image-blocks = read-back flags uid t (map hunkBlock hs) z short (lent ram) f supported (fine-hunks (lent ram) few hs w)
 
-  pub image-answers : loadingOf (imageFor flags uid t hs) (lent ram) ≡ answerOf flags t (1 + length hs) (paragraphSize * length hs)
+  pub image-answers : loadingOf (imageFor flags uid t hs) (lent ram) f ≡ answerOf flags t (1 + length hs) (paragraphSize * length hs)
   unfolding imageFor
   image-answers =
-      load-answers flags uid t (map hunkBlock hs) z short (lent ram) supported (fine-hunks (lent ram) few hs w)
+      load-answers flags uid t (map hunkBlock hs) z short (lent ram) f supported (fine-hunks (lent ram) few hs w)
       ∙ rw (hunks-back (lent ram) few hs w, length-map hs hunkBlock, count-words hs w)
 
-  pub image-lays : loadRamOf (imageFor flags uid t hs) ram ≡ overlay hs ram
+  pub image-lays : loadRamOf (imageFor flags uid t hs) ram f ≡ overlay hs ram
   unfolding imageFor
   image-lays =
-      load-lays flags uid t (map hunkBlock hs) z short ram supported (fine-hunks (lent ram) few hs w)
+      load-lays flags uid t (map hunkBlock hs) z short ram f supported (fine-hunks (lent ram) few hs w)
       ∙ ap (λ (l : List Hunk). overlay l ram) (hunks-back (lent ram) few hs w)

@@ -1,5 +1,5 @@
--- The round trip: whatever the writer accepts, loaded into any RAM of the same length, gives the same tables and the marked words, and
--- every other word is kept (01, demand 2).
+-- The round trip: whatever the writer accepts, loaded into any RAM of the same length, with a flash that 13 lets through, gives the same
+-- tables and the marked words, and every other word is kept (01, demand 2; 02, W-209).
 use Prim.Native.Nat.{ℕ, _+_, _*_, _/_, _%_, _≤_, min}
 use mathlib.Core.Path.{_≡_, refl, sym, ap, subst, _∙_}
 use mathlib.Core.List.{List, _++_}
@@ -12,7 +12,8 @@ use Rattle.basics.specs.Lists.{Each}
 use Rattle.basics.specs.Laws.Tables.{length-table, getD-table}
 use Rattle.places.specs.Limits.{imageLimit, lent, lentLimit, locutusParagraphs, paragraphSize}
 use Rattle.basics.specs.Rows.{Silent}
-use Rattle.tables.specs.Tables.{Tables, tablesRows}
+use Rattle.tables.specs.Tables.{Tables, mislent, tablesRows}
+use Rattle.tables.specs.Laws.Refusals.{lent-alike}
 use Rattle.hunk.specs.Hunk.{Hunk}
 use Rattle.load.specs.declared.Loading.{Loading}
 use Rattle.load.specs.Load.{loadingOf, loadRamOf}
@@ -26,21 +27,21 @@ use Rattle.trip.specs.Laws.LoadImage.{image-answers, image-lays}
 use Rattle.trip.specs.Laws.Overlay.{EachLies, laid-back}
 
 -- an image of chosen paragraphs, as writer and builder make it: what its load answers, and the RAM after it
-pub record LoadsChosen (flags : List ℕ) (t : Tables) (on : ℕ → Bool) (words : ℕ → List ℕ) (s ram : List ℕ) : Type 0 where
-  pub answer : loadingOf s (lent ram) ≡ answerOf flags t (1 + count on locutusParagraphs) (paragraphSize * count on locutusParagraphs)
-  pub back : Overlaid on words ram (loadRamOf s ram)
+pub record LoadsChosen (flags : List ℕ) (t : Tables) (on : ℕ → Bool) (words : ℕ → List ℕ) (s ram : List ℕ) (f : ℕ) : Type 0 where
+  pub answer : loadingOf s (lent ram) f ≡ answerOf flags t (1 + count on locutusParagraphs) (paragraphSize * count on locutusParagraphs)
+  pub back : Overlaid on words ram (loadRamOf s ram f)
 
 pub load-chosen :
-    (flags uid : List ℕ) (t : Tables) (on : ℕ → Bool) (words : ℕ → List ℕ) (ram : List ℕ) → Sized flags uid t
-    → length (imageFor flags uid t (chosen locutusParagraphs on words)) ≤ imageLimit → Silent (tablesRows flags (t .flips) (lent ram))
-    → EachLies (lent ram) locutusParagraphs on words → LoadsChosen flags t on words (imageFor flags uid t (chosen locutusParagraphs on words)) ram
-load-chosen flags uid t on words ram z short supported c =
+    (flags uid : List ℕ) (t : Tables) (on : ℕ → Bool) (words : ℕ → List ℕ) (ram : List ℕ) (f : ℕ) → Sized flags uid t
+    → length (imageFor flags uid t (chosen locutusParagraphs on words)) ≤ imageLimit → Silent (tablesRows flags (t .flips) (lent ram) f)
+    → EachLies (lent ram) locutusParagraphs on words → LoadsChosen flags t on words (imageFor flags uid t (chosen locutusParagraphs on words)) ram f
+load-chosen flags uid t on words ram f z short supported c =
     let hs : List Hunk = chosen locutusParagraphs on words in
     let w : Each (Lies (lent ram)) hs = chosen-each on words locutusParagraphs c in
     let few : lent ram ≤ length ram = omega arith in
     record {
-      answer = image-answers flags uid t hs z short ram supported w ∙ ap (λ (n : ℕ). answerOf flags t (1 + n) (paragraphSize * n)) (length-chosen on words locutusParagraphs);
-      back = subst (λ (x : List ℕ). Overlaid on words ram x) (sym (image-lays flags uid t hs z short ram supported w)) (laid-back on words ram (lent ram) few c);
+      answer = image-answers flags uid t hs z short ram f supported w ∙ ap (λ (n : ℕ). answerOf flags t (1 + n) (paragraphSize * n)) (length-chosen on words locutusParagraphs);
+      back = subst (λ (x : List ℕ). Overlaid on words ram x) (sym (image-lays flags uid t hs z short ram f supported w)) (laid-back on words ram (lent ram) few c);
     }
 
 -- word k of a RAM, by its paragraph
@@ -60,14 +61,18 @@ module _ (out : List ℕ) (c : Content) (z : Sized (c .flags) (c .uid) (c .table
       let m : lent to ≡ lent (c .ram) = ap (λ (n : ℕ). min n lentLimit) same in
       record { whole = length-table paragraphSize _; within = rw m (accepted .inside q h o) }
 
-  -- and nothing is refused there of its flags and tables
-  pub supported-in : (to : List ℕ) → length to ≡ length (c .ram) → Silent (tablesRows (c .flags) (c .tables .flips) (lent to))
-  supported-in to same = let m : lent to ≡ lent (c .ram) = ap (λ (n : ℕ). min n lentLimit) same in rw m (accepted .supported)
+  -- and nothing is refused there of its flags and tables, with a flash that is lent right
+  pub supported-in : (to : List ℕ) → length to ≡ length (c .ram) → (f : ℕ) → mislent (c .flags) f ≡ false → Silent (tablesRows (c .flags) (c .tables .flips) (lent to) f)
+  supported-in to same f right =
+      let m : lent to ≡ lent (c .ram) = ap (λ (n : ℕ). min n lentLimit) same in
+      rw (m, lent-alike (c .flags) (c .tables .flips) (lent (c .ram)) f right) (accepted .supported)
 
-  pub round-trip : (to : List ℕ) → length to ≡ length (c .ram) → ComesBack c to (loadingOf (imageBy c) (lent to)) (loadRamOf (imageBy c) to)
-  round-trip to same =
-      let r : LoadsChosen (c .flags) (c .tables) (isMarked (c .marks)) (paragraphOf (c .ram)) (imageBy c) to =
-      load-chosen (c .flags) (c .uid) (c .tables) (isMarked (c .marks)) (paragraphOf (c .ram)) to z (accepted .short) (supported-in to same) (marked-lie to same) in
+  pub round-trip : (to : List ℕ) → length to ≡ length (c .ram) → (f : ℕ) → mislent (c .flags) f ≡ false
+      → ComesBack c to (loadingOf (imageBy c) (lent to) f) (loadRamOf (imageBy c) to f)
+  round-trip to same f right =
+      let r : LoadsChosen (c .flags) (c .tables) (isMarked (c .marks)) (paragraphOf (c .ram)) (imageBy c) to f =
+      load-chosen (c .flags) (c .uid) (c .tables) (isMarked (c .marks)) (paragraphOf (c .ram)) to f z (accepted .short) (supported-in to same f right)
+      (marked-lie to same) in
       record {
         answer = r .answer;
         same = r .back .same;
@@ -85,6 +90,7 @@ module _ (out : List ℕ) (c : Content) (z : Sized (c .flags) (c .uid) (c .table
   -- the same of the functions: `save::write` leaves the image at the front of its buffer, as long as it answers, and `load::load` of that part answers so
   pub written-loads :
       (w : Writing) (after : List ℕ) → w ≡ writingOf out c → after ≡ writtenOf out c → (to : List ℕ) → length to ≡ length (c .ram)
-      → (l : Loading) (next : List ℕ) → l ≡ loadingOf (take (w .length) after) (lent to) → next ≡ loadRamOf (take (w .length) after) to → ComesBack c to l next
-  written-loads w after ew ea to same l next el en =
-      rw (el, en, image-front w after ew ea) (round-trip to same)
+      → (f : ℕ) → mislent (c .flags) f ≡ false
+      → (l : Loading) (next : List ℕ) → l ≡ loadingOf (take (w .length) after) (lent to) f → next ≡ loadRamOf (take (w .length) after) to f → ComesBack c to l next
+  written-loads w after ew ea to same f right l next el en =
+      rw (el, en, image-front w after ew ea) (round-trip to same f right)

@@ -16,7 +16,7 @@ use Rattle.places.specs.Limits.{imageLimit, lent, lentLimit, locutusParagraphs}
 use Rattle.sums.specs.Crc.{crc324Of}
 use Rattle.header.specs.Laws.Header.{length-header}
 use Rattle.basics.specs.Rows.{Silent}
-use Rattle.tables.specs.Tables.{Tables, tablesPayload, tablesRows}
+use Rattle.tables.specs.Tables.{Tables, tablesPayload, mislent, tablesRows}
 use Rattle.hunk.specs.Hunk.{Hunk, hunkOf, address, countsIn, wordsOf, hunkPayload}
 use Rattle.hunk.specs.Laws.ReadBack.{payload-address, payload-words}
 use Rattle.hunk.specs.Laws.Smallest.{Recut, none-shorter, same-number}
@@ -110,20 +110,20 @@ least (and-hunk {h = h} {y = y} {hs = hs} {ys = ys} c r) (and-block f fs) (and-b
 
 -- the image of hunks that lie one behind the other in the words lent
 module _ (flags uid : List ℕ) (t : Tables) (hs : List Hunk) (z : Sized flags uid t) (short : length (imageFor flags uid t hs) ≤ imageLimit)
-    (ram : List ℕ) (supported : Silent (tablesRows flags (t .flips) (lent ram))) (w : Each (Lies (lent ram)) hs) (a b : ℕ) (rising : Rising a hs b) where
+    (ram : List ℕ) (f : ℕ) (supported : Silent (tablesRows flags (t .flips) (lent ram) f)) (w : Each (Lies (lent ram)) hs) (a b : ℕ) (rising : Rising a hs b) where
   abbrev image : List ℕ
   image = imageFor flags uid t hs
 
-  module _ (other : List ℕ) (r : Alike image other ram) where
-    left : Leaves other ram (loadingOf other (lent ram)) (loadRamOf other ram)
-    left = leaves other ram (r .loads)
+  module _ (other : List ℕ) (r : Alike image other ram f) where
+    left : Leaves other ram (loadingOf other (lent ram) f) (loadRamOf other ram f)
+    left = leaves other ram f (r .loads)
 
-    laid : loadRamOf other ram ≡ overlay (hunksIn (blocksIn other)) ram
+    laid : loadRamOf other ram f ≡ overlay (hunksIn (blocksIn other)) ram
     unfolding loadRamOf
     laid =
-        let n : refusalOf other (lent ram) .number ≡ 0 = rw answer-refusal at (r .loads) in
-        let f : loads other (lent ram) ≡ true = eq-eqb _ _ n in
-        rw f
+        let n : refusalOf other (lent ram) f .number ≡ 0 = rw answer-refusal at (r .loads) in
+        let go : loads other (lent ram) f ≡ true = eq-eqb _ _ n in
+        rw go
 
     octets : Each Bytes (blocksIn other)
     octets =
@@ -137,17 +137,17 @@ module _ (flags uid : List ℕ) (t : Tables) (hs : List Hunk) (z : Sized flags u
     -- behind the tables block
     behind : (ys : List (List ℕ)) → blocksIn other ≡ tablesBlock t ∷ ys → SameBlocks (map hunkBlock hs) ys → Each Filled ys → Each Block ys → Each Bytes ys → length image ≤ length other
     unfolding joined
-    behind ys e s f k o =
+    behind ys e s g k o =
         let c : Coded hs ys = coded-of hs s in
         let v : overlay (hunksIn ys) ram ≡ overlay hs ram =
-        ap (λ (gs : List Hunk). overlay gs ram) (sym (ap hunksIn e ∙ hunks-all flags uid t ys z)) ∙ sym laid ∙ r .words ∙ image-lays flags uid t hs z short ram supported w in
+        ap (λ (gs : List Hunk). overlay gs ram) (sym (ap hunksIn e ∙ hunks-all flags uid t ys z)) ∙ sym laid ∙ r .words ∙ image-lays flags uid t hs z short ram f supported w in
         let same-hunks : hunksIn ys ≡ hs = told (hunksIn ys) hs (places (omega arith) w c) rising w ram (omega arith) v in
         omega (
           arith,
           stops,
           ap (λ (xs : List (List ℕ)). length (flat xs)) e,
           length-append (tablesBlock t) (flat ys),
-          least c f k o same-hunks,
+          least c g k o same-hunks,
           length-image flags uid t hs,
           length-header flags uid (z .flags-long) (z .uid-long),
         )
@@ -160,30 +160,30 @@ module _ (flags uid : List ℕ) (t : Tables) (hs : List Hunk) (z : Sized flags u
 
     pub smallest : length image ≤ length other
     smallest =
-        at-tables (blocksIn other) refl (rw (image-blocks flags uid t hs z short ram supported w) at (r .blocks)) (left .filled) (reading other .each) octets
+        at-tables (blocksIn other) refl (rw (image-blocks flags uid t hs z short ram f supported w) at (r .blocks)) (left .filled) (reading other .each) octets
 
 -- so of chosen paragraphs, as writer and builder have them
 pub chosen-smallest :
-    (flags uid : List ℕ) (t : Tables) (on : ℕ → Bool) (words : ℕ → List ℕ) (ram : List ℕ) → Sized flags uid t
-    → length (imageFor flags uid t (chosen locutusParagraphs on words)) ≤ imageLimit → Silent (tablesRows flags (t .flips) (lent ram))
-    → EachLies (lent ram) locutusParagraphs on words → (other : List ℕ) → Alike (imageFor flags uid t (chosen locutusParagraphs on words)) other ram
+    (flags uid : List ℕ) (t : Tables) (on : ℕ → Bool) (words : ℕ → List ℕ) (ram : List ℕ) (f : ℕ) → Sized flags uid t
+    → length (imageFor flags uid t (chosen locutusParagraphs on words)) ≤ imageLimit → Silent (tablesRows flags (t .flips) (lent ram) f)
+    → EachLies (lent ram) locutusParagraphs on words → (other : List ℕ) → Alike (imageFor flags uid t (chosen locutusParagraphs on words)) other ram f
     → length (imageFor flags uid t (chosen locutusParagraphs on words)) ≤ length other
-chosen-smallest flags uid t on words ram z short supported c other r =
+chosen-smallest flags uid t on words ram f z short supported c other r =
     let hs : List Hunk = chosen locutusParagraphs on words in
     let w : Each (Lies (lent ram)) hs = chosen-each on words locutusParagraphs c in
-    smallest flags uid t hs z short ram supported w 0 _ (rising-chosen on words locutusParagraphs (λ p h e. c p h e .whole)) other r
+    smallest flags uid t hs z short ram f supported w 0 _ (rising-chosen on words locutusParagraphs (λ p h e. c p h e .whole)) other r
 
 -- what the writer accepts is written so
 module _ (out : List ℕ) (c : Content) (z : Sized (c .flags) (c .uid) (c .tables)) (e : writingOf out c .refusal .number ≡ 0) where
   pub written-smallest :
       (w : Writing) (after : List ℕ) → w ≡ writingOf out c → after ≡ writtenOf out c → (to : List ℕ) → length to ≡ length (c .ram)
-      → (other : List ℕ) → Alike (take (w .length) after) other to → w .length ≤ length other
-  written-smallest w after ew ea to same-long other r =
+      → (f : ℕ) → mislent (c .flags) f ≡ false → (other : List ℕ) → Alike (take (w .length) after) other to f → w .length ≤ length other
+  written-smallest w after ew ea to same-long f right other r =
       let a : Accepted out c = accepted out c z e in
       let k : w .length ≡ length (imageBy c) = ap (λ (x : Writing). x .length) (ew ∙ a .answer) in
-      let s : Alike (imageBy c) other to = rw (image-front out c z e w after ew ea) at r in
+      let s : Alike (imageBy c) other to f = rw (image-front out c z e w after ew ea) at r in
       omega (
         arith,
-        chosen-smallest (c .flags) (c .uid) (c .tables) (isMarked (c .marks)) (paragraphOf (c .ram)) to z (a .short) (supported-in out c z e to same-long)
+        chosen-smallest (c .flags) (c .uid) (c .tables) (isMarked (c .marks)) (paragraphOf (c .ram)) to f z (a .short) (supported-in out c z e to same-long f right)
             (marked-lie out c z e to same-long) other s,
       )

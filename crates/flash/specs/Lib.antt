@@ -1,0 +1,7 @@
+-- Saved games: what a command leaves of the lent memories; the registers; the plain flash, and how a lent one shows it.
+pub mod Flash
+pub mod Registers
+pub mod Plain
+pub mod Shown
+pub mod Kept
+pub mod Laws
