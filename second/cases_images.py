@@ -189,6 +189,18 @@ def feature_edges() -> Iterator[Image]:
         yield f"LW-3 field 3, {lent} words lent", simple(bits=jlp_flags(3)), lent, 3
 
 
+def flash_edges() -> Iterator[tuple[str, bytes, int, int, int]]:
+    """Give sizes and lent flash at their edges, and what comes before 13 (02, W-209; READINGS LW-2 to LW-6)."""
+    for jlp in range(4):
+        for size in (0, 1, 2, 681, 682, 683, 1023):
+            right = 768 * size
+            for flash in sorted({0, 1, 8, 768, right - 1, right, right + 1, 96 * size, 2 * right} - {-1}):
+                if size < 3 or flash < 524_600 and flash in (0, right, right - 1, right + 1):
+                    yield f"LW-4 LW-5 field {jlp}, size {size}, {flash} words of flash", simple(bits=jlp_flags(jlp, size)), 73_600, 3, flash
+        yield f"LW-2 11 before 13: field {jlp}", simple(bits=jlp_flags(jlp, 683)), 73_599, 3, 768
+        yield f"LW-2 10 before 13: field {jlp}", simple(bits=jlp_flags(jlp, 683, 1 << 32)), 73_600, 3, 768
+
+
 def large_edges() -> Iterator[Image]:
     """Give the readings on limits and large RAMs (READINGS L1, L11, L12)."""
     small = simple(hunk_block(1, hunk.block_16([7, 8])))
@@ -218,13 +230,13 @@ def random_image(g: Generator, ram_length: int) -> tuple[str, bytes]:
 def load_cases(g: Generator) -> Iterator[Case]:
     """Give the edges, then random images (01, File layout)."""
     for edges in (data_edges(), bit_edges(), block_edges(), hunk_edges(), field_edges(), readable_edges(),
-                  feature_edges(), large_edges()):
-        for label, image, ram_length, ram_seed in edges:
-            yield (label, *load_record(image, (ram_length, ram_seed)))
+                  feature_edges(), flash_edges(), large_edges()):
+        for label, image, ram_length, ram_seed, *flash in edges:
+            yield (label, *load_record(image, (ram_length, ram_seed), *flash))
     for _ in range(1000):
         ram_length = 73_600 if g.one_in(30) else g.pick(RAM_SIZES)
         label, image = random_image(g, ram_length)
-        yield (label, *load_record(image, (ram_length, g.between(1, 9))))
+        yield (label, *load_record(image, (ram_length, g.between(1, 9)), g.pick([0, 0, 768])))
 
 
 def card_cases(g: Generator) -> Iterator[Case]:
@@ -238,6 +250,7 @@ def card_cases(g: Generator) -> Iterator[Case]:
     images += [(f"W205-4 two blocks at {first}", simple(hunk_block(first, two))) for first in range(16_380, 16_385)]
     images += [(f"W205-2 {size} bytes", simple(DraftBlock(2, two[:size]))) for size in range(4)]
     images += [("W205-3 reserved", simple(hunk_block(0, two + b"\x00" + two)))]
+    images += [(f"LW-8 field {jlp}, size {size}", simple(bits=jlp_flags(jlp, size))) for jlp in range(4) for size in (0, 1, 683)]
     images += [random_image(g, 16_384) for _ in range(150)]
     for label, image in images:
         yield (label, *card_record(image))
@@ -249,7 +262,7 @@ def marks_of(paragraphs: set[int]) -> bytes:
 
 
 def write_edges() -> Iterator[Case]:
-    """Give limits and the order 10, 11, 9, 1, 29 (01, The plain writer; READINGS B7, L12, LW-7)."""
+    """Give limits and the order 10, 11, 13, 9, 1, 29 (01, The plain writer; READINGS B7, L12, LW-7)."""
     none, mapper, tables = bytes(24), bytes(4) + b"\x01" + bytes(19), bytes(1280)
     for jlp in (1, 2, 3):
         for size in (0, 1, 682, 683):

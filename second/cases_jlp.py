@@ -5,7 +5,7 @@ from typing import Iterator
 
 from cases_images import Case, jlp_flags
 from encode import random_tables
-from families import machine_record
+from families import Kept, machine_record
 from generator import Generator
 from jlp import CRC, CRC_DATA, HIGH, LOW, OPERANDS, RAM, TURN_OFF, TURN_ON
 from tables import BANKSW, READ, WRITE, Tables
@@ -136,7 +136,7 @@ def jlp_case(g: Generator) -> Case:
     lent = g.pick([ram[0], ram[0], ram[0], JLP_RAM - 1, 0x10040, 0x10041, 0x11000, 100])
     image = compose(jlp_flags(jlp).to_bytes(16, "little"), bytes(8), tables, [])
     accesses = paired([random_jlp_access(g) for _ in range(120)])
-    return (f"JLP field {jlp}, {lent} words lent", *machine_record(image, ram, lent, accesses))
+    return (f"JLP field {jlp}, {lent} words lent", *machine_record(image, ram, lent, Kept(), accesses))
 
 
 def jlp_cases(g: Generator) -> Iterator[Case]:
@@ -144,6 +144,6 @@ def jlp_cases(g: Generator) -> Iterator[Case]:
     for edges in (switch_edges(), window_edges(), request_edges(), arithmetic_edges(), crc_edges()):
         for label, jlp, tables, accesses in edges:
             image = compose(jlp_flags(jlp).to_bytes(16, "little"), bytes(8), tables, [])
-            yield (label, *machine_record(image, (JLP_RAM, 3), JLP_RAM, accesses))
+            yield (label, *machine_record(image, (JLP_RAM, 3), JLP_RAM, Kept(), accesses))
     for _ in range(70):
         yield jlp_case(g)

@@ -4,7 +4,7 @@ from typing import Iterable, Iterator
 
 from cases_images import Case
 from encode import random_tables
-from families import machine_record
+from families import Kept, machine_record
 from generator import Generator
 from tables import BANKSW, READ, WRITE, Tables
 from titles import Access, random_accesses
@@ -23,7 +23,7 @@ def row_edges() -> Iterator[Case]:
                     accesses += [(0, 256 * paragraph + 7, 0), (1, 256 * paragraph + 7, value), (0, 256 * paragraph + 7, 0)]
                     accesses.append((0, 256 * (0x60 + paragraph) + 7, 0))
             image = compose(bytes(16), bytes(8), tables, [])
-            yield (f"W203-1 row {row:03b}, reserved {reserved:#04x}", *machine_record(image, (2048, 3), 2048, accesses))
+            yield (f"W203-1 row {row:03b}, reserved {reserved:#04x}", *machine_record(image, (2048, 3), 2048, Kept(), accesses))
 
 
 def looks(half_page: int) -> list[Access]:
@@ -110,7 +110,7 @@ def machine_case(g: Generator, which: int) -> Case:
     image = compose(bytes(16), bytes(8), tables, [])
     lent = g.below(ram_length + 1) if g.one_in(8) else ram_length
     accesses = random_accesses(g, [g.below(16), g.below(5)], 100)
-    return (f"RAM of {ram_length} words, {lent} lent", *machine_record(image, (ram_length, ram_seed), lent, accesses))
+    return (f"RAM of {ram_length} words, {lent} lent", *machine_record(image, (ram_length, ram_seed), lent, Kept(), accesses))
 
 
 def machine_cases(g: Generator) -> Iterator[Case]:
@@ -118,6 +118,6 @@ def machine_cases(g: Generator) -> Iterator[Case]:
     yield from row_edges()
     for edges, ram in ((bank_edges(), (65_536, 3)), (bank_and_flip_edges(), (16_384, 4)), (count_edges(), (16, 4))):
         for label, tables, accesses in edges:
-            yield (label, *machine_record(compose(bytes(16), bytes(8), tables, []), ram, ram[0], accesses))
+            yield (label, *machine_record(compose(bytes(16), bytes(8), tables, []), ram, ram[0], Kept(), accesses))
     for which in range(300):
         yield machine_case(g, which)

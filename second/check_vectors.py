@@ -4,7 +4,7 @@ import sys
 from pathlib import Path
 
 import families
-from families import Filled, Laid
+from families import Filled, Kept, Laid
 from generator import fill_bytes
 from titles import Access, Title
 
@@ -38,6 +38,11 @@ class Cursor:
         """Read a length and a seed (README.md, Fills)."""
         return self.number(4), self.number(4)
 
+    def kept(self) -> Kept:
+        """Read flash and how much of it is lent (README.md, machine)."""
+        base = self.data[self.place + 4]
+        return Kept(self.fill()[0], self.number(4), self.number(4), base)
+
     def accesses(self) -> list[Access]:
         """Read accesses, leaving out the words that answer reads (README.md, Records)."""
         found = []
@@ -64,10 +69,10 @@ class Cursor:
 
 AGAIN = {
     "sums": lambda c: families.sums_record(*c.fill()),
-    "load": lambda c: families.load_record(c.fill()[0], c.filled()),
+    "load": lambda c: families.load_record(c.fill()[0], c.filled(), c.number(4)),
     "card": lambda c: families.card_record(c.fill()[0]),
-    "machine": lambda c: families.machine_record(c.fill()[0], c.filled(), c.number(4), c.accesses()),
-    "jlp": lambda c: families.machine_record(c.fill()[0], c.filled(), c.number(4), c.accesses()),
+    "machine": lambda c: families.machine_record(c.fill()[0], c.filled(), c.number(4), c.kept(), c.accesses()),
+    "jlp": lambda c: families.machine_record(c.fill()[0], c.filled(), c.number(4), c.kept(), c.accesses()),
     "write": lambda c: families.write_record(c.raw(24), c.fill()[0], c.filled(), c.laid(), c.fill()[0], c.filled()),
     "cfg": lambda c: families.build_record(c.title(), c.filled()),
     "build": lambda c: families.build_record(c.title(), c.filled()),

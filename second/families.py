@@ -1,5 +1,8 @@
 """One record of each family, from its inputs alone (README.md, Families)."""
 
+from dataclasses import dataclass
+from struct import unpack
+
 from builder import build, checked_entries, make_image
 from card import card
 from checksums import crc32, crc32_4, dowcrc
@@ -24,11 +27,11 @@ def sums_record(data: bytes, seed: int) -> Answered:
     return 0, record.finished()
 
 
-def load_record(image: bytes, ram: Filled) -> Answered:
-    """Load an image (README.md, load)."""
+def load_record(image: bytes, ram: Filled, flash: int = 0) -> Answered:
+    """Load an image, with so many words of flash lent (README.md, load)."""
     words = list(fill_words(*ram))
-    answer = load(image, words)
-    record = Record().fill(image).number(4, *ram).number(1, answer.number)
+    answer = load(image, words, flash)
+    record = Record().fill(image).number(4, *ram, flash).number(1, answer.number)
     record.number(4, answer.place, answer.blocks, answer.words).number(1, *answer.fields)
     record.number(4, digest(answer.tables.payload()), digest_words(words)).number(2, answer.tables.readable())
     return answer.number, record.finished()
@@ -41,19 +44,30 @@ def card_record(image: bytes) -> Answered:
     return code, Record().fill(image).number(2, len(text)).raw(text.encode()).finished()
 
 
-def machine_record(image: bytes, ram: Filled, words_lent: int, accesses: list[Access]) -> Answered:
-    """Load an image and make accesses with the RAM's first words lent (README.md, machine)."""
-    words = list(fill_words(*ram))
-    loaded = load(image, words)
+@dataclass
+class Kept:
+    """Flash as bytes, and how many words of it are lent to the load and to the accesses (README.md, machine)."""
+
+    data: bytes = b""
+    at_load: int = 0
+    lent: int = 0
+    base: int = 0
+
+
+def machine_record(image: bytes, ram: Filled, words_lent: int, kept: Kept, accesses: list[Access]) -> Answered:
+    """Load an image and make accesses with the first words of RAM and flash lent (README.md, machine)."""
+    words, flash = list(fill_words(*ram)), list(unpack(f"<{len(kept.data) // 2}H", kept.data))
+    loaded = load(image, words, kept.at_load)
     if loaded.number:
         raise SystemExit(f"a machine's image gives {loaded.number}")
-    machine, lent_words = Machine(loaded.tables, loaded.flags), words[:words_lent]
-    answers = play_machine(machine, lent_words, accesses)
-    words[:words_lent] = lent_words
+    machine, lent_words, lent_flash = Machine(loaded.tables, loaded.flags), words[:words_lent], flash[:kept.lent]
+    answers = play_machine(machine, lent_words, accesses, lent_flash)
+    words[:words_lent], flash[:kept.lent] = lent_words, lent_flash
     active = Tables(machine.mapping, machine.permissions, machine.initial.flips)
-    record = Record().fill(image).number(4, *ram, words_lent).accesses(accesses, answers)
-    record.number(4, digest(active.payload()), digest_words(words)).number(2, machine.readable)
-    return loaded.number, record.number(1, machine.jlp.on).finished()
+    record = Record().fill(image).number(4, *ram, words_lent).fill(kept.data, kept.base)
+    record.number(4, kept.at_load, kept.lent).accesses(accesses, answers)
+    record.number(4, digest(active.payload()), digest_words(words), digest_words(flash)).number(2, machine.readable)
+    return 0, record.number(1, machine.jlp.on).finished()
 
 
 def write_record(head: bytes, tables: bytes, ram: Filled, laid: Laid, marks: bytes, buffer: Filled) -> Answered:

@@ -2,6 +2,7 @@
 
 from typing import MutableSequence, Optional
 
+from flash import Flash
 from load import jlp_field, lent
 
 WINDOW, RAM = range(0x8000, 0xA000), range(0x8040, 0x9F80)
@@ -42,12 +43,13 @@ def crc_step(crc: int, word: int) -> int:
 
 
 class Jlp:
-    """The switch, twelve operands, two result words and the CRC (02, W-206)."""
+    """The switch, twelve operands, two result words, the CRC and flash's registers (02, W-206, W-209)."""
 
     def __init__(self, flags: bytes) -> None:
         self.field = jlp_field(flags)
         self.operands = [0] * 12
         self.low = self.high = self.crc = 0
+        self.flash = Flash(flags)
         self.reset()
 
     def reset(self) -> None:
@@ -69,13 +71,13 @@ class Jlp:
         return self.on and address in WINDOW
 
     def read(self, ram: MutableSequence[int], address: int) -> Optional[int]:
-        """Read RAM, results or CRC; all else is silent (02, W-206; READINGS W206-15)."""
+        """Read RAM, results, CRC or flash's rows; all else is silent (02, W-206; READINGS W206-15)."""
         if address in RAM:
             return ram[address + TO_LOCUTUS] if address + TO_LOCUTUS < lent(ram) else None
-        return {LOW: self.low, HIGH: self.high, CRC: self.crc}.get(address)
+        return {LOW: self.low, HIGH: self.high, CRC: self.crc}.get(address, self.flash.read(address))
 
-    def write(self, ram: MutableSequence[int], address: int, value: int) -> None:
-        """Write RAM, an operand or the CRC; all else stores nothing (02, W-206)."""
+    def write(self, ram: MutableSequence[int], flash: MutableSequence[int], address: int, value: int) -> None:
+        """Write RAM, an operand, the CRC or flash's registers; all else stores nothing (02, W-206, W-209)."""
         if address in RAM and address + TO_LOCUTUS < lent(ram):
             ram[address + TO_LOCUTUS] = value
         elif address in OPERANDS:
@@ -85,6 +87,8 @@ class Jlp:
             self.crc = crc_step(self.crc, value)
         elif address == CRC:
             self.crc = value
+        else:
+            self.flash.write(ram, flash, address, value)
 
     def compute(self, function: int) -> None:
         """Run a function on its two operands; divisor 0 leaves the results (02, W-206; READINGS W206-9 to W206-11)."""

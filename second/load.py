@@ -1,7 +1,7 @@
-"""Loading a version 1 image into a lent RAM (01, File layout and refusals 1 to 11)."""
+"""Loading a version 1 image into a lent RAM (01, File layout and refusals 1 to 13)."""
 
 from dataclasses import dataclass, field
-from typing import Iterator, MutableSequence
+from typing import Iterator, MutableSequence, Optional
 
 import hunk
 from checksums import crc32_4, dowcrc
@@ -12,6 +12,7 @@ HEADER, BLOCK_HEADER = 32, 8
 IMAGE_LIMIT = 2_097_152
 LOCUTUS_WORDS = 524_288
 JLP_WORDS = 73_600
+MOST_SECTORS, SECTOR_WORDS = 682, 768
 MAGIC = b"\x4C\x54\x4F"
 NOT_STATED = 4
 ENDED, ENCRYPTED, TABLES, DATA_HUNK = 0xFF, 0x00, 0x01, 0x02
@@ -104,16 +105,19 @@ def flash_size(flags: bytes) -> int:
     return int.from_bytes(flags[:4], "little") >> 22
 
 
-def check_features(flags: bytes, tables: Tables, words_lent: int) -> None:
-    """Ask 10, then 11 (02, W-206; READINGS LW-1, LW-3)."""
+def check_features(flags: bytes, tables: Tables, words_lent: int, flash_lent: Optional[int] = None) -> None:
+    """Ask 10, 11, 13; with no flash given, 13 by the size alone (02, W-206, W-209; READINGS LW-1 to LW-5)."""
     chapter_1 = any(tables.flips[16 + page] & PFE for page in range(16))
-    if chapter_1 or flags[4] & 1 or jlp_field(flags) >= 2 and flash_size(flags):
+    if chapter_1 or flags[4] & 1:
         raise Refused(10, 0)
     if jlp_field(flags) and words_lent < JLP_WORDS:
         raise Refused(11, 0)
+    size = flash_size(flags)
+    if jlp_field(flags) >= 2 and (size > MOST_SECTORS or flash_lent not in (None, SECTOR_WORDS * size)):
+        raise Refused(13, 0)
 
 
-def accept(image: bytes, ram: MutableSequence[int]) -> Loaded:
+def accept(image: bytes, ram: MutableSequence[int], flash_lent: Optional[int]) -> Loaded:
     """Ask everything, and only then store the hunks in file order (01, Load order)."""
     check_header(image)
     found, hunks, blocks = None, [], 0
@@ -129,7 +133,7 @@ def accept(image: bytes, ram: MutableSequence[int]) -> Loaded:
     if found is None:
         raise Refused(8, len(image))
     flags = image[4:20]
-    check_features(flags, found, lent(ram))
+    check_features(flags, found, lent(ram), flash_lent)
     for address, words in hunks:
         for place, word in enumerate(words):
             ram[address + place] = word
@@ -137,9 +141,9 @@ def accept(image: bytes, ram: MutableSequence[int]) -> Loaded:
     return Loaded(0, 0, blocks, stored, compatibility(flags), found, flags)
 
 
-def load(image: bytes, ram: MutableSequence[int]) -> Loaded:
-    """Load the image, or answer number and place with the RAM untouched (01)."""
+def load(image: bytes, ram: MutableSequence[int], flash_lent: Optional[int] = 0) -> Loaded:
+    """Load the image, or answer number and place with the RAM untouched; flash_lent as in check_features (01)."""
     try:
-        return accept(image, ram)
+        return accept(image, ram, flash_lent)
     except Refused as refused:
         return Loaded(refused.number, refused.place)

@@ -74,12 +74,12 @@ class Machine:
         """Tell whether a page request acts (01, The machine)."""
         return entry is not None and entry >= 32 and self.initial.flips[entry] & PFE != 0
 
-    def write(self, ram: MutableSequence[int], address: int, value: int) -> int:
+    def write(self, ram: MutableSequence[int], flash: MutableSequence[int], address: int, value: int) -> int:
         """Give the write to its one taker, and count the mapping entries assigned (READINGS ALL-1; 02, W-212)."""
         if self.jlp.switched(address, value):
             return 0
         if self.jlp.has(address):
-            self.jlp.write(ram, address, value)
+            self.jlp.write(ram, flash, address, value)
             return 0
         half_page, entry = half_page_of(address), asked_entry(address, value)
         if half_page is not None and self.permissions[8 * half_page] & BANKSW:

@@ -4,8 +4,8 @@ import sys
 from collections import Counter
 from pathlib import Path
 
+import cases_flash
 import cases_images
-import cases_jlp
 import cases_machine
 import cases_titles
 from generator import Generator
@@ -17,7 +17,7 @@ FAMILIES = {
     "load": cases_images.load_cases,
     "card": cases_images.card_cases,
     "machine": cases_machine.machine_cases,
-    "jlp": cases_jlp.jlp_cases,
+    "jlp": cases_flash.cases,
     "write": cases_images.write_cases,
     "cfg": cases_titles.cfg_cases,
     "build": cases_titles.build_cases,

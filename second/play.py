@@ -29,6 +29,8 @@ def play_plain(cartridge: PlainCartridge, accesses: list[Access]) -> Answers:
     return play(cartridge.read, cartridge.write, cartridge.reset, accesses)
 
 
-def play_machine(machine: Machine, ram: MutableSequence[int], accesses: list[Access]) -> Answers:
-    """Answer as the machine with its lent RAM (01, The machine)."""
-    return play(partial(machine.read, ram), partial(machine.write, ram), machine.reset, accesses)
+def play_machine(machine: Machine, ram: MutableSequence[int], accesses: list[Access],
+                 flash: Optional[MutableSequence[int]] = None) -> Answers:
+    """Answer as the machine with its lent RAM and flash (01, The machine; 02, W-209)."""
+    kept = [] if flash is None else flash
+    return play(partial(machine.read, ram), partial(machine.write, ram, kept), machine.reset, accesses)

@@ -103,7 +103,7 @@ def check_rows() -> Iterator[Check]:
             tables.permissions[0x51] = read | write_bit << 1 | narrow << 2 | reserved
             machine = Machine(tables)
             yield "row is heard", machine.read(ram, 0x5100) == (0x12FF if heard else None)
-            machine.write(ram, 0x5100, 0xABCD)
+            machine.write(ram, [], 0x5100, 0xABCD)
             yield "row stores", ram == [left]
 
 
@@ -142,7 +142,7 @@ def check_switches(g: Generator, rounds: int) -> Iterator[Check]:
             elif operation == 1:
                 before, mapping, permissions = list(ram), list(one.mapping), list(one.permissions)
                 half_page = half_page_of(address)
-                assigned = one.write(ram, address, value)
+                assigned = one.write(ram, [], address, value)
                 acted = write_by_001(other, address, value)
                 yield "001's pseudo-code", (one.mapping, one.permissions) == (other.mapping, other.permissions)
                 yield "a write that acts stores nothing", not acted or ram == before
@@ -154,6 +154,79 @@ def check_switches(g: Generator, rounds: int) -> Iterator[Check]:
                 if acted and half_page is not None:
                     at = 2048 * half_page + g.below(2048)
                     yield "Intellicart address", one.location(at) == ((at & 0x07FF) + (value << 8)) & 0xFFFF
+
+
+def crc_by_000(crc: int, word: int) -> int:
+    """Take a word into the CRC as 000's assembly does, by its printed table (000, Reference Code)."""
+    crc ^= word
+    for _ in range(2):
+        index = crc & 0xFF
+        crc = (crc >> 8 | crc << 8 & 0xFF00) ^ CRC_TABLE[index]
+    return crc
+
+
+def check_jlp(g: Generator, rounds: int) -> Iterator[Check]:
+    """Run the CRC by 000's table, and arithmetic by what it must satisfy (000; 02, W-206)."""
+    for byte in range(256):
+        yield "CRC table", crc_step(0, byte << 8) == CRC_TABLE[byte] ^ byte << 8
+    for _ in range(rounds):
+        crc, word = g.below(65536), g.below(65536)
+        yield "CRC by 000's assembly", crc_step(crc, word) == crc_by_000(crc, word)
+        jlp, a, b = Jlp(b"\x00\x00\x01" + bytes(13)), g.pick([g.below(65536), g.pick(CORNERS)]), g.pick([g.below(65536), g.pick(CORNERS)])
+        sa, sb = int.from_bytes(a.to_bytes(2, "big"), "big", signed=True), int.from_bytes(b.to_bytes(2, "big"), "big", signed=True)
+        for function, (x, y) in enumerate(((sa, sb), (sa, b), (a, sb), (a, b), (sa, sb), (a, b))):
+            jlp.low, jlp.high = 0x1234, 0x5678
+            for address, value in g.shuffled([(0x9F80 + 2 * function, a), (0x9F81 + 2 * function, b)]):
+                jlp.write([], [], address, value)
+            if function < 4:
+                yield "product", (jlp.high << 16 | jlp.low) == x * y & 0xFFFFFFFF
+            elif b == 0:
+                yield "divisor 0", (jlp.low, jlp.high) == (0x1234, 0x5678)
+            elif (x, y) == (-32768, -1):
+                yield "-32,768 by -1", (jlp.low, jlp.high) == (0x8000, 0)
+            else:
+                quotient = signed(jlp.low) if function == 4 else jlp.low
+                rest = signed(jlp.high) if function == 4 else jlp.high
+                yield "division", quotient * y + rest == x and abs(rest) < abs(y) and rest * x >= 0
+
+
+class PlainRows:
+    """A list of rows, as 02 has flash in words: read, write where empty, erase eight (02, W-209)."""
+
+    def __init__(self, sectors: int, words: list[int]) -> None:
+        self.rows = [words[96 * row:96 * row + 96] for row in range(8 * sectors)]
+
+    def run(self, command: str, row: int, addr: int, ram: dict[int, int]) -> None:
+        """Run a command on RAM by console address, or drop it."""
+        if row >= len(self.rows) or command != "erase" and not 0x8040 <= addr <= 0x9F7F - 95:
+            return
+        if command == "read":
+            ram.update({addr + n: word for n, word in enumerate(self.rows[row])})
+        elif command == "write" and set(self.rows[row]) == {0xFFFF}:
+            self.rows[row] = [ram[addr + n] for n in range(96)]
+        elif command == "erase":
+            for which in range(len(self.rows)):
+                if which // 8 == row // 8:
+                    self.rows[which] = [0xFFFF] * 96
+
+
+def check_flash(g: Generator, rounds: int) -> Iterator[Check]:
+    """Run commands beside a plain list of rows (02, W-209)."""
+    commands = {"read": (0x802E, 0xDEC0), "write": (0x802D, 0xC0DE), "erase": (0x802F, 0xBEEF)}
+    for _ in range(rounds):
+        sectors, ram = g.between(1, 3), list(fill_words(73_600, g.between(1, 9)))
+        flash = [0xFFFF] * 768 * sectors
+        for row in range(g.below(6)):
+            flash[96 * row * 3 % len(flash)] = g.below(65536)
+        rows, console = PlainRows(sectors, list(flash)), {a: ram[a + 0x8000] for a in range(0x8040, 0x9F80)}
+        machine = Machine(Tables(), (3 << 16 | sectors << 22).to_bytes(16, "little"))
+        for _ in range(40):
+            addr, row, command = g.pick([0x803F, 0x8040, 0x9F20, 0x9F21, g.below(65536), 0x8040 + g.below(7000)]), g.below(8 * sectors + 2), g.pick(list(commands))
+            for address, value in ((0x8025, addr), (0x8026, row), commands[command]):
+                machine.write(ram, flash, address, value)
+            rows.run(command, row, addr, console)
+            yield "flash as rows", flash == [word for row_words in rows.rows for word in row_words]
+            yield "RAM as rows", ram[0x10040:0x11F80] == list(console.values())
 
 
 def carried(pack: Callable[[list[int]], bytes], words: list[int]) -> list[bytes]:
@@ -179,40 +252,6 @@ def check_forms(g: Generator, rounds: int) -> Iterator[Check]:
         packed = hunk.encode(256, paragraph)
         yield "same words", hunk.decode(packed) == (256, paragraph)
         yield "same cuts", [len(more or []) for _, more in hunk.data_blocks(packed)] == [62, 62, 62, 62, 8]
-
-
-def crc_by_000(crc: int, word: int) -> int:
-    """Take a word into the CRC as 000's assembly does, by its printed table (000, Reference Code)."""
-    crc ^= word
-    for _ in range(2):
-        index = crc & 0xFF
-        crc = (crc >> 8 | crc << 8 & 0xFF00) ^ CRC_TABLE[index]
-    return crc
-
-
-def check_jlp(g: Generator, rounds: int) -> Iterator[Check]:
-    """Run the CRC by 000's table, and arithmetic by what it must satisfy (000; 02, W-206)."""
-    for byte in range(256):
-        yield "CRC table", crc_step(0, byte << 8) == CRC_TABLE[byte] ^ byte << 8
-    for _ in range(rounds):
-        crc, word = g.below(65536), g.below(65536)
-        yield "CRC by 000's assembly", crc_step(crc, word) == crc_by_000(crc, word)
-        jlp, a, b = Jlp(b"\x00\x00\x01" + bytes(13)), g.pick([g.below(65536), g.pick(CORNERS)]), g.pick([g.below(65536), g.pick(CORNERS)])
-        sa, sb = int.from_bytes(a.to_bytes(2, "big"), "big", signed=True), int.from_bytes(b.to_bytes(2, "big"), "big", signed=True)
-        for function, (x, y) in enumerate(((sa, sb), (sa, b), (a, sb), (a, b), (sa, sb), (a, b))):
-            jlp.low, jlp.high = 0x1234, 0x5678
-            for address, value in g.shuffled([(0x9F80 + 2 * function, a), (0x9F81 + 2 * function, b)]):
-                jlp.write([], address, value)
-            if function < 4:
-                yield "product", (jlp.high << 16 | jlp.low) == x * y & 0xFFFFFFFF
-            elif b == 0:
-                yield "divisor 0", (jlp.low, jlp.high) == (0x1234, 0x5678)
-            elif (x, y) == (-32768, -1):
-                yield "-32,768 by -1", (jlp.low, jlp.high) == (0x8000, 0)
-            else:
-                quotient = signed(jlp.low) if function == 4 else jlp.low
-                rest = signed(jlp.high) if function == 4 else jlp.high
-                yield "division", quotient * y + rest == x and abs(rest) < abs(y) and rest * x >= 0
 
 
 def built(bin_length: int, text: str) -> tuple:
@@ -299,7 +338,7 @@ def main() -> None:
     """Run every check, and say how many there were (01, Bench cases)."""
     g, ran = Generator(2019), 0
     for checks in (check_sums(), check_hunks(), check_cases_1_to_5(), check_cases_6_to_8(),
-                   check_faults(g, 1000), check_forms(g, 1000), check_pages(), check_fields(), check_rows(), check_switches(g, 300), check_jlp(g, 2000),
+                   check_faults(g, 1000), check_forms(g, 1000), check_pages(), check_fields(), check_rows(), check_switches(g, 300), check_jlp(g, 2000), check_flash(g, 60),
                    check_titles(g, 200),
                    check_round_trips(g, 500)):
         for name, passed in checks:

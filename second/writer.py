@@ -50,7 +50,7 @@ def put(image: bytes, buffer: bytearray) -> int:
 
 def write(flags: bytes, uid: bytes, tables: Tables, ram: MutableSequence[int],
           marks: Sequence[bool], buffer: bytearray) -> Written:
-    """Write a hunk for each marked paragraph, refusing 10, 11, 9, 1, 29 in order (01; 02, W-206)."""
+    """Write a hunk for each marked paragraph, refusing 10, 11, 13, 9, 1, 29 in order (01; 02, W-206, W-209)."""
     length = 0
     try:
         check_features(flags, tables, lent(ram))
