@@ -136,6 +136,14 @@ pub fn take_laid(rec: &[u8], at: usize, out: &mut [u16]) -> Taken {
     Taken { n: w.n, next }
 }
 
+// Words that stand as a fill of bytes, the lower byte of each first; the bytes are made in a room of their own.
+pub fn take_packed(rec: &[u8], at: usize, room: &mut [u8], out: &mut [u16]) -> Taken {
+    let f = take_bytes(rec, at, room);
+    let n = f.n / 2;
+    lay_words(room, 0, n, out, 0);
+    Taken { n, next: f.next }
+}
+
 pub fn take_buffer(rec: &[u8], at: usize, out: &mut [u8]) -> Taken {
     let n = least(get32(rec, at), out.len());
     let seed = get32(rec, after(at, 4)) as u32;

@@ -2,6 +2,7 @@
 use crate::digest::digest_tables;
 use crate::digest::digest_words;
 use crate::fill::take_bytes;
+use crate::fill::take_packed;
 use crate::fill::take_words;
 use crate::play::play_in;
 use crate::record::after;
@@ -63,21 +64,28 @@ pub fn readable_ends(rec: &[u8], at: usize, k: usize, c: Cartridge) -> bool {
     )
 }
 
-// The first n words of the RAM.
-pub fn same_ram(
+// The first n words of a RAM or a flash.
+pub fn same_words(
     want: usize,
     ieee: &[u32; 2048],
-    ram: &[u16],
+    words: &[u16],
     n: usize,
     scratch: &mut [u8],
 ) -> bool {
-    digest_words(ieee, front_words(ram, n), scratch) == want
+    digest_words(ieee, front_words(words, n), scratch) == want
 }
 
-// A load from the first bytes of an image into the first words of a RAM.
-fn load_in(image: &[u8], n: usize, ram: &mut [u16], words: usize) -> Loading {
-    let k = least(words, ram.len());
-    load::load(front(image, n), &mut ram[0..k])
+// A load from the first bytes of an image into the first words of a RAM, with the first k words of a flash.
+fn load_in(
+    image: &[u8],
+    n: usize,
+    ram: &mut [u16],
+    words: usize,
+    flash: &[u16],
+    k: usize,
+) -> Loading {
+    let w = least(words, ram.len());
+    load::load(front(image, n), &mut ram[0..w], front_words(flash, k))
 }
 
 // A load's answer, how many words of RAM it was lent, and the place of the record's next field.
@@ -87,14 +95,14 @@ struct Loaded {
     next: usize,
 }
 
-fn load_case(rec: &[u8], image: &mut [u8], ram: &mut [u16]) -> Loaded {
+fn load_case(rec: &[u8], image: &mut [u8], ram: &mut [u16], flash: &[u16]) -> Loaded {
     let f = take_bytes(rec, 4, image);
     let w = take_words(rec, f.next, ram);
-    let loading = load_in(image, f.n, ram, w.n);
+    let loading = load_in(image, f.n, ram, w.n, flash, get32(rec, w.next));
     Loaded {
         loading,
         words: w.n,
-        next: w.next,
+        next: after(w.next, 4),
     }
 }
 
@@ -112,11 +120,12 @@ pub fn load_agrees(
     image: &mut [u8],
     scratch: &mut [u8],
     ram: &mut [u16],
+    flash: &[u16],
 ) -> bool {
-    let x = load_case(rec, image, ram);
+    let x = load_case(rec, image, ram, flash);
     let at = x.next;
     let answer = same_load(rec, at, ieee, x.loading, scratch);
-    let stored = same_ram(get32(rec, after(at, 22)), ieee, ram, x.words, scratch);
+    let stored = same_words(get32(rec, after(at, 22)), ieee, ram, x.words, scratch);
     let l = x.loading;
     both(
         answer,
@@ -124,55 +133,101 @@ pub fn load_agrees(
     )
 }
 
-// A load and its accesses: the cartridge then, whether it loaded and every answer was the record's, how many words of RAM
-// were lent, and the place of the record's next field.
-pub struct Ran {
-    pub cartridge: Cartridge,
-    pub good: bool,
-    pub words: usize,
-    pub next: usize,
-}
-
-// How many words the accesses are lent: a number at its place in the record, where there is one, or all that the load was lent.
+// What a record lends: the words of its RAM, all to the load, and some to the accesses; the words of its flash, how many
+// words of flash the load is lent, and how many of its own the accesses. And the place of the record's next field.
 struct Lent {
-    words: usize,
+    ram: usize,
+    ram_then: usize,
+    flash: usize,
+    flash_at_load: usize,
+    flash_then: usize,
     next: usize,
 }
 
-fn lent_by(rec: &[u8], at: usize, all: usize, said: bool) -> Lent {
-    if said {
-        return Lent {
-            words: get32(rec, at),
-            next: after(at, 4),
-        };
-    }
+// A RAM lent whole, and no flash.
+fn take_ram(rec: &[u8], at: usize, ram: &mut [u16]) -> Lent {
+    let w = take_words(rec, at, ram);
     Lent {
-        words: all,
-        next: at,
+        ram: w.n,
+        ram_then: w.n,
+        flash: 0,
+        flash_at_load: 0,
+        flash_then: 0,
+        next: w.next,
     }
 }
 
-// The record's accesses on an image of n bytes, loaded into the record's RAM.
-pub fn run_image(
+// A RAM and a flash, each with how much of it is lent.
+fn take_lent(
     rec: &[u8],
     at: usize,
-    said: bool,
+    scratch: &mut [u8],
+    ram: &mut [u16],
+    flash: &mut [u16],
+) -> Lent {
+    let w = take_words(rec, at, ram);
+    let f = take_packed(rec, after(w.next, 4), scratch, flash);
+    Lent {
+        ram: w.n,
+        ram_then: get32(rec, w.next),
+        flash: f.n,
+        flash_at_load: get32(rec, f.next),
+        flash_then: get32(rec, after(f.next, 4)),
+        next: after(f.next, 8),
+    }
+}
+
+// A load and its accesses: the cartridge then, whether it loaded and every answer was the record's, how many words of RAM
+// and of flash the record has, and the place of its next field.
+pub struct Ran {
+    pub cartridge: Cartridge,
+    pub good: bool,
+    pub ram: usize,
+    pub flash: usize,
+    pub next: usize,
+}
+
+// The record's accesses on an image of n bytes, loaded.
+fn run_lent(
+    rec: &[u8],
+    k: Lent,
     image: &[u8],
     n: usize,
     ram: &mut [u16],
+    flash: &mut [u16],
 ) -> Ran {
-    let w = take_words(rec, at, ram);
-    let l = load_in(image, n, ram, w.n);
-    let k = lent_by(rec, w.next, w.n, said);
-    let p = play_in(rec, k.next, l.cartridge, ram, k.words);
+    let l = load_in(image, n, ram, k.ram, flash, k.flash_at_load);
+    let c = l.cartridge;
+    let p = play_in(rec, k.next, c, ram, k.ram_then, flash, k.flash_then);
     let cartridge = p.cartridge;
     let r = l.refusal;
     Ran {
         cartridge,
         good: both(r.number == 0, p.good),
-        words: w.n,
+        ram: k.ram,
+        flash: k.flash,
         next: p.next,
     }
+}
+
+// With a RAM alone, and with a flash beside it.
+pub fn run_title(rec: &[u8], at: usize, image: &[u8], n: usize, ram: &mut [u16]) -> Ran {
+    let k = take_ram(rec, at, ram);
+    let mut none = [0u16; 0];
+    run_lent(rec, k, image, n, ram, &mut none)
+}
+
+fn run_machine(
+    rec: &[u8],
+    at: usize,
+    image: &[u8],
+    n: usize,
+    scratch: &mut [u8],
+    ram: &mut [u16],
+    flash: &mut [u16],
+) -> Ran {
+    let k = take_lent(rec, at, scratch, ram, flash);
+    run_lent(rec, k, image, n, ram, flash)
 }
 
 // The readable paragraphs, and whether the accelerators are on; with these the record ends.
@@ -183,21 +238,46 @@ fn state_ends(rec: &[u8], at: usize, k: usize, c: Cartridge) -> bool {
     both(both(readable, on), ends(rec, after(at, k), 3))
 }
 
-// Accesses after a load: each answer, the active tables, the RAM, the readable paragraphs, and the accelerators.
+// All words of the RAM, and of the flash.
+fn same_stores(
+    rec: &[u8],
+    at: usize,
+    ieee: &[u32; 2048],
+    r: Ran,
+    ram: &[u16],
+    flash: &[u16],
+    scratch: &mut [u8],
+) -> bool {
+    let stored = same_words(get32(rec, at), ieee, ram, r.ram, scratch);
+    let kept = same_words(get32(rec, after(at, 4)), ieee, flash, r.flash, scratch);
+    both(stored, kept)
+}
+
+// What the accesses leave: the active tables, the RAM, the flash, the readable paragraphs, and the accelerators.
+fn same_end(
+    rec: &[u8],
+    ieee: &[u32; 2048],
+    r: Ran,
+    ram: &[u16],
+    flash: &[u16],
+    scratch: &mut [u8],
+) -> bool {
+    let at = r.next;
+    let tables = same_active(get32(rec, at), ieee, r.cartridge, scratch);
+    let stored = same_stores(rec, after(at, 4), ieee, r, ram, flash, scratch);
+    both(tables, both(stored, state_ends(rec, at, 12, r.cartridge)))
+}
+
+// Accesses after a load: each answer, and what they leave.
 pub fn machine_agrees(
     rec: &[u8],
     ieee: &[u32; 2048],
     image: &mut [u8],
     scratch: &mut [u8],
     ram: &mut [u16],
+    flash: &mut [u16],
 ) -> bool {
     let f = take_bytes(rec, 4, image);
-    let r = run_image(rec, f.next, true, image, f.n, ram);
-    let at = r.next;
-    let tables = same_active(get32(rec, at), ieee, r.cartridge, scratch);
-    let stored = same_ram(get32(rec, after(at, 4)), ieee, ram, r.words, scratch);
-    both(
-        both(r.good, tables),
-        both(stored, state_ends(rec, at, 8, r.cartridge)),
-    )
+    let r = run_machine(rec, f.next, image, f.n, scratch, ram, flash);
+    both(r.good, same_end(rec, ieee, r, ram, flash, scratch))
 }

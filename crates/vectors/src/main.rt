@@ -31,11 +31,11 @@ pub enum Family {
 
 const FAMILIES: usize = 9;
 
-// Room for any family's file, any image or buffer, and any RAM.
-fn file_room() -> [u8; 1048600]
-    ensures { λ r. ⌜ 1048600 ≡ length r ⌝ }
+// Room for any family's file or any buffer, for any image, and for any RAM or flash.
+fn buffer_room() -> [u8; 1082672]
+    ensures { λ r. ⌜ 1082672 ≡ length r ⌝ }
 {
-    [0; 1048600]
+    [0; 1082672]
 }
 
 fn image_room() -> [u8; 2097176]
@@ -44,10 +44,10 @@ fn image_room() -> [u8; 2097176]
     [0; 2097176]
 }
 
-fn word_room() -> [u16; 524300]
-    ensures { λ r. ⌜ 524300 ≡ length r ⌝ }
+fn word_room() -> [u16; 524545]
+    ensures { λ r. ⌜ 524545 ≡ length r ⌝ }
 {
-    [0; 524300]
+    [0; 524545]
 }
 
 // Whether the record, its length and its fields, agrees.
@@ -59,13 +59,14 @@ fn agrees(
     b: &mut [u8],
     cfg: &mut [u8],
     ram: &mut [u16],
+    flash: &mut [u16],
 ) -> bool {
     match family {
         Family::Sums => checksums::sums_agree(rec, a),
-        Family::Load => loads::load_agrees(rec, ieee, a, b, ram),
+        Family::Load => loads::load_agrees(rec, ieee, a, b, ram, flash),
         Family::Card => card::card_agrees(rec, ieee, a, b, ram),
-        Family::Machine => loads::machine_agrees(rec, ieee, a, b, ram),
-        Family::Jlp => loads::machine_agrees(rec, ieee, a, b, ram),
+        Family::Machine => loads::machine_agrees(rec, ieee, a, b, ram, flash),
+        Family::Jlp => loads::machine_agrees(rec, ieee, a, b, ram, flash),
         Family::Write => writes::write_agrees(rec, ieee, a, b, ram),
         Family::Cfg => titles::build_agrees(rec, ieee, a, cfg, b),
         Family::Build => titles::build_agrees(rec, ieee, a, cfg, b),
@@ -93,12 +94,16 @@ fn run(
     b: &mut [u8],
     cfg: &mut [u8],
     ram: &mut [u16],
+    flash: &mut [u16],
 ) -> Tally {
     let mut t = tally::nothing();
     let mut at = 0;
     while at < file.len() {
         let end = end_of(file, at);
-        t = tally::counted(t, agrees(family, &file[at..end], ieee, a, b, cfg, ram));
+        t = tally::counted(
+            t,
+            agrees(family, &file[at..end], ieee, a, b, cfg, ram, flash),
+        );
         at = end;
     }
     t
@@ -119,7 +124,24 @@ fn put_name(family: Family, out: &mut [u8]) -> usize {
     }
 }
 
-// Runs a family's file, NAME.vec, and prints its line. A file that is missing, or not read to its end, has no case.
+// Runs a family's records, and prints its line.
+fn run_records(
+    family: Family,
+    name: &[u8],
+    file: &[u8],
+    ieee: &[u32; 2048],
+    a: &mut [u8],
+    b: &mut [u8],
+    cfg: &mut [u8],
+    ram: &mut [u16],
+    flash: &mut [u16],
+) -> Tally {
+    let t = run(family, file, ieee, a, b, cfg, ram, flash);
+    tally::report(name, t);
+    t
+}
+
+// Reads a family's file, NAME.vec, and runs it. A file that is missing, or not read to its end, has no case.
 fn run_file(
     family: Family,
     ieee: &[u32; 2048],
@@ -128,6 +150,7 @@ fn run_file(
     b: &mut [u8],
     cfg: &mut [u8],
     ram: &mut [u16],
+    flash: &mut [u16],
 ) -> Tally {
     let mut name = [0u8; 16];
     let k = put_name(family, &mut name);
@@ -138,9 +161,17 @@ fn run_file(
         tally::not_run(front(&name, k));
         return tally::nothing();
     }
-    let t = run(family, front(file, n), ieee, a, b, cfg, ram);
-    tally::report(front(&name, k), t);
-    t
+    run_records(
+        family,
+        front(&name, k),
+        front(file, n),
+        ieee,
+        a,
+        b,
+        cfg,
+        ram,
+        flash,
+    )
 }
 
 fn family_of(k: usize) -> Family {
@@ -165,13 +196,14 @@ fn run_files(
     b: &mut [u8],
     cfg: &mut [u8],
     ram: &mut [u16],
+    flash: &mut [u16],
 ) {
     let ieee = sums::tables(sums::IEEE);
     let mut all = before;
     let mut had = 0;
     let mut k = 0;
     while k < FAMILIES {
-        let t = run_file(family_of(k), &ieee, file, a, b, cfg, ram);
+        let t = run_file(family_of(k), &ieee, file, a, b, cfg, ram, flash);
         had = tally::with_cases(had, t);
         all = tally::both_of(all, t);
         k += 1;
@@ -180,12 +212,21 @@ fn run_files(
 }
 
 fn main() {
-    let mut file = file_room();
+    let mut file = buffer_room();
     let mut a = image_room();
-    let mut b = image_room();
+    let mut b = buffer_room();
     let mut cfg = [0u8; 20480];
     let mut ram = word_room();
+    let mut flash = word_room();
     let first = checksums::vectors();
     tally::report(b"001", first);
-    run_files(first, &mut file, &mut a, &mut b, &mut cfg, &mut ram);
+    run_files(
+        first,
+        &mut file,
+        &mut a,
+        &mut b,
+        &mut cfg,
+        &mut ram,
+        &mut flash,
+    );
 }

@@ -22,7 +22,7 @@ fn is_answer(answer: Answer, value: u16, heard: usize) -> bool {
 }
 
 // One access: 0 reads, 1 writes, 2 resets. The record has what a read heard, and how many mapping entries a write assigned.
-fn access(rec: &[u8], at: usize, c: Cartridge, ram: &mut [u16]) -> Played {
+fn access(rec: &[u8], at: usize, c: Cartridge, ram: &mut [u16], flash: &mut [u16]) -> Played {
     let op = get8(rec, at);
     let place = Console(get16(rec, after(at, 1)) as u16);
     let value = get16(rec, after(at, 3)) as u16;
@@ -36,7 +36,7 @@ fn access(rec: &[u8], at: usize, c: Cartridge, ram: &mut [u16]) -> Played {
         };
     }
     if op == 1 {
-        let done = cart::write(c, ram, place, value);
+        let done = cart::write(c, ram, flash, place, value);
         let cartridge = done.cartridge;
         return Played {
             cartridge,
@@ -52,7 +52,7 @@ fn access(rec: &[u8], at: usize, c: Cartridge, ram: &mut [u16]) -> Played {
 }
 
 // The accesses of a record, their count first.
-fn play(rec: &[u8], at: usize, c: Cartridge, ram: &mut [u16]) -> Played {
+fn play(rec: &[u8], at: usize, c: Cartridge, ram: &mut [u16], flash: &mut [u16]) -> Played {
     let n = get16(rec, at);
     let mut now = Played {
         cartridge: c,
@@ -62,7 +62,7 @@ fn play(rec: &[u8], at: usize, c: Cartridge, ram: &mut [u16]) -> Played {
     let mut i = 0;
     while i < n {
         let before = now.cartridge;
-        let done = access(rec, now.next, before, ram);
+        let done = access(rec, now.next, before, ram, flash);
         let good = basics::both(now.good, done.good);
         now = done;
         now.good = good;
@@ -71,8 +71,17 @@ fn play(rec: &[u8], at: usize, c: Cartridge, ram: &mut [u16]) -> Played {
     now
 }
 
-// The accesses on the first n words of a RAM.
-pub fn play_in(rec: &[u8], at: usize, c: Cartridge, ram: &mut [u16], n: usize) -> Played {
-    let k = basics::least(n, ram.len());
-    play(rec, at, c, &mut ram[0..k])
+// The accesses on the first n words of a RAM and the first k of a flash.
+pub fn play_in(
+    rec: &[u8],
+    at: usize,
+    c: Cartridge,
+    ram: &mut [u16],
+    n: usize,
+    flash: &mut [u16],
+    k: usize,
+) -> Played {
+    let i = basics::least(n, ram.len());
+    let j = basics::least(k, flash.len());
+    play(rec, at, c, &mut ram[0..i], &mut flash[0..j])
 }

@@ -3,8 +3,8 @@ use crate::digest::digest;
 use crate::fill::take_buffer;
 use crate::fill::take_bytes;
 use crate::loads::readable_ends;
-use crate::loads::run_image;
-use crate::loads::same_ram;
+use crate::loads::run_title;
+use crate::loads::same_words;
 use crate::record::ends;
 use crate::record::front;
 use crate::record::get32;
@@ -92,8 +92,8 @@ pub fn bus_agrees(
     ram: &mut [u16],
 ) -> bool {
     let x = press(rec, bin, cfg, image);
-    let r = run_image(rec, x.next, false, image, x.length, ram);
-    let stored = same_ram(get32(rec, r.next), ieee, ram, r.words, image);
+    let r = run_title(rec, x.next, image, x.length, ram);
+    let stored = same_words(get32(rec, r.next), ieee, ram, r.ram, image);
     both(
         both(x.good, r.good),
         both(stored, readable_ends(rec, r.next, 4, r.cartridge)),

@@ -35,11 +35,15 @@ struct Given {
     buffer: usize,
 }
 
+// The cartridge of a record's flags and of these tables.
+fn cartridge_given(rec: &[u8], t: &[u8]) -> Cartridge {
+    let flags = flags_of(rec);
+    tables::cartridge_of(tables::jlp_of(&flags), t)
+}
+
 fn take_given(rec: &[u8], room: &mut [u8], ram: &mut [u16]) -> Given {
     let t = take_bytes(rec, 28, room);
-    let flags = flags_of(rec);
-    let field = header::jlp_field(&flags);
-    let cartridge = tables::cartridge_of(field, front(room, t.n));
+    let cartridge = cartridge_given(rec, front(room, t.n));
     let w = take_laid(rec, t.next, ram);
     let m = take_bytes(rec, w.next, room);
     let marks = marks_of(front(room, m.n));

@@ -6,7 +6,7 @@ use Rattle.vectors.proofs.word_room.Statement.{statement}
 use Rattle.vectors.proofs.word_room.Tie as tie
 
 returns : tie.Need-returns
-returns c = sym (length-replicate {A = ℕ} 524300 0)
+returns c = sym (length-replicate {A = ℕ} 524545 0)
 
 pub word-room-spec : {M : Type 1} → statement M
 word-room-spec = tie.close (tie.spec returns)
