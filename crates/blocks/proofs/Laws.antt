@@ -11,7 +11,6 @@ use mir.Val.{Fits}
 use mir.Syntax.{w64}
 use borrow.Author.Tests.{lt-ltb, le-ltb, ne-eqb, eq-eqb, le-leb, lt-leb}
 use Rattle.basics.specs.Lists.{part, putFront}
-use Rattle.basics.specs.Laws.Lists.{part-rest, drop-min}
 use Rattle.basics.specs.Laws.Puts.{put-room}
 use Rattle.basics.specs.Bytes.{at16}
 use Rattle.basics.specs.Refusals.{refuse, firstRefusal}
@@ -20,13 +19,15 @@ use Rattle.hunk.specs.declared.Checked.{Checked}
 use Rattle.hunk.specs.declared.Checked.the-variants.{Whole, Broken}
 use Rattle.hunk.specs.Hunk.{checkHunk}
 use Rattle.hunk.specs.Laws.Refusals.{whole-words, break-within}
+use Rattle.metadata.specs.Records.{isCut}
 use Rattle.blocks.specs.declared.Frame.{Frame}
 use Rattle.blocks.specs.declared.Frame.the-variants.{Over, Cut, Framed}
 use Rattle.blocks.specs.Frames.{cutAt, frameAt}
 use Rattle.blocks.specs.declared.Judged.{Judged}
 use Rattle.blocks.specs.Blocks.{typeOf, sizeSaid, sumSaid, payloadIn, isHunk, frameOf, putFrame}
-use Rattle.blocks.specs.Judged.{wrongSum, wrongTables, judgeRows, judgedOf}
-use Rattle.blocks.specs.Code.Steps.{framedAt, sumBy, tablesBy, badOf, goodOf, checkedOf}
+use Rattle.blocks.specs.Judged.{wrongSum, wrongMetadata, wrongTables, judgeRows, judgedOf}
+use Rattle.blocks.specs.Laws.Payloads.{payload-lent}
+use Rattle.blocks.specs.Code.Steps.{framedAt, sumBy, metadataBy, tablesBy, badOf, goodOf, checkedOf}
 
 -- a frame that lies in the image
 module _ (s : List ℕ) (p t sum : ℕ) (es : sum ≡ dowcrcOf (part s p (p + 3))) where
@@ -65,15 +66,34 @@ module _ (s : List ℕ) (p : ℕ) where
 
 pub ruleset frames = (frame-end, frame-last, frame-short, frame-rest)
 
--- 6 and 8, by the code's tests
+-- the checksum that a block says; 6, 12 and 8, by the code's tests
+pub sum-says : (x : List ℕ) (sum lower upper : ℕ) → lower ≡ at16 x 4 → upper ≡ at16 x 6 → not (eqb sum (lower + 65536 * upper)) ≡ not (eqb sum (sumSaid x))
+sum-says x sum lower upper el eu = rw (el, eu)
+
 module _ (t sum : ℕ) (x : List ℕ) (b : Bool) (eb : b ≡ (eqb t 1 || eqb t 2)) where
-  pub sum-asked : b ≡ true → (lower upper : ℕ) → lower ≡ at16 x 4 → upper ≡ at16 x 6 → not (eqb sum (lower + 65536 * upper)) ≡ sumBy t sum x
+  pub sum-asked : b ≡ true → (r : Bool) → r ≡ not (eqb sum (sumSaid x)) → r ≡ sumBy t sum x
   unfolding sumBy
-  sum-asked h lower upper el eu = rw (← eb, h, el, eu)
+  sum-asked h r er = er ∙ rw (← eb, h)
 
   pub sum-other : b ≡ false → false ≡ sumBy t sum x
   unfolding sumBy
   sum-other h = rw (← eb, h)
+
+module _ (t sum : ℕ) (x : List ℕ) where
+  pub metadata-other : (t ≡ 3 → ⊥) → false ≡ metadataBy t sum x
+  unfolding metadataBy
+  metadata-other h = rw (ne-eqb _ _ h)
+
+  module _ (ours : t ≡ 3) (b : Bool) (eb : b ≡ not (eqb sum (sumSaid x))) where
+    pub metadata-sum : b ≡ true → true ≡ metadataBy t sum x
+    unfolding metadataBy
+    metadata-sum h = rw (eq-eqb _ _ ours, ← eb, h)
+
+    pub metadata-cut : b ≡ false → (a : ℕ) → a ≡ min 8 (length x) → (r : Bool) → r ≡ isCut (part x a (length x)) → r ≡ metadataBy t sum x
+    unfolding metadataBy
+    metadata-cut h a ea r er = er ∙ rw (eq-eqb _ _ ours, ← eb, h, payload-lent x a ea)
+
+pub ruleset metadata-asked = (metadata-other, metadata-sum, metadata-cut)
 
 module _ (t n : ℕ) (earlier : Bool) where
   pub tables-other : (t ≡ 1 → ⊥) → false ≡ tablesBy t n earlier
@@ -93,19 +113,16 @@ pub ruleset tables-asked = (tables-other, tables-size, tables-earlier)
 
 -- 9, by the hunk's check
 module _ (x : List ℕ) (m a : ℕ) (ea : a ≡ min 8 (length x)) (h : Checked) (eh : h ≡ checkHunk (part x a (length x)) m) where
-  payload-lent : part x a (length x) ≡ payloadIn x
-  payload-lent = part-rest x a ∙ drop-min a 8 x ea
-
   pub hunk-whole : (n : ℕ) → h ≡ Whole n → (r : Judged) → r ≡ goodOf n → r ≡ checkedOf (checkHunk (payloadIn x) m)
-  hunk-whole n e r er = er ∙ rw (← payload-lent, ← eh, e)
+  hunk-whole n e r er = er ∙ rw (← payload-lent x a ea, ← eh, e)
 
   module _ (k : ℕ) (e : h ≡ Broken k) where
     pub hunk-breaks : (r : Judged) → r ≡ badOf 9 (8 + k) → r ≡ checkedOf (checkHunk (payloadIn x) m)
-    hunk-breaks r er = er ∙ rw (← payload-lent, ← eh, e)
+    hunk-breaks r er = er ∙ rw (← payload-lent x a ea, ← eh, e)
 
     pub break-fits : length x < 2 ^ 64 → Fits w64 (8 + k)
     break-fits l =
-        let c : checkHunk (payloadIn x) m ≡ Broken k = ap (λ (y : List ℕ). checkHunk y m) (sym payload-lent) ∙ sym eh ∙ e in
+        let c : checkHunk (payloadIn x) m ≡ Broken k = ap (λ (y : List ℕ). checkHunk y m) (sym (payload-lent x a ea)) ∙ sym eh ∙ e in
         let i : k ≤ length (payloadIn x) = rw c at (break-within (payloadIn x) m) in
         omega (arith, i, length-drop 8 x)
 
@@ -150,34 +167,46 @@ module _ (x : List ℕ) (t : ℕ) (et : t ≡ typeOf x) (sum m : ℕ) (earlier :
     unfolding judgeRows
     judge-6 h r er = let k : wrongSum sum x ≡ true = sym same-6 ∙ h in refused-by 6 (λ z. omega arith) (rw (not-7, k)) r er
 
-    module _ (good : b ≡ false) (n : ℕ) (en : n ≡ sizeSaid x) (c : Bool) (ec : c ≡ tablesBy t n earlier) where
+    module _ (good : b ≡ false) (w : Bool) (ew : w ≡ metadataBy t sum x) where
       good-6 : wrongSum sum x ≡ false
       good-6 = sym same-6 ∙ good
 
-      same-8 : c ≡ wrongTables earlier x
-      unfolding tablesBy
-      same-8 = ec ∙ rw (et, en)
+      same-12 : w ≡ wrongMetadata sum x
+      unfolding metadataBy
+      same-12 = ew ∙ rw et
 
-      pub judge-8 : c ≡ true → (r : Judged) → r ≡ badOf 8 0 → r ≡ judgedOf m earlier 0 sum x
+      pub judge-12 : w ≡ true → (r : Judged) → r ≡ badOf 12 0 → r ≡ judgedOf m earlier 0 sum x
       unfolding judgeRows
-      judge-8 h r er = let k : wrongTables earlier x ≡ true = sym same-8 ∙ h in refused-by 8 (λ z. omega arith) (rw (not-7, good-6, k)) r er
+      judge-12 h r er = let k : wrongMetadata sum x ≡ true = sym same-12 ∙ h in refused-by 12 (λ z. omega arith) (rw (not-7, good-6, k)) r er
 
-      module _ (h : c ≡ false) where
-        good-8 : wrongTables earlier x ≡ false
-        good-8 = sym same-8 ∙ h
+      module _ (fine : w ≡ false) (n : ℕ) (en : n ≡ sizeSaid x) (c : Bool) (ec : c ≡ tablesBy t n earlier) where
+        good-12 : wrongMetadata sum x ≡ false
+        good-12 = sym same-12 ∙ fine
 
-        pub judge-none : (t ≡ 2 → ⊥) → (r : Judged) → r ≡ goodOf 0 → r ≡ judgedOf m earlier 0 sum x
-        unfolding judgeRows judgedOf
-        judge-none d r er =
-            let j : eqb (typeOf x) 2 ≡ false = ne-eqb _ _ (λ e. d (et ∙ e)) in
-            er ∙ rw (not-7, good-6, good-8, j)
+        same-8 : c ≡ wrongTables earlier x
+        unfolding tablesBy
+        same-8 = ec ∙ rw (et, en)
 
-        by-check : isHunk x ≡ true → (k : Checked) → checkHunk (payloadIn x) m ≡ k → checkedOf k ≡ judgedOf m earlier 0 sum x
-        unfolding judgeRows judgedOf
-        by-check h (Whole n) ek = rw (ek, not-7, good-6, good-8, h, ← whole-words (payloadIn x) m n ek .count)
-        by-check h (Broken n) ek = rw (ek, not-7, good-6, good-8, h, zero-add)
+        pub judge-8 : c ≡ true → (r : Judged) → r ≡ badOf 8 0 → r ≡ judgedOf m earlier 0 sum x
+        unfolding judgeRows
+        judge-8 h r er = let k : wrongTables earlier x ≡ true = sym same-8 ∙ h in refused-by 8 (λ z. omega arith) (rw (not-7, good-6, good-12, k)) r er
 
-        pub judge-9 : t ≡ 2 → (r : Judged) → r ≡ checkedOf (checkHunk (payloadIn x) m) → r ≡ judgedOf m earlier 0 sum x
-        judge-9 d r e = e ∙ by-check (eq-eqb _ _ (sym et ∙ d)) (checkHunk (payloadIn x) m) refl
+        module _ (h : c ≡ false) where
+          good-8 : wrongTables earlier x ≡ false
+          good-8 = sym same-8 ∙ h
 
-pub ruleset judges = (judge-7, judge-6, judge-8, judge-none, judge-9)
+          pub judge-none : (t ≡ 2 → ⊥) → (r : Judged) → r ≡ goodOf 0 → r ≡ judgedOf m earlier 0 sum x
+          unfolding judgeRows judgedOf
+          judge-none d r er =
+              let j : eqb (typeOf x) 2 ≡ false = ne-eqb _ _ (λ e. d (et ∙ e)) in
+              er ∙ rw (not-7, good-6, good-12, good-8, j)
+
+          by-check : isHunk x ≡ true → (k : Checked) → checkHunk (payloadIn x) m ≡ k → checkedOf k ≡ judgedOf m earlier 0 sum x
+          unfolding judgeRows judgedOf
+          by-check h (Whole n) ek = rw (ek, not-7, good-6, good-12, good-8, h, ← whole-words (payloadIn x) m n ek .count)
+          by-check h (Broken n) ek = rw (ek, not-7, good-6, good-12, good-8, h, zero-add)
+
+          pub judge-9 : t ≡ 2 → (r : Judged) → r ≡ checkedOf (checkHunk (payloadIn x) m) → r ≡ judgedOf m earlier 0 sum x
+          judge-9 d r e = e ∙ by-check (eq-eqb _ _ (sym et ∙ d)) (checkHunk (payloadIn x) m) refl
+
+pub ruleset judges = (judge-7, judge-6, judge-12, judge-8, judge-none, judge-9)

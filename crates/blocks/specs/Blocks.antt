@@ -49,7 +49,7 @@ payloadLimit = 65535
 unfoldable pub putFrame : ℕ → ℕ → List ℕ → List ℕ
 putFrame type sum out = cond (leb frameSize (length out) && leb (length out) (frameSize + payloadLimit)) (framed type sum (payloadIn out)) out
 
--- the types that a load looks at, and what stands where a type is expected at an image's end (01, File layout, refusal 7)
+-- the types that a load looks at, and what stands where a type is expected at an image's end (01, File layout, refusal 7; 02, W-204)
 abbrev pub encryptedType : ℕ
 encryptedType = 0x00
 
@@ -59,6 +59,9 @@ tablesType = 0x01
 abbrev pub hunkType : ℕ
 hunkType = 0x02
 
+abbrev pub metadataType : ℕ
+metadataType = 0x03
+
 abbrev pub endMark : ℕ
 endMark = 0xFF
 
@@ -67,6 +70,9 @@ isTables x = eqb (typeOf x) tablesType
 
 abbrev pub isHunk : List ℕ → Bool
 isHunk x = eqb (typeOf x) hunkType
+
+abbrev pub isMetadata : List ℕ → Bool
+isMetadata x = eqb (typeOf x) metadataType
 
 -- bytes that are a whole block: as long as they say, the first checksum right, and not the end of an image
 pub record Block (x : List ℕ) : Type 0 where

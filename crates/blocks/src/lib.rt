@@ -1,12 +1,14 @@
 // Blocks: the frame of one, read and written, and its judgement (01, "File layout", "Load order").
 ghost use mathlib.Core.Path.{_≡_};
+ghost use mathlib.Core.Bool.{not};
 ghost use Prim.Native.Nat.{_+_, _≤_};
 ghost use lib.ListN.{length, getD, drop};
+ghost use lib.Dec.{eqb};
 ghost use Rattle.hunk.specs.Hunk.{checkHunk};
-ghost use Rattle.blocks.specs.Blocks.{frameOf, putFrame, payloadIn};
+ghost use Rattle.blocks.specs.Blocks.{frameOf, putFrame, payloadIn, sumSaid};
 ghost use Rattle.blocks.specs.Frames.{frameAt};
 ghost use Rattle.blocks.specs.Judged.{judgedOf};
-ghost use Rattle.blocks.specs.Code.Steps.{framedAt, sumBy, tablesBy, badOf, goodOf, checkedOf};
+ghost use Rattle.blocks.specs.Code.Steps.{framedAt, sumBy, metadataBy, tablesBy, badOf, goodOf, checkedOf};
 use basics::Refusal;
 use basics::byte_at;
 use basics::high;
@@ -27,6 +29,8 @@ pub const ENCRYPTED_TYPE: u8 = 0x00;
 pub const TABLES_TYPE: u8 = 0x01;
 
 pub const HUNK_TYPE: u8 = 0x02;
+
+pub const METADATA_TYPE: u8 = 0x03;
 
 pub const END_MARK: u8 = 0xFF;
 
@@ -80,16 +84,37 @@ pub fn frame_at(s: &[u8], p: usize) -> Frame
     framed(s, p, t)
 }
 
-// Refusal 6, of a block of type t whose payload has this checksum. No other type's is looked at.
+// Whether a block whose payload has this checksum says another.
+fn differs(x: &[u8], sum: u32) -> bool
+    ensures { λ r. ⌜ r ≡ not (eqb sum (sumSaid (now (x .entry)))) ⌝ }
+{
+    let lower = word_at(x, 4) as u32;
+    let upper = word_at(x, 6) as u32;
+    sum != lower + 65536 * upper
+}
+
+// Refusal 6, of a block of type t whose payload has this checksum.
 fn is_wrong_sum(x: &[u8], t: u8, sum: u32) -> bool
     ensures { λ r. ⌜ r ≡ sumBy t sum (now (x .entry)) ⌝ }
 {
     if basics::either(t == TABLES_TYPE, t == HUNK_TYPE) {
-        let lower = word_at(x, 4) as u32;
-        let upper = word_at(x, 6) as u32;
-        return sum != lower + 65536 * upper;
+        return differs(x, sum);
     }
     false
+}
+
+// Refusal 12, of a block of type t whose payload has this checksum. No other type's is looked at but those that 6 is asked of.
+fn is_wrong_metadata(x: &[u8], t: u8, sum: u32) -> bool
+    ensures { λ r. ⌜ r ≡ metadataBy t sum (now (x .entry)) ⌝ }
+{
+    if t != METADATA_TYPE {
+        return false;
+    }
+    if differs(x, sum) {
+        return true;
+    }
+    let a = basics::least(FRAME_SIZE, x.len());
+    metadata::is_cut(&x[a..])
 }
 
 // Refusal 8, of a block of type t that says n bytes of payload.
@@ -135,7 +160,7 @@ fn judge_hunk(x: &[u8], m: usize) -> Judged
     }
 }
 
-// The judgement of one block, whose payload has this checksum: 7, 6, 8, 9. `earlier` says that a tables block stands before it. A place
+// The judgement of one block, whose payload has this checksum: 7, 6 or 12, 8, 9. `earlier` says that a tables block stands before it. A place
 // counts from the block's first byte, as if it stood at the front of a file.
 pub fn judge(x: &[u8], sum: u32, m: usize, earlier: bool) -> Judged
     ensures { λ r. ⌜ r ≡ judgedOf m earlier 0 sum (now (x .entry)) ⌝ }
@@ -146,6 +171,9 @@ pub fn judge(x: &[u8], sum: u32, m: usize, earlier: bool) -> Judged
     }
     if is_wrong_sum(x, t, sum) {
         return bad(6, 0);
+    }
+    if is_wrong_metadata(x, t, sum) {
+        return bad(12, 0);
     }
     if is_wrong_tables(t, word_at(x, 1), earlier) {
         return bad(8, 0);

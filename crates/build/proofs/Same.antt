@@ -7,5 +7,5 @@ use Rattle.build.proofs.build.Reads as build
 pub one-build : OneAnswer build.Learnt
 one-build κs a y z e f p q = same (p .0) (q .0)
 
-pub one-build-out : OneLent build.Learnt (λ κs e. now (e .1 .1 .0))
+pub one-build-out : OneLent build.Learnt (λ κs e. now (e .1 .1 .1 .0))
 one-build-out κs a y z e f p q = same (p .1) (q .1)

@@ -2,7 +2,7 @@
 use Prim.Native.Nat.{ℕ, _+_, _*_, _<_, _≤_}
 use mathlib.Core.List.{List, _∷_, []}
 use mathlib.Core.Path.{_≡_}
-use mathlib.Core.Bool.{true}
+use mathlib.Core.Bool.{true, false}
 use lib.ListN.{length, getD}
 use Rattle.basics.specs.Refusals.{refuse, noRefusal}
 use Rattle.places.specs.declared.Console.{Console}
@@ -16,6 +16,7 @@ use Rattle.cart.specs.declared.Answer.the-variants.{Silence, Word}
 use Rattle.cart.specs.Cells.{locate}
 use Rattle.cart.specs.Writes.{storedWord}
 use Rattle.cart.specs.Run.{Access, Read, Write, Reset, answers}
+use Rattle.label.specs.Label.{wrongLabel}
 use Rattle.text.specs.Bytes.{text}
 use Rattle.cfg.specs.File.{readingOf, refused}
 use Rattle.cfg.specs.Examples.{entries}
@@ -24,11 +25,12 @@ use Rattle.demands.specs.Pressing.{Pressing, Pressed, worldOf}
 abbrev pub at : ℕ → Console
 at a = record { 0 = a }
 
--- cases 6 and 7: this CFG with a BIN of so many bytes, built into a buffer that takes any image, and loaded into so many words or more
+-- cases 6 and 7: this CFG with a BIN of so many bytes and any label that 12 passes, built into a buffer that takes any image, and loaded into so many words or more
 pub record Case (cfg : List ℕ) (bytes words : ℕ) (p : Pressing) : Type 0 where
   pub pressed : Pressed p
   pub file : p .cfg ≡ cfg
   pub long : length (p .bin) ≡ bytes
+  pub label : wrongLabel (p .label) ≡ false
   pub room : imageLimit ≤ length (p .out)
   pub lent : words ≤ length (p .ram)
 

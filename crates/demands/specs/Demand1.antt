@@ -40,7 +40,7 @@ pub record Demand1 : Type 0 where
       → writingOf out c .length ≡ 0
   pub write-keeps : (out : List ℕ) (c : Content) → Refused (writingOf out c .refusal) → writtenOf out c ≡ out
   -- building, likewise
-  pub build : (bin cfg out : List ℕ) → Decides (buildRows bin cfg out) (buildingOf bin cfg out .refusal)
-  pub build-zero : (bin cfg out : List ℕ) → Refused (buildingOf bin cfg out .refusal)
-      → buildingOf bin cfg out ≡ buildRefused bin cfg (buildingOf bin cfg out .refusal)
-  pub build-keeps : (bin cfg out : List ℕ) → Refused (buildingOf bin cfg out .refusal) → builtOf bin cfg out ≡ out
+  pub build : (bin cfg label out : List ℕ) → Decides (buildRows bin cfg label out) (buildingOf bin cfg label out .refusal)
+  pub build-zero : (bin cfg label out : List ℕ) → Refused (buildingOf bin cfg label out .refusal)
+      → buildingOf bin cfg label out ≡ buildRefused bin cfg label (buildingOf bin cfg label out .refusal)
+  pub build-keeps : (bin cfg label out : List ℕ) → Refused (buildingOf bin cfg label out .refusal) → builtOf bin cfg label out ≡ out

@@ -18,10 +18,11 @@ pub record Loads (image ram : List ℕ) (f : ℕ) (l : Loading) (stored : List �
   pub answer : l ≡ loadingOf image (lent ram) f
   pub leaves : stored ≡ loadRamOf image ram f
 
--- a title pressed from a BIN and a CFG into a buffer, and loaded into a RAM, with a flash that is left as found
+-- a title pressed from a BIN, a CFG and a label into a buffer, and loaded into a RAM, with a flash that is left as found
 pub record Pressing : Type 0 where
   pub bin : List ℕ
   pub cfg : List ℕ
+  pub label : List ℕ
   pub out : List ℕ
   pub ram : List ℕ
   pub flash : List ℕ
@@ -31,8 +32,8 @@ pub record Pressing : Type 0 where
   pub stored : List ℕ
 
 pub record Pressed (p : Pressing) : Type 0 where
-  pub answer : p .building ≡ buildingOf (p .bin) (p .cfg) (p .out)
-  pub leaves : p .left ≡ builtOf (p .bin) (p .cfg) (p .out)
+  pub answer : p .building ≡ buildingOf (p .bin) (p .cfg) (p .label) (p .out)
+  pub leaves : p .left ≡ builtOf (p .bin) (p .cfg) (p .label) (p .out)
   pub loads : Loads (take (p .building .length) (p .left)) (p .ram) (length (p .flash)) (p .loading) (p .stored)
 
 -- a cartridge written into a buffer, and loaded into a RAM, likewise

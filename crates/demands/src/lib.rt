@@ -32,6 +32,7 @@ pub struct Title {
 pub fn press_and_load(
     bin: &[u8],
     cfg: &[u8],
+    label: &[u8],
     out: &mut [u8],
     ram: &mut [u16],
     flash: &[u16],
@@ -39,6 +40,7 @@ pub fn press_and_load(
     ensures { λ r. ⌜ Pressed (record {
       bin = now (bin .entry);
       cfg = now (cfg .entry);
+      label = now (label .entry);
       out = now (out .entry);
       ram = now (ram .entry);
       flash = now (flash .entry);
@@ -48,7 +50,7 @@ pub fn press_and_load(
       stored = now (ram .exit);
     }) ⌝ }
 {
-    let building = build::build(bin, cfg, out);
+    let building = build::build(bin, cfg, label, out);
     let loading = load_front(out, building.length, ram, flash);
     Title { building, loading }
 }

@@ -30,7 +30,7 @@ one-load-ram κs a y z e f p q = same (p .1) (q .1)
 pub one-build : OneAnswer luigi-build.Learnt
 one-build κs a y z e f p q = same (p .0) (q .0)
 
-pub one-build-out : OneLent luigi-build.Learnt (λ κs e. now (e .1 .1 .0))
+pub one-build-out : OneLent luigi-build.Learnt (λ κs e. now (e .1 .1 .1 .0))
 one-build-out κs a y z e f p q = same (p .1) (q .1)
 
 pub one-reads : OneLent luigi-reads.Learnt (λ κs e. now (e .1 .1 .1 .1 .1 .0))

@@ -209,12 +209,13 @@ fn built_as(b: Building) -> Built
     }
 }
 
-// An image from a BIN and a CFG, into the front of a lent buffer.
+// An image from a BIN, a CFG and a label, which may be empty, into the front of a lent buffer.
 #[no_mangle]
-pub extern "C" fn luigi_build(bin: &[u8], cfg: &[u8], out: &mut [u8]) -> Built
-    ensures { λ r. ⌜ (r ≡ builtAs (buildingOf (now (bin .entry)) (now (cfg .entry)) (now (out .entry)))) × (now (out .exit) ≡ builtOf (now (bin .entry)) (now (cfg .entry)) (now (out .entry))) ⌝ }
+pub extern "C" fn luigi_build(bin: &[u8], cfg: &[u8], label: &[u8], out: &mut [u8]) -> Built
+    ensures { λ r. ⌜ (r ≡ builtAs (buildingOf (now (bin .entry)) (now (cfg .entry)) (now (label .entry)) (now (out .entry))))
+        × (now (out .exit) ≡ builtOf (now (bin .entry)) (now (cfg .entry)) (now (label .entry)) (now (out .entry))) ⌝ }
 {
-    built_as(build::build(bin, cfg, out))
+    built_as(build::build(bin, cfg, label, out))
 }
 
 // The active tables, how many paragraphs can be read, and the accelerators, laid out as C's.

@@ -23,7 +23,7 @@ use Rattle.header.specs.Header.{flagsOf}
 use Rattle.header.specs.Flags.{compatOf}
 use Rattle.jlp.specs.declared.Jlp.{Jlp}
 use Rattle.cart.specs.declared.Cartridge.{Cartridge}
-use Rattle.tables.specs.Tables.{jlpOf, cartridgeOf, tablesRefusal}
+use Rattle.tables.specs.Tables.{jlpOf, cartridgeOf, flashWords, tablesRefusal}
 use Rattle.tables.specs.Laws.Tables.{cartridge-flips}
 use Rattle.hunk.specs.Hunk.{storeHunk}
 use Rattle.blocks.specs.declared.Frame.{Frame}
@@ -141,13 +141,24 @@ module _ (size tables blocks words : ℕ) where
 pub cartridge-is : (s : List ℕ) (t : ℕ) (j : Jlp) (c : Cartridge) → j ≡ jlpOf (flagsOf s) → c ≡ cartridgeOf j (tablesAt s t) → c ≡ cartridgeOf (jlpOf (flagsOf s)) (tablesAt s t)
 cartridge-is s t j c e g = rw (← e) g
 
+-- what is refused behind the blocks, of the cartridge that is made of the tables block
+pub end-judged :
+    (s : List ℕ) (t : ℕ) (c : Cartridge) → c ≡ cartridgeOf (jlpOf (flagsOf s)) (tablesAt s t) → (m f : ℕ) (r : Refusal) → r ≡ tablesRefusal (flagsOf s) (c .flips) m f
+    → r ≡ endRefusal s t m f
+end-judged s t c ec m f r er =
+    er ∙ ap (λ (flips : List ℕ). tablesRefusal (flagsOf s) flips m f) (ap (λ (d : Cartridge). d .flips) ec ∙ cartridge-flips (jlpOf (flagsOf s)) (tablesAt s t))
+
+-- the same where the flash is of the size that the flags say
+pub size-judged :
+    (s : List ℕ) (t : ℕ) (c : Cartridge) → c ≡ cartridgeOf (jlpOf (flagsOf s)) (tablesAt s t) → (m f : ℕ) → f ≡ flashWords (flagsOf s) → (r : Refusal)
+    → r ≡ tablesRefusal (flagsOf s) (c .flips) m f → r ≡ endRefusal s t m (flashWords (flagsOf s))
+size-judged s t c ec m f ef r er = end-judged s t c ec m (flashWords (flagsOf s)) r (er ∙ ap (tablesRefusal (flagsOf s) (c .flips) m) ef)
+
 -- behind the passes
 module _ (s ram : List ℕ) (t blocks words : ℕ) (c : Cartridge) (ec : c ≡ cartridgeOf (jlpOf (flagsOf s)) (tablesAt s t))
     (m : ℕ) (em : m ≡ lent ram) (f : ℕ) (r : Refusal) (er : r ≡ tablesRefusal (flagsOf s) (c .flips) m f) where
   end-is : r ≡ endRefusal s t (lent ram) f
-  end-is =
-      rw (← em)
-      (er ∙ ap (λ (flips : List ℕ). tablesRefusal (flagsOf s) flips m f) (ap (λ (d : Cartridge). d .flips) ec ∙ cartridge-flips (jlpOf (flagsOf s)) (tablesAt s t)))
+  end-is = rw (← em) (end-judged s t c ec m f r er)
 
   module _ (h : r .number ≡ 0 → ⊥) where
     pub refused-answer : (l : Loading) → l ≡ refused r → l ≡ finishedOf s (lent ram) f t blocks words

@@ -11,11 +11,11 @@ use Rattle.header.specs.Header.{headerRows, flagsOf}
 use Rattle.header.specs.Flags.{compatOf, noCompat}
 use Rattle.cart.specs.declared.Cartridge.{Cartridge}
 use Rattle.cart.specs.Cartridges.{noCartridge}
-use Rattle.tables.specs.Tables.{tablesIn, jlpOf, cartridgeOf, tablesRows}
+use Rattle.tables.specs.Tables.{tablesIn, jlpOf, cartridgeOf, flashWords, tablesRows}
 use Rattle.blocks.specs.Images.{firstBlock, blocksIn, stopOf, isCut, judgeAll, anyTables, payloadOfTables, hunksIn, overlay, wordCount}
 use Rattle.load.specs.declared.Loading.{Loading}
 
--- blocks in file order, each 7, 6, 8, 9, then 5 where one is cut; then "none" of 8, place the file's length
+-- blocks in file order, each 7, 6 or 12, 8, 9, then 5 where one is cut; then "none" of 8, place the file's length
 unfoldable pub walkRows : List ℕ → ℕ → List (Row Refusal)
 walkRows s m =
     judgeAll m false firstBlock (blocksIn s)
@@ -32,6 +32,13 @@ refusalRows s m f = headerRows s ++ (walkRows s m ++ tablesRows (flagsOf s) (tab
 
 unfoldable pub refusalOf : List ℕ → ℕ → ℕ → Refusal
 refusalOf s m f = firstRefusal (refusalRows s m f)
+
+-- the same with a flash of the size that the flags say: 13 by the size alone (02, W-209)
+abbrev pub rowsBySize : List ℕ → ℕ → List (Row Refusal)
+rowsBySize s m = refusalRows s m (flashWords (flagsOf s))
+
+abbrev pub refusalBySize : List ℕ → ℕ → Refusal
+refusalBySize s m = refusalOf s m (flashWords (flagsOf s))
 
 abbrev pub loads : List ℕ → ℕ → ℕ → Bool
 loads s m f = passes (refusalOf s m f)

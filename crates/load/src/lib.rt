@@ -8,11 +8,11 @@ ghost use Rattle.places.specs.Limits.{lent};
 ghost use Rattle.sums.specs.Crc.{c324Poly, crc324Of};
 ghost use Rattle.sums.specs.Tables.{tablesOf};
 ghost use Rattle.header.specs.Header.{headerSize, flagsOf};
-ghost use Rattle.tables.specs.Tables.{jlpOf, cartridgeOf, tablesRefusal};
+ghost use Rattle.tables.specs.Tables.{jlpOf, cartridgeOf, flashWords, tablesRefusal};
 ghost use Rattle.blocks.specs.Blocks.{payloadIn};
 ghost use Rattle.blocks.specs.Images.{blocksIn};
-ghost use Rattle.load.specs.Load.{refused, loadingOf, loadRamOf};
-ghost use Rattle.load.specs.Code.Passes.{judgementOf, tablesAfter, stepOf, endedAt, verdictOf, tablesAt, Tabled, finishedOf, blockStored, eachStored, finishedRamOf};
+ghost use Rattle.load.specs.Load.{refused, refusalBySize, loadingOf, loadRamOf};
+ghost use Rattle.load.specs.Code.Passes.{judgementOf, tablesAfter, stepOf, endedAt, verdictOf, tablesAt, Tabled, endRefusal, finishedOf, blockStored, eachStored, finishedRamOf};
 use basics::Refusal;
 use blocks::FIRST_BLOCK;
 use blocks::FRAME_SIZE;
@@ -213,6 +213,42 @@ fn finish(s: &[u8], t: usize, blocks: usize, words: usize, ram: &mut [u16], f: u
         compat: header::compat_of(&s[from..to]),
         blocks,
         words,
+    }
+}
+
+// The words of flash that the header's flags say.
+fn flash_said(s: &[u8]) -> usize
+    requires { ⌜ headerSize ≤ length (now s) ⌝ }
+    ensures { λ r. ⌜ r ≡ flashWords (flagsOf (now (s .entry))) ⌝ }
+{
+    let from = header::FLAGS_AT;
+    let to = header::UID_AT;
+    tables::flash_words(&s[from..to])
+}
+
+// 10, 11 and 13, of an image with its tables block at t, m words of RAM lent, and a flash of the size that its flags say.
+fn judge_tables(s: &[u8], t: usize, m: usize) -> Refusal
+    requires { ⌜ (headerSize ≤ length (now s)) × Tabled (now s) t ⌝ }
+    ensures { λ r. ⌜ r ≡ endRefusal (now (s .entry)) t m (flashWords (flagsOf (now (s .entry)))) ⌝ }
+{
+    let cartridge = cartridge_at(s, t);
+    let f = flash_said(s);
+    refusal_with(s, &cartridge.flips, m, f)
+}
+
+// What a load into m words of RAM refuses, asked with no RAM and no flash lent: 13 by its size alone.
+pub fn refusal_for(image: &[u8], m: usize) -> Refusal
+    ensures { λ r. ⌜ r ≡ refusalBySize (now (image .entry)) m ⌝ }
+{
+    let h = header::check(image);
+    if h.number != 0 {
+        return h;
+    }
+    let c324 = sums::tables(sums::C324);
+    let v = check_blocks(image, &c324, m);
+    match v {
+        Verdict::Refused(r) => r,
+        Verdict::Loads(t, _, _) => judge_tables(image, t, m),
     }
 }
 

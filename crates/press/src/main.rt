@@ -1,6 +1,6 @@
-// Presses a title: its BIN, its CFG and the image's name are the arguments. Prints what the desk reads: `result=built` with the
-// image's length and the words of RAM that it needs, `result=refused` with number and place, or `result=stopped` with the file
-// and the reason.
+// Presses a title: its BIN, its CFG and the image's name are the arguments, and its label file where there is a fourth. Prints what
+// the desk reads: `result=built` with the image's length and the words of RAM that it needs, `result=refused` with number and place,
+// or `result=stopped` with the file and the reason.
 ghost use mathlib.Core.Path.{_≡_};
 ghost use lib.ListN.{length};
 ghost use Rattle.places.specs.Limits.{imageLimit};
@@ -10,7 +10,7 @@ use files::Seen;
 use places::BIN_LIMIT;
 use places::IMAGE_LIMIT;
 
-// Room for one byte more than a BIN and a CFG may have, so that a longer file is seen to be longer, and for any image that the
+// Room for one byte more than a BIN, a CFG and a label may have, so that a longer file is seen to be longer, and for any image that the
 // builder makes.
 fn bin_room() -> [u8; 524289]
     ensures { λ r. ⌜ 524289 ≡ length r ⌝ }
@@ -22,6 +22,12 @@ fn cfg_room() -> [u8; 16385]
     ensures { λ r. ⌜ 16385 ≡ length r ⌝ }
 {
     [0; 16385]
+}
+
+fn label_room() -> [u8; 65536]
+    ensures { λ r. ⌜ 65536 ≡ length r ⌝ }
+{
+    [0; 65536]
 }
 
 fn image_room() -> [u8; IMAGE_LIMIT]
@@ -76,9 +82,9 @@ fn built(a: Answer) {
 }
 
 // Builds the image and writes it.
-fn press(bin: &[u8], cfg: &[u8], inputs: [Seen; INPUTS]) {
+fn press(bin: &[u8], cfg: &[u8], label: &[u8], inputs: [Seen; INPUTS]) {
     let mut out = image_room();
-    let a = answer_of(build::build(bin, cfg, &mut out));
+    let a = answer_of(build::build(bin, cfg, label, &mut out));
     let n = a.length;
     if a.number != 0 {
         refused(a, bin, cfg);
@@ -94,6 +100,30 @@ fn press(bin: &[u8], cfg: &[u8], inputs: [Seen; INPUTS]) {
     } else {
         built(a);
     }
+}
+
+// The same with no label, which is an empty one.
+fn press_unlabelled(bin: &[u8], cfg: &[u8], inputs: [Seen; INPUTS]) {
+    press(bin, cfg, &cfg[..0], inputs);
+}
+
+// The same with the label file that the fourth argument names.
+fn press_labelled(bin: &[u8], cfg: &[u8], from_bin: Seen, from_cfg: Seen) {
+    let mut label = label_room();
+    let l = files::read_argument(4, &mut label);
+    let n = l.n;
+    if files::stops(l.stop) {
+        files::stopped(b"LABEL", l.stop);
+        return;
+    }
+    let from_label = l.seen;
+    let none = files::nobody();
+    press(
+        bin,
+        cfg,
+        &label[..n],
+        [from_bin, from_cfg, from_label, none],
+    );
 }
 
 fn main() {
@@ -113,6 +143,10 @@ fn main() {
     }
     let from_bin = b.seen;
     let from_cfg = c.seen;
+    if 4 < os::arg_count() {
+        press_labelled(&bin[..bn], &cfg[..cn], from_bin, from_cfg);
+        return;
+    }
     let none = files::nobody();
-    press(&bin[..bn], &cfg[..cn], [from_bin, from_cfg, none, none]);
+    press_unlabelled(&bin[..bn], &cfg[..cn], [from_bin, from_cfg, none, none]);
 }

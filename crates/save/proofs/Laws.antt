@@ -1,13 +1,12 @@
 -- One law for each return, its premises as the code's tests and calls give them.
-use Prim.Native.Nat.{ℕ, _+_, _*_, _-_, _≤_, _<_, min}
-use mathlib.Core.List.{List, [], _∷_, _++_, append-nil}
+use Prim.Native.Nat.{ℕ, _+_, _*_, _-_, _≤_, _<_}
+use mathlib.Core.List.{List, [], _∷_, _++_}
 use mathlib.Core.Path.{_≡_, refl, sym, ap, _∙_}
 use mathlib.Core.Bool.{Bool, true, false, _||_}
 use native.Mathlib.Omega.{arith}
-use lib.ListN.{length, getD, take, drop, length-drop, length-append, drop-of-length-le, List·getD-eq-default}
-use lib.Seq.{length-take-le, drop-at}
+use lib.ListN.{length, getD, length-append, List·getD-eq-default}
 use lib.Dec.{ltb, eqb}
-use borrow.Author.Tests.{lt-ltb, le-ltb, le-leb, ne-eqb}
+use borrow.Author.Tests.{lt-ltb, le-ltb, ne-eqb}
 use borrow.Rule.Slice.PartMut.{putMid}
 use Rattle.basics.specs.Laws.Refusals.{refused-front, silent-behind}
 use Rattle.basics.specs.Rows.{Row}
@@ -16,10 +15,9 @@ use Rattle.basics.specs.Lists.{part, putFront}
 use Rattle.basics.specs.Counts.{lowest, any}
 use Rattle.basics.specs.Refusals.{refuse, noRefusal, firstRefusal}
 use Rattle.basics.specs.Laws.Tests.{and-true, and-false}
-use Rattle.basics.specs.Laws.Lists.{length-part}
 use Rattle.basics.specs.Laws.Lowest.{any-low, any-not}
 use Rattle.basics.specs.Laws.Wrote.{Wrote, wrote-none, wrote-all, wrote-part}
-use Rattle.basics.specs.Laws.Puts.{put-all, put-wrote, wrote-put}
+use Rattle.basics.specs.Laws.Puts.{put-wrote, wrote-put}
 use Rattle.places.specs.declared.Locutus.{Locutus}
 use Rattle.places.specs.Limits.{imageLimit, lent, locutusParagraphs, paragraphSize}
 use Rattle.sums.specs.Crc.{crc324Of}
@@ -28,8 +26,9 @@ use Rattle.tables.specs.Tables.{Tables, tablesPayload, flashWords, tablesRows, 
 use Rattle.tables.specs.Laws.Refusals.{tables-accepted}
 use Rattle.hunk.specs.Hunk.{hunk, hunkPayload, payloadSize}
 use Rattle.hunk.specs.Laws.Sizes.{length-payload}
-use Rattle.blocks.specs.Blocks.{frameSize, payloadIn, blockOf, putFrame, tablesType, hunkType, endMark}
+use Rattle.blocks.specs.Blocks.{frameSize, payloadIn, putFrame, tablesType, hunkType, endMark}
 use Rattle.blocks.specs.Laws.ReadBack.{length-block}
+use Rattle.blocks.specs.Laws.Payloads.{placed, block-placed}
 use Rattle.save.specs.declared.Writing.{Writing}
 use Rattle.save.specs.Chosen.{tablesBlock, hunkBlock}
 use Rattle.save.specs.Writing.{Content, content, isMarked, marked, imageBy, past, refusalOf, answerFor, writingOf, writtenOf}
@@ -41,26 +40,7 @@ use Rattle.save.specs.Laws.Refusals.{Accepted, accepted-so}
 pub no-word : (ram : List ℕ) (at : ℕ) → length ram ≤ at → 0 ≡ getD ram at 0
 no-word ram at h = sym (List·getD-eq-default ram 0 h)
 
--- a payload that was lent its part, and then its frame
-abbrev placed : List ℕ → List ℕ → List ℕ
-placed out ys = putMid frameSize (length out - frameSize) out ys
-
-pub block-placed : (type : ℕ) (x out ys after : List ℕ) → length out ≡ frameSize + length x → length out ≤ blockLimit
-    → ys ≡ putFront x (part out frameSize (length out)) → after ≡ putFrame type (crc324Of (payloadIn (placed out ys))) (placed out ys)
-    → after ≡ blockOf type x
-unfolding putFrame
-block-placed type x out ys after n m ey e =
-    let k : ℕ = length out - frameSize in
-    let y : ys ≡ x = ey ∙ put-all x (part out frameSize (length out)) (length-part out frameSize (length out) (omega arith) ∙ omega arith) in
-    let d : drop k (drop frameSize out) ≡ [] = drop-of-length-le (drop frameSize out) {i = k} (omega (arith, length-drop frameSize out)) in
-    let f : length (take frameSize out) ≡ frameSize = length-take-le frameSize out (omega arith) in
-    let p : payloadIn (placed out ys) ≡ x = drop-at (take frameSize out) (ys ++ drop k (drop frameSize out)) frameSize f ∙ ap (_++_ ys) d ∙ append-nil ys ∙ y in
-    let long : length (placed out ys) ≡ frameSize + length x =
-    length-append (take frameSize out) (ys ++ drop k (drop frameSize out)) ∙ omega (arith, length-append ys (drop k (drop frameSize out)), ap length d, ap length y) in
-    let a : frameSize ≤ length (placed out ys) = omega arith in
-    let b : length (placed out ys) ≤ blockLimit = omega arith in
-    e ∙ rw (le-leb _ _ a, le-leb _ _ b, p)
-
+-- a hunk's payload that was lent its part, and then its frame
 pub hunk-placed : (at : Locutus) (words out ys after : List ℕ) → length out ≡ frameSize + payloadSize words → length out ≤ blockLimit
     → ys ≡ putFront (hunkPayload (hunk at words)) (part out frameSize (length out)) → after ≡ putFrame hunkType (crc324Of (payloadIn (placed out ys))) (placed out ys)
     → after ≡ hunkBlock (hunk at words)

@@ -29,9 +29,12 @@ tablesBlock t = blockOf tablesType (tablesPayload t)
 abbrev pub hunkBlock : Hunk → List ℕ
 hunkBlock h = blockOf hunkType (hunkPayload h)
 
--- a header, these blocks, and the byte that ends it
+-- a header, the tables, other blocks, the hunks, and the byte that ends it; and an image with no other blocks
+unfoldable pub imageWith : List ℕ → List ℕ → Tables → List (List ℕ) → List Hunk → List ℕ
+imageWith flags uid t others hunks = imageOf (headerOf flags uid) (tablesBlock t ∷ others ++ map hunkBlock hunks) (endMark ∷ [])
+
 unfoldable pub imageFor : List ℕ → List ℕ → Tables → List Hunk → List ℕ
-imageFor flags uid t hunks = imageOf (headerOf flags uid) (tablesBlock t ∷ map hunkBlock hunks) (endMark ∷ [])
+imageFor flags uid t hunks = imageWith flags uid t [] hunks
 
 -- flags, UID and tables have their sizes (01, File layout)
 pub record Sized (flags uid : List ℕ) (t : Tables) : Type 0 where

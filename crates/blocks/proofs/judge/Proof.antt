@@ -19,6 +19,9 @@ returns-4 c = search (needs, judges)
 returns-5 : tie.Need-returns-5
 returns-5 c = search (needs, judges)
 
+returns-6 : tie.Need-returns-6
+returns-6 c = search (needs, judges)
+
 pub judge-spec : {M : Type 1} → statement M
 judge-spec =
     tie.close
@@ -31,9 +34,12 @@ judge-spec =
     returns-2
     (λ c κs. search needs)
     (λ c κs. search needs)
-    (λ c κs. search needs)
     returns-3
+    (λ c κs. search needs)
+    (λ c κs. search needs)
     (λ c κs. search needs)
     returns-4
     (λ c κs. search needs)
-    returns-5)
+    returns-5
+    (λ c κs. search needs)
+    returns-6)

@@ -18,7 +18,7 @@ use Rattle.hunk.specs.Laws.Refusals.{break-within}
 use Rattle.hunk.specs.Laws.Walk.{words-few}
 use Rattle.blocks.specs.Blocks.{payloadIn, isHunk}
 use Rattle.blocks.specs.declared.Judged.{Judged}
-use Rattle.blocks.specs.Judged.{isEncrypted, wrongSum, wrongTables, wrongHunk, breakIn, judgeRows, judgedOf}
+use Rattle.blocks.specs.Judged.{isEncrypted, wrongSum, wrongMetadata, wrongTables, wrongHunk, breakIn, judgeRows, judgedOf}
 use Rattle.blocks.specs.Images.{wordCount}
 
 -- what is judged of a block by itself, for the block where it stands at p
@@ -26,41 +26,43 @@ abbrev pub standing : ℕ → Judged → Judged
 standing p j = cond (passes (j .refusal)) j (record { refusal = refuse (j .refusal .number) (p + j .refusal .place); words = j .words })
 
 -- the rows of a block at p, by what they ask and by where a hunk breaks in it
-abbrev rowsAt : Bool → Bool → Bool → Bool → ℕ → ℕ → List (Row Refusal)
-rowsAt a b c d k p = (a, refuse 7 p) ∷ (b, refuse 6 p) ∷ (c, refuse 8 p) ∷ (d, refuse 9 (p + k)) ∷ []
+abbrev rowsAt : Bool → Bool → Bool → Bool → Bool → ℕ → ℕ → List (Row Refusal)
+rowsAt a b m c d k p = (a, refuse 7 p) ∷ (b, refuse 6 p) ∷ (m, refuse 12 p) ∷ (c, refuse 8 p) ∷ (d, refuse 9 (p + k)) ∷ []
 
-rows-move : (a b c d h : Bool) (k n p : ℕ)
-    → record { refusal = firstRefusal (rowsAt a b c d k p); words = cond (passes (firstRefusal (rowsAt a b c d k p)) && h) n 0 }
-    ≡ standing p (record { refusal = firstRefusal (rowsAt a b c d k 0); words = cond (passes (firstRefusal (rowsAt a b c d k 0)) && h) n 0 })
-rows-move true b c d h k n p = rw add-zero
-rows-move false true c d h k n p = rw add-zero
-rows-move false false true d h k n p = rw add-zero
-rows-move false false false true h k n p = rw zero-add
-rows-move false false false false h k n p = refl
+rows-move : (a b m c d h : Bool) (k n p : ℕ)
+    → record { refusal = firstRefusal (rowsAt a b m c d k p); words = cond (passes (firstRefusal (rowsAt a b m c d k p)) && h) n 0 }
+    ≡ standing p (record { refusal = firstRefusal (rowsAt a b m c d k 0); words = cond (passes (firstRefusal (rowsAt a b m c d k 0)) && h) n 0 })
+rows-move true b m c d h k n p = rw add-zero
+rows-move false true m c d h k n p = rw add-zero
+rows-move false false true c d h k n p = rw add-zero
+rows-move false false false true d h k n p = rw add-zero
+rows-move false false false false true h k n p = rw zero-add
+rows-move false false false false false h k n p = refl
 
-rows-within : (a b c d : Bool) (k : ℕ) → firstRefusal (rowsAt a b c d k 0) .place ≤ k
-rows-within true b c d k = omega arith
-rows-within false true c d k = omega arith
-rows-within false false true d k = omega arith
-rows-within false false false true k = omega arith
-rows-within false false false false k = omega arith
+rows-within : (a b m c d : Bool) (k : ℕ) → firstRefusal (rowsAt a b m c d k 0) .place ≤ k
+rows-within true b m c d k = omega arith
+rows-within false true m c d k = omega arith
+rows-within false false true c d k = omega arith
+rows-within false false false true d k = omega arith
+rows-within false false false false true k = omega arith
+rows-within false false false false false k = omega arith
 
 -- a place that is named lies in the block, or is its end
 pub judged-within : (m : ℕ) (earlier : Bool) (sum : ℕ) (x : List ℕ) → 8 ≤ length x → judgedOf m earlier 0 sum x .refusal .place ≤ length x
 unfolding judgedOf judgeRows
 judged-within m earlier sum x h =
     omega
-    (arith, rows-within (isEncrypted x) (wrongSum sum x) (wrongTables earlier x) (wrongHunk m x) (breakIn m x), break-within (payloadIn x) m, length-drop 8 x)
+    (arith, rows-within (isEncrypted x) (wrongSum sum x) (wrongMetadata sum x) (wrongTables earlier x) (wrongHunk m x) (breakIn m x), break-within (payloadIn x) m, length-drop 8 x)
 
 module _ (m : ℕ) (earlier : Bool) (p sum : ℕ) (x : List ℕ) where
   pub judged-standing : judgedOf m earlier p sum x ≡ standing p (judgedOf m earlier 0 sum x)
   unfolding judgedOf judgeRows
   judged-standing =
-      rows-move (isEncrypted x) (wrongSum sum x) (wrongTables earlier x) (wrongHunk m x) (isHunk x) (breakIn m x) (length (wordsOf (payloadIn x))) p
+      rows-move (isEncrypted x) (wrongSum sum x) (wrongMetadata sum x) (wrongTables earlier x) (wrongHunk m x) (isHunk x) (breakIn m x) (length (wordsOf (payloadIn x))) p
 
   pub judge-refusing : Refusing (judgeRows m earlier p sum x)
   unfolding judgeRows
-  judge-refusing = ((λ z. omega arith), ((λ z. omega arith), ((λ z. omega arith), ((λ z. omega arith), tt))))
+  judge-refusing = ((λ z. omega arith), ((λ z. omega arith), ((λ z. omega arith), ((λ z. omega arith), ((λ z. omega arith), tt)))))
 
   pub judge-refuses : (judgedOf m earlier p sum x .refusal .number ≡ 0 → ⊥) → Gives (judgeRows m earlier p sum x) (judgedOf m earlier p sum x .refusal)
   unfolding judgedOf
@@ -75,7 +77,7 @@ module _ (m : ℕ) (earlier : Bool) (p sum : ℕ) (x : List ℕ) where
 
   no-tables : Silent (judgeRows m earlier p sum x) → wrongTables earlier x ≡ false
   unfolding judgeRows
-  no-tables (also a (also b (also c (also d none)))) = c
+  no-tables (also a (also b (also m (also c (also d none))))) = c
 
   pub passed : judgedOf m earlier p sum x .refusal .number ≡ 0 → Passed
   unfolding judgedOf wordCount

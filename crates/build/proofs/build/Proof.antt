@@ -21,7 +21,12 @@ refuse-requires-2 : tie.Need-refuse-requires-2
 refuse-requires-2 c κs = search needs
 
 returns : tie.Need-returns
-returns c = let a = refused-bin (c .before .before .before .before .before .before .before .args .bin .now) (c .before .before .before .before .before .before .before .args .cfg .now) (c .before .before .before .before .before .before .before .args .out .now) _ (c .before .before .before .is-wrong .ensures) (c .before .before .if1 .taken) _ (c .before .refuse .ensures) _ (c .refuse2 .ensures) in (a .answer, a .leaves)
+returns c =
+    let start = c .before .before .before .before .before .before .before .before in
+    let a =
+    refused-bin (start .args .bin .now) (start .args .cfg .now) (start .args .label .now) (start .args .out .now) _ (c .before .before .before .is-wrong .ensures)
+    (c .before .before .if1 .taken) _ (c .before .refuse .ensures) _ (c .refuse2 .ensures) in
+    (a .answer, a .leaves)
 
 build-text-requires : tie.Need-build-text-requires
 build-text-requires c κs = sym (c .before .before .is-wrong .ensures) ∙ c .before .if1 .left

@@ -26,6 +26,7 @@ use Rattle.rules.specs.Rules.{lineRows, outOfRange, notAllowed, shareRows, shar
 use Rattle.rules.specs.Laws.Refusals.{each-refuses as rules-refuse, exactly as rules-exactly}
 use Rattle.rules.specs.Accepted.{Accepted}
 use Rattle.layout.specs.Layout.{needed}
+use Rattle.label.specs.Label.{wrongLabel}
 use Rattle.build.specs.declared.Building.{Building}
 use Rattle.build.specs.Building.{imageOn, pressedImage, buildingOf, builtOf, roomRows, refusalRows, refusalOf, refused, wrongBin, tooLarge, tooShort}
 use Rattle.build.specs.Code.Answers.{bare, Read, Answers, Pressed}
@@ -65,30 +66,30 @@ rules-below words ls =
     (rw (first-append (shareRows [] ls) (chapterRows ls) noRefusal)
     (shares-below [] ls _ (chapters-below (breaksPlain ls) 0 chapters noRefusal (omega arith)))))
 
-module _ (bin cfg out : List ℕ) where
-  refuses : (r : Refusal) → refusalOf bin cfg out ≡ r → (r .number ≡ 0 → ⊥) → Answers bin cfg out (refused bin cfg r) out
+module _ (bin cfg label out : List ℕ) where
+  refuses : (r : Refusal) → refusalOf bin cfg label out ≡ r → (r .number ≡ 0 → ⊥) → Answers bin cfg label out (refused bin cfg label r) out
   unfolding buildingOf builtOf
   refuses r e h = record { answer = rw (e, ne-eqb (r .number) 0 h); leaves = rw (e, ne-eqb (r .number) 0 h) }
 
   -- any refusal but 29 answers nothing else
-  refuses-bare : (r : Refusal) → refusalOf bin cfg out ≡ r → (r .number ≡ 0 → ⊥) → (r .number ≡ 29 → ⊥) → Answers bin cfg out (bare r) out
-  refuses-bare r e h k = let a : Answers bin cfg out (refused bin cfg r) out = refuses r e h in rw (ne-eqb (r .number) 29 k) at a
+  refuses-bare : (r : Refusal) → refusalOf bin cfg label out ≡ r → (r .number ≡ 0 → ⊥) → (r .number ≡ 29 → ⊥) → Answers bin cfg label out (bare r) out
+  refuses-bare r e h k = let a : Answers bin cfg label out (refused bin cfg label r) out = refuses r e h in rw (ne-eqb (r .number) 29 k) at a
 
   -- 21
-  pub refused-bin : (b : Bool) → b ≡ wrongBin bin → b ≡ true → (r : Refusal) → r ≡ refuse 21 0 → (q : Building) → q ≡ bare r → Answers bin cfg out q out
+  pub refused-bin : (b : Bool) → b ≡ wrongBin bin → b ≡ true → (r : Refusal) → r ≡ refuse 21 0 → (q : Building) → q ≡ bare r → Answers bin cfg label out q out
   unfolding refusalOf
   refused-bin b e h r er q eq = rw (eq, er) (refuses-bare (refuse 21 0) (rw (← e, h)) (λ z. omega arith) (λ z. omega arith))
 
   abbrev behind : List (Row Refusal)
-  behind = ruleRows (binWords bin) (entriesOf cfg) ++ roomRows bin cfg out
+  behind = ruleRows (binWords bin) (entriesOf cfg) ++ roomRows bin cfg label out
 
   module _ (fine : wrongBin bin ≡ false) where
-    parts : refusalOf bin cfg out ≡ firstRefusal (cfgRows cfg ++ behind)
+    parts : refusalOf bin cfg label out ≡ firstRefusal (cfgRows cfg ++ behind)
     unfolding refusalOf
     parts = rw fine
 
     -- 22 to 24
-    pub refused-cfg : (r : Reading) → r ≡ readingOf cfg → (r .refusal .number ≡ 0 → ⊥) → (q : Building) → q ≡ bare (r .refusal) → Answers bin cfg out q out
+    pub refused-cfg : (r : Reading) → r ≡ readingOf cfg → (r .refusal .number ≡ 0 → ⊥) → (q : Building) → q ≡ bare (r .refusal) → Answers bin cfg label out q out
     refused-cfg r e h q eq =
         let s : r .refusal ≡ cfgRefusal cfg = ap (λ (x : Reading). x .refusal) e ∙ refusal-is cfg in
         let n : cfgRefusal cfg .number ≡ 0 → ⊥ = rw s at h in
@@ -101,7 +102,7 @@ module _ (bin cfg out : List ℕ) where
     pub lines-are : take (r .count) (r .lines) ≡ entriesOf cfg
     lines-are = rw (given .reading) (accepted-holds cfg read .lines)
 
-    behind-cfg : refusalOf bin cfg out ≡ firstRefusal behind
+    behind-cfg : refusalOf bin cfg label out ≡ firstRefusal behind
     behind-cfg = parts (given .fine) ∙ silent-behind (cfgRows cfg) behind (exactly cfg .accepts .0 read)
 
     module _ (words : ℕ) (ew : words ≡ binWords bin) (j : Refusal) (ej : j ≡ ruleRefusal words (take (r .count) (r .lines))) where
@@ -109,7 +110,7 @@ module _ (bin cfg out : List ℕ) where
       judged = ej ∙ rw (ew, lines-are)
 
       -- 25 to 28
-      pub refused-lines : (j .number ≡ 0 → ⊥) → (q : Building) → q ≡ bare j → Answers bin cfg out q out
+      pub refused-lines : (j .number ≡ 0 → ⊥) → (q : Building) → q ≡ bare j → Answers bin cfg label out q out
       unfolding ruleRefusal
       refused-lines h q eq =
           let n : ruleRefusal (binWords bin) (entriesOf cfg) .number ≡ 0 → ⊥ = rw judged at h in
@@ -129,39 +130,48 @@ module _ (bin cfg out : List ℕ) where
             let k : Holds cfg (readingOf cfg) = accepted-holds cfg read in
             rw lines-are (record { few = omega (arith, k .counted, k .most); typed = all-typed (k .fitting); judged = rules-exactly (binWords bin) (entriesOf cfg) .accepts .1 silent })
 
-        image-is : imageOn bin cfg (take (r .count) (r .lines)) ≡ pressedImage bin cfg
+        image-is : imageOn bin cfg label (take (r .count) (r .lines)) ≡ pressedImage bin cfg label
         unfolding pressedImage
         image-is = rw lines-are
 
-        left : refusalOf bin cfg out ≡ cond (tooLarge (entriesOf cfg)) (refuse 20 0) (cond (tooShort bin cfg out) (refuse 29 0) noRefusal)
+        left : refusalOf bin cfg label out
+            ≡ cond (tooLarge (entriesOf cfg)) (refuse 20 0) (cond (wrongLabel label) (refuse 12 0) (cond (tooShort bin cfg label out) (refuse 29 0) noRefusal))
         left = behind-cfg ∙ silent-behind (ruleRows (binWords bin) (entriesOf cfg)) _ silent
 
         abbrev lines : List Line
         lines = take (r .count) (r .lines)
 
         -- 20
-        large : (q : Building) (after : List ℕ) → Pressed bin cfg lines out q after → tooLarge (entriesOf cfg) ≡ true → Answers bin cfg out q after
+        large : (q : Building) (after : List ℕ) → Pressed bin cfg label lines out q after → tooLarge (entriesOf cfg) ≡ true → Answers bin cfg label out q after
         large q after p t =
             let u : tooLarge lines ≡ true = rw lines-are t in
             rw (p .answer, p .leaves, u) (refuses-bare (refuse 20 0) (left ∙ rw t) (λ z. omega arith) (λ z. omega arith))
 
-        -- 29, and the image
-        fitting : (q : Building) (after : List ℕ) → Pressed bin cfg lines out q after → tooLarge (entriesOf cfg) ≡ false → Answers bin cfg out q after
-        unfolding buildingOf builtOf tooShort pressedImage
-        fitting q after p f =
+        -- 12
+        wrong : (q : Building) (after : List ℕ) → Pressed bin cfg label lines out q after → tooLarge (entriesOf cfg) ≡ false → wrongLabel label ≡ true → Answers bin cfg label out q after
+        wrong q after p f t =
             let g : tooLarge lines ≡ false = rw lines-are f in
-            cases (tooShort bin cfg out)
-            (λ t.
-            let v : refusalOf bin cfg out ≡ refuse 29 0 = left ∙ rw (f, t) in
-            let u : ltb (length out) (length (imageOn bin cfg lines)) ≡ true = rw image-is t in
-            record { answer = p .answer ∙ rw (g, u, image-is, v); leaves = p .leaves ∙ rw (g, u, v) })
-            (λ t.
-            let v : refusalOf bin cfg out ≡ noRefusal = left ∙ rw (f, t) in
-            let u : ltb (length out) (length (imageOn bin cfg lines)) ≡ false = rw image-is t in
-            record { answer = p .answer ∙ rw (g, u, image-is, lines-are, v); leaves = p .leaves ∙ rw (g, u, image-is, v) })
+            rw (p .answer, p .leaves, g, t) (refuses-bare (refuse 12 0) (left ∙ rw (f, t)) (λ z. omega arith) (λ z. omega arith))
 
-        pub pressed : (q : Building) (after : List ℕ) → Pressed bin cfg lines out q after → Answers bin cfg out q after
-        pressed q after p = cases (tooLarge (entriesOf cfg)) (large q after p) (fitting q after p)
+        -- 29, and the image
+        fitting : (q : Building) (after : List ℕ) → Pressed bin cfg label lines out q after → tooLarge (entriesOf cfg) ≡ false → wrongLabel label ≡ false → Answers bin cfg label out q after
+        unfolding buildingOf builtOf tooShort pressedImage
+        fitting q after p f o =
+            let g : tooLarge lines ≡ false = rw lines-are f in
+            cases (tooShort bin cfg label out)
+            (λ t.
+            let v : refusalOf bin cfg label out ≡ refuse 29 0 = left ∙ rw (f, o, t) in
+            let u : ltb (length out) (length (imageOn bin cfg label lines)) ≡ true = rw image-is t in
+            record { answer = p .answer ∙ rw (g, o, u, image-is, v); leaves = p .leaves ∙ rw (g, o, u, v) })
+            (λ t.
+            let v : refusalOf bin cfg label out ≡ noRefusal = left ∙ rw (f, o, t) in
+            let u : ltb (length out) (length (imageOn bin cfg label lines)) ≡ false = rw image-is t in
+            record { answer = p .answer ∙ rw (g, o, u, image-is, lines-are, v); leaves = p .leaves ∙ rw (g, o, u, image-is, v) })
+
+        pub pressed : (q : Building) (after : List ℕ) → Pressed bin cfg label lines out q after → Answers bin cfg label out q after
+        pressed q after p =
+            cases (tooLarge (entriesOf cfg)) (large q after p)
+            (λ f. cases (wrongLabel label) (wrong q after p f) (fitting q after p f))
 
 -- a BIN that 21 passes
 pub bin-small : (bin : List ℕ) → wrongBin bin ≡ false → length bin ≤ binLimit

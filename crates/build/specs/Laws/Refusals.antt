@@ -1,5 +1,5 @@
 -- A build is refused exactly when a row of its table holds and none before it does, and a refusal leaves the buffer; and what an
--- acceptance holds: lines that the rules accept, and words that Locutus has.
+-- acceptance holds: lines that the rules accept, words that Locutus has, and a label that a block can hold.
 use Prim.Native.Nat.{ℕ, _≤_}
 use mathlib.Core.List.{List, _++_}
 use mathlib.Core.Path.{_≡_, refl, sym, ap, _∙_}
@@ -25,83 +25,84 @@ use Rattle.rules.specs.Laws.Rules.{Good}
 use Rattle.rules.specs.Accepted.{Accepted}
 use Rattle.layout.specs.Layout.{needed, pages}
 use Rattle.plan.specs.Laws.Pages.{few-pages}
+use Rattle.label.specs.Label.{wrongLabel}
 use Rattle.build.specs.declared.Building.{Building}
 use Rattle.build.specs.Building.{tooLarge, roomRows, refusalRows, refusalOf, builds, buildingOf, builtOf}
 
 -- what a build answers and leaves, for every BIN, CFG and buffer
-pub record Answers (bin cfg out : List ℕ) : Type 0 where
+pub record Answers (bin cfg label out : List ℕ) : Type 0 where
   -- refused so exactly when the row of this refusal holds and none before it does; accepted exactly when none holds
-  pub refused : (r : Refusal) → (r .number ≡ 0 → ⊥) → (buildingOf bin cfg out .refusal ≡ r) ↔ Gives (refusalRows bin cfg out) r
-  pub accepted : (buildingOf bin cfg out .refusal .number ≡ 0) ↔ Silent (refusalRows bin cfg out)
+  pub refused : (r : Refusal) → (r .number ≡ 0 → ⊥) → (buildingOf bin cfg label out .refusal ≡ r) ↔ Gives (refusalRows bin cfg label out) r
+  pub accepted : (buildingOf bin cfg label out .refusal .number ≡ 0) ↔ Silent (refusalRows bin cfg label out)
   -- a refusal leaves the buffer
-  pub kept : (buildingOf bin cfg out .refusal .number ≡ 0 → ⊥) → builtOf bin cfg out ≡ out
+  pub kept : (buildingOf bin cfg label out .refusal .number ≡ 0 → ⊥) → builtOf bin cfg label out ≡ out
 
-module _ (bin cfg out : List ℕ) where
+module _ (bin cfg label out : List ℕ) where
   abbrev rules : List (Row Refusal)
   rules = ruleRows (binWords bin) (entriesOf cfg)
 
   -- what is asked behind the CFG's rows
   abbrev behind : List (Row Refusal)
-  behind = rules ++ roomRows bin cfg out
+  behind = rules ++ roomRows bin cfg label out
 
   behind-rows : Refusing behind
   behind-rows =
-      refusing-append rules (roomRows bin cfg out) (rules-refuse (binWords bin) (entriesOf cfg))
-      ((λ z. omega arith), ((λ z. omega arith), tt))
+      refusing-append rules (roomRows bin cfg label out) (rules-refuse (binWords bin) (entriesOf cfg))
+      ((λ z. omega arith), ((λ z. omega arith), ((λ z. omega arith), tt)))
 
-  every-row : Refusing (refusalRows bin cfg out)
+  every-row : Refusing (refusalRows bin cfg label out)
   every-row = ((λ z. omega arith), refusing-append (cfgRows cfg) behind (cfg-refuses cfg) behind-rows)
 
-  given : (r : Refusal) → refusalOf bin cfg out ≡ r → (r .number ≡ 0 → ⊥) → buildingOf bin cfg out .refusal ≡ r
+  given : (r : Refusal) → refusalOf bin cfg label out ≡ r → (r .number ≡ 0 → ⊥) → buildingOf bin cfg label out .refusal ≡ r
   unfolding buildingOf
   given r e h = rw (e, ne-eqb (r .number) 0 h)
 
-  quiet : refusalOf bin cfg out ≡ noRefusal → buildingOf bin cfg out .refusal ≡ noRefusal
+  quiet : refusalOf bin cfg label out ≡ noRefusal → buildingOf bin cfg label out .refusal ≡ noRefusal
   unfolding buildingOf
   quiet e = rw e
 
   -- the answer's refusal is the table's
-  pub refusal-is : buildingOf bin cfg out .refusal ≡ refusalOf bin cfg out
+  pub refusal-is : buildingOf bin cfg label out .refusal ≡ refusalOf bin cfg label out
   unfolding refusalOf
-  refusal-is = go (first-by (refusalRows bin cfg out) noRefusal)
+  refusal-is = go (first-by (refusalRows bin cfg label out) noRefusal)
     where
-      go : (Gives (refusalRows bin cfg out) (refusalOf bin cfg out)) ⊎ (Silent (refusalRows bin cfg out)) → buildingOf bin cfg out .refusal ≡ refusalOf bin cfg out
-      go (inl g) = given (refusalOf bin cfg out) refl (gives-refused every-row g)
+      go : (Gives (refusalRows bin cfg label out) (refusalOf bin cfg label out)) ⊎ (Silent (refusalRows bin cfg label out)) → buildingOf bin cfg label out .refusal ≡ refusalOf bin cfg label out
+      go (inl g) = given (refusalOf bin cfg label out) refl (gives-refused every-row g)
       go (inr s) = quiet (silent-first noRefusal s) ∙ sym (silent-first noRefusal s)
 
-  kept-so : (refusalOf bin cfg out .number ≡ 0 → ⊥) → builtOf bin cfg out ≡ out
+  kept-so : (refusalOf bin cfg label out .number ≡ 0 → ⊥) → builtOf bin cfg label out ≡ out
   unfolding builtOf
-  kept-so h = rw (ne-eqb (refusalOf bin cfg out .number) 0 h)
+  kept-so h = rw (ne-eqb (refusalOf bin cfg label out .number) 0 h)
 
-  pub answers : Answers bin cfg out
+  pub answers : Answers bin cfg label out
   unfolding refusalOf
   answers =
-      let n : buildingOf bin cfg out .refusal .number ≡ refusalOf bin cfg out .number = ap (λ (x : Refusal). x .number) refusal-is in
+      let n : buildingOf bin cfg label out .refusal .number ≡ refusalOf bin cfg label out .number = ap (λ (x : Refusal). x .number) refusal-is in
       record {
         refused = λ r h. (
-          λ e. refused-exactly (refusalRows bin cfg out) every-row r h .0 (sym refusal-is ∙ e),
-          λ g. refusal-is ∙ refused-exactly (refusalRows bin cfg out) every-row r h .1 g,
+          λ e. refused-exactly (refusalRows bin cfg label out) every-row r h .0 (sym refusal-is ∙ e),
+          λ g. refusal-is ∙ refused-exactly (refusalRows bin cfg label out) every-row r h .1 g,
         );
         accepted = (
-          λ e. accepted-exactly (refusalRows bin cfg out) every-row .0 (sym n ∙ e),
-          λ s. n ∙ accepted-exactly (refusalRows bin cfg out) every-row .1 s,
+          λ e. accepted-exactly (refusalRows bin cfg label out) every-row .0 (sym n ∙ e),
+          λ s. n ∙ accepted-exactly (refusalRows bin cfg label out) every-row .1 s,
         );
         kept = λ h. kept-so (λ z. h (n ∙ z));
       }
 
-  module _ (accepts : builds bin cfg out ≡ true) where
-    silent : Silent (refusalRows bin cfg out)
+  module _ (accepts : builds bin cfg label out ≡ true) where
+    silent : Silent (refusalRows bin cfg label out)
     unfolding refusalOf
-    silent = accepted-exactly (refusalRows bin cfg out) every-row .0 (eqb-true _ _ accepts)
+    silent = accepted-exactly (refusalRows bin cfg label out) every-row .0 (eqb-true _ _ accepts)
 
-    cfg-silent : Silent (refusalRows bin cfg out) → Silent (cfgRows cfg)
+    cfg-silent : Silent (refusalRows bin cfg label out) → Silent (cfgRows cfg)
     cfg-silent (also e s) = silent-left (cfgRows cfg) behind s
 
-    rules-silent : Silent (refusalRows bin cfg out) → Silent rules
-    rules-silent (also e s) = silent-left rules (roomRows bin cfg out) (silent-right (cfgRows cfg) behind s)
+    rules-silent : Silent (refusalRows bin cfg label out) → Silent rules
+    rules-silent (also e s) = silent-left rules (roomRows bin cfg label out) (silent-right (cfgRows cfg) behind s)
 
-    room-silent : Silent (refusalRows bin cfg out) → Silent (roomRows bin cfg out)
-    room-silent (also e s) = silent-right rules (roomRows bin cfg out) (silent-right (cfgRows cfg) behind s)
+    room-silent : Silent (refusalRows bin cfg label out) → Silent (roomRows bin cfg label out)
+    room-silent (also e s) = silent-right rules (roomRows bin cfg label out) (silent-right (cfgRows cfg) behind s)
 
     -- the CFG is read, and the rules find nothing in its lines
     pub cfg-read : readingOf cfg .refusal .number ≡ 0
@@ -113,7 +114,7 @@ module _ (bin cfg out : List ℕ) where
         record { few = omega (arith, h .counted, h .most); typed = all-typed (h .fitting); judged = rules-exactly (binWords bin) (entriesOf cfg) .accepts .1 (rules-silent silent) }
 
     -- and the words that they need are Locutus's at most: 128 pages (02, W-210)
-    not-large : Silent (roomRows bin cfg out) → tooLarge (entriesOf cfg) ≡ false
+    not-large : Silent (roomRows bin cfg label out) → tooLarge (entriesOf cfg) ≡ false
     not-large (also e s) = e
 
     pub words-fit : needed (entriesOf cfg) ≤ lentLimit
@@ -122,6 +123,13 @@ module _ (bin cfg out : List ℕ) where
 
     pub pages-fit : pages (entriesOf cfg) ≤ 128
     pages-fit = omega (arith, words-fit)
+
+    -- and the label is whole, and no longer than a block's length can say
+    label-row : Silent (roomRows bin cfg label out) → wrongLabel label ≡ false
+    label-row (also e (also l s)) = l
+
+    pub label-right : wrongLabel label ≡ false
+    label-right = label-row (room-silent silent)
 
 -- up to 117 lines never need more: whatever their pages are, 20 is not given (64 was the limit before W-210)
 pub few-fit : {lines : List Line} → Good lines → length lines ≤ 117 → tooLarge lines ≡ false

@@ -26,6 +26,7 @@ use Rattle.rules.specs.Accepted.{Accepted}
 use Rattle.rules.specs.Rules.{refusalRows as ruleRows}
 use Rattle.rules.specs.Laws.Refusals as Rules
 use Rattle.layout.specs.Layout.{needed}
+use Rattle.label.specs.Label.{wrongLabel}
 use Rattle.build.specs.declared.Building.{Building}
 use Rattle.build.specs.Building.{wrongBin, tooLarge, tooShort, pressedImage, roomRows, refusalRows, refusalOf, built, tablesFor}
 use Rattle.build.specs.Laws.Image.{within-limit}
@@ -36,29 +37,31 @@ use Rattle.demands.specs.Bench.{Bench, Case, six, Six, seven, Seven, sev
 use Rattle.demands.specs.Laws.Pressed.{is-built, pressed-tables, pressed-plays}
 use Rattle.demands.specs.Laws.Files.{sixLines, six-says, six-read, six-accepted, six-words, six-mapping, six-permission, sevenLines, seven-says, seven-read, seven-accepted, seven-words, seven-entry, seven-others, seven-plain}
 
--- a CFG that is read, with lines that the rules accept for this BIN and words that Locutus has, builds into a buffer that takes any image
+-- a CFG that is read, with lines that the rules accept for this BIN and words that Locutus has, beside a label that a block can hold,
+-- builds into a buffer that takes any image
 module _ (p : Pressing) (q : Pressed p) (fine : wrongBin (p .bin) ≡ false) (read : readingOf (p .cfg) .refusal .number ≡ 0)
-    (accepted : Accepted (p .bin) (entriesOf (p .cfg))) (few : needed (entriesOf (p .cfg)) ≤ lentLimit) (room : imageLimit ≤ length (p .out)) where
+    (accepted : Accepted (p .bin) (entriesOf (p .cfg))) (few : needed (entriesOf (p .cfg)) ≤ lentLimit) (right : wrongLabel (p .label) ≡ false)
+    (room : imageLimit ≤ length (p .out)) where
   not-large : tooLarge (entriesOf (p .cfg)) ≡ false
   unfolding tooLarge
   not-large = le-ltb lentLimit (needed (entriesOf (p .cfg))) few
 
-  fits : tooShort (p .bin) (p .cfg) (p .out) ≡ false
+  fits : tooShort (p .bin) (p .cfg) (p .label) (p .out) ≡ false
   unfolding tooShort pressedImage
   fits =
-      le-ltb (length (p .out)) (length (pressedImage (p .bin) (p .cfg)))
-      (omega (arith, room, within-limit (p .bin) (p .cfg) (entriesOf (p .cfg))))
+      le-ltb (length (p .out)) (length (pressedImage (p .bin) (p .cfg) (p .label)))
+      (omega (arith, room, within-limit (p .bin) (p .cfg) (entriesOf (p .cfg)) (p .label) right))
 
-  silent : Silent (refusalRows (p .bin) (p .cfg) (p .out))
+  silent : Silent (refusalRows (p .bin) (p .cfg) (p .label) (p .out))
   silent =
       also fine
       (silent-append (Cfg.exactly (p .cfg) .accepts .0 read)
-      (silent-append (Rules.exactly (binWords (p .bin)) (entriesOf (p .cfg)) .accepts .0 (accepted .judged)) (also not-large (also fits none))))
+      (silent-append (Rules.exactly (binWords (p .bin)) (entriesOf (p .cfg)) .accepts .0 (accepted .judged)) (also not-large (also right (also fits none)))))
 
   number-0 : p .building .refusal .number ≡ 0
-  number-0 = ap (λ (b : Building). b .refusal .number) (q .answer) ∙ Build.answers (p .bin) (p .cfg) (p .out) .accepted .1 silent
+  number-0 = ap (λ (b : Building). b .refusal .number) (q .answer) ∙ Build.answers (p .bin) (p .cfg) (p .label) (p .out) .accepted .1 silent
 
-  pub built-so : p .building ≡ built (p .bin) (p .cfg)
+  pub built-so : p .building ≡ built (p .bin) (p .cfg) (p .label)
   built-so = is-built p q number-0
 
 fine-512 : (bin : List ℕ) → length bin ≡ 512 → wrongBin bin ≡ false
@@ -72,8 +75,8 @@ fine-8192 bin e = rw e
 case-6 : (p : Pressing) → Case six 512 4096 p → Six p
 case-6 p c =
     let says : entriesOf (p .cfg) ≡ sixLines = ap entriesOf (c .file) ∙ six-says in
-    let b : p .building ≡ built (p .bin) (p .cfg) =
-    built-so p (c .pressed) (fine-512 (p .bin) (c .long)) (rw (c .file) six-read) (rw says (six-accepted (p .bin) (c .long))) (rw (says, six-words) (omega arith)) (c .room) in
+    let b : p .building ≡ built (p .bin) (p .cfg) (p .label) =
+    built-so p (c .pressed) (fine-512 (p .bin) (c .long)) (rw (c .file) six-read) (rw says (six-accepted (p .bin) (c .long))) (rw (says, six-words) (omega arith)) (c .label) (c .room) in
     let n : p .building .refusal ≡ noRefusal = ap (λ (x : Building). x .refusal) b in
     let w : p .building .needed ≡ 4096 = ap (λ (x : Building). x .needed) b ∙ ap needed says ∙ six-words in
     let t : p .loading .cartridge ≡ cartridgeWith (freshJlp 0 0) (tablesFor sixLines) =
@@ -88,8 +91,8 @@ case-6 p c =
 case-7 : (p : Pressing) → Case seven 8192 4096 p → Seven p
 case-7 p c =
     let says : entriesOf (p .cfg) ≡ sevenLines = ap entriesOf (c .file) ∙ seven-says in
-    let b : p .building ≡ built (p .bin) (p .cfg) =
-    built-so p (c .pressed) (fine-8192 (p .bin) (c .long)) (rw (c .file) seven-read) (rw says (seven-accepted (p .bin) (c .long))) (rw (says, seven-words) (omega arith)) (c .room) in
+    let b : p .building ≡ built (p .bin) (p .cfg) (p .label) =
+    built-so p (c .pressed) (fine-8192 (p .bin) (c .long)) (rw (c .file) seven-read) (rw says (seven-accepted (p .bin) (c .long))) (rw (says, seven-words) (omega arith)) (c .label) (c .room) in
     let n : p .building .refusal ≡ noRefusal = ap (λ (x : Building). x .refusal) b in
     let z : p .building .refusal .number ≡ 0 = ap (λ (r : Refusal). r .number) n in
     let w : p .building .needed ≡ 4096 = ap (λ (x : Building). x .needed) b ∙ ap needed says ∙ seven-words in
@@ -109,11 +112,11 @@ fine-510 : (bin : List ℕ) → length bin ≡ 510 → wrongBin bin ≡ false
 unfolding wrongBin
 fine-510 bin e = rw e
 
-module _ (bin cfg out : List ℕ) (e : length bin ≡ 510) (read : Silent (cfgRows cfg)) (says : entriesOf cfg ≡ sixLines) where
+module _ (bin cfg label out : List ℕ) (e : length bin ≡ 510) (read : Silent (cfgRows cfg)) (says : entriesOf cfg ≡ sixLines) where
   abbrev behind : List (Row Refusal)
-  behind = ruleRows (binWords bin) (entriesOf cfg) ++ roomRows bin cfg out
+  behind = ruleRows (binWords bin) (entriesOf cfg) ++ roomRows bin cfg label out
 
-  by-the-rules : refusalOf bin cfg out ≡ firstRefusal behind
+  by-the-rules : refusalOf bin cfg label out ≡ firstRefusal behind
   unfolding refusalOf
   by-the-rules = rw (fine-510 bin e) (silent-behind (cfgRows cfg) behind read)
 
@@ -124,8 +127,8 @@ case-6-short : (p : Pressing) → Case six 510 0 p → p .building .refusal ≡ 
 case-6-short p c =
     let read : Silent (cfgRows (p .cfg)) = Cfg.exactly (p .cfg) .accepts .0 (rw (c .file) six-read) in
     let says : entriesOf (p .cfg) ≡ sixLines = ap entriesOf (c .file) ∙ six-says in
-    ap (λ (b : Building). b .refusal) (c .pressed .answer) ∙ Build.refusal-is (p .bin) (p .cfg) (p .out)
-    ∙ by-the-rules (p .bin) (p .cfg) (p .out) (c .long) read says ∙ past-bin (p .bin) (p .cfg) (p .out) (c .long) read says
+    ap (λ (b : Building). b .refusal) (c .pressed .answer) ∙ Build.refusal-is (p .bin) (p .cfg) (p .label) (p .out)
+    ∙ by-the-rules (p .bin) (p .cfg) (p .label) (p .out) (c .long) read says ∙ past-bin (p .bin) (p .cfg) (p .label) (p .out) (c .long) read says
 
 pub bench : Bench
 unfolding crcFrom crcByte crcBits crcBit asks

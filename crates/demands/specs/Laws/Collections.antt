@@ -61,7 +61,7 @@ linesOn n =
     record { source = 2; entry = rom 0 0xAFF 0x500 } ∷ record { source = 3; entry = rom 0 0xFFF 0x2000 } ∷ record { source = 4; entry = rom 0 0xBFFF 0x4000 }
     ∷ pagesOn n
 
--- built into a buffer that takes any image
+-- built, with any label that 12 passes, into a buffer that takes any image
 pub record Built (p : Pressing) : Type 0 where
   pub accepted : p .building .refusal ≡ noRefusal
   pub needed : p .building .needed ≡ 524288
@@ -71,7 +71,7 @@ pub record Collections : Type 0 where
   pub lines-128 : length (entriesOf (collection 125)) ≡ 128
   pub pages-139 : pages (entriesOf (collection 125)) ≡ 139
   pub words-139 : needed (entriesOf (collection 125)) ≡ 569344
-  pub refused-139 : (bin out : List ℕ) → length bin ≡ 98304 → buildingOf bin (collection 125) out ≡ record { refusal = refuse 20 0; length = 0; needed = 0 }
+  pub refused-139 : (bin label out : List ℕ) → length bin ≡ 98304 → buildingOf bin (collection 125) label out ≡ record { refusal = refuse 20 0; length = 0; needed = 0 }
   pub pages-128 : pages (entriesOf (collection 114)) ≡ 128
   pub built-128 : (p : Pressing) → Case (collection 114) 98304 0 p → Built p
 
@@ -112,7 +112,7 @@ unfolding wrongBin
 fine bin e = rw e
 
 -- 139 pages
-module _ (bin out : List ℕ) (e : length bin ≡ 98304) where
+module _ (bin label out : List ℕ) (e : length bin ≡ 98304) where
   abbrev cfg : List ℕ
   cfg = collection 125
 
@@ -124,17 +124,17 @@ module _ (bin out : List ℕ) (e : length bin ≡ 98304) where
   large = rw (says-125, laid-125)
 
   abbrev behind : List (Row Refusal)
-  behind = ruleRows (binWords bin) (entriesOf cfg) ++ roomRows bin cfg out
+  behind = ruleRows (binWords bin) (entriesOf cfg) ++ roomRows bin cfg label out
 
-  refusal : refusalOf bin cfg out ≡ refuse 20 0
+  refusal : refusalOf bin cfg label out ≡ refuse 20 0
   unfolding refusalOf
   refusal =
       rw (fine bin e)
       (silent-behind (cfgRows cfg) behind (Cfg.exactly cfg .accepts .0 read-125)
-      ∙ silent-behind (ruleRows (binWords bin) (entriesOf cfg)) (roomRows bin cfg out) (Rules.exactly (binWords bin) (entriesOf cfg) .accepts .0 ruled)
+      ∙ silent-behind (ruleRows (binWords bin) (entriesOf cfg)) (roomRows bin cfg label out) (Rules.exactly (binWords bin) (entriesOf cfg) .accepts .0 ruled)
       ∙ rw large)
 
-  refused : buildingOf bin cfg out ≡ record { refusal = refuse 20 0; length = 0; needed = 0 }
+  refused : buildingOf bin cfg label out ≡ record { refusal = refuse 20 0; length = 0; needed = 0 }
   unfolding buildingOf
   refused = rw refusal
 
@@ -154,8 +154,8 @@ module _ (p : Pressing) (c : Case (collection 114) 98304 0 p) where
   words : needed (entriesOf (p .cfg)) ≡ 524288
   words = rw (says, laid-114)
 
-  so : p .building ≡ built (p .bin) (p .cfg)
-  so = built-so p (c .pressed) (fine (p .bin) (c .long)) read accepts (omega (arith, words)) (c .room)
+  so : p .building ≡ built (p .bin) (p .cfg) (p .label)
+  so = built-so p (c .pressed) (fine (p .bin) (c .long)) read accepts (omega (arith, words)) (c .label) (c .room)
 
   largest : Built p
   largest = record { accepted = ap (λ (b : Building). b .refusal) so; needed = ap (λ (b : Building). b .needed) so ∙ words }

@@ -40,9 +40,9 @@ rules-accepted : (words : ℕ) (lines : List Line) → (ruledBy words lines .num
 unfolding ruledBy
 rules-accepted words lines = accepted-exactly (ruleRows words lines) (Rules.each-refuses words lines)
 
-build-zero : (bin cfg out : List ℕ) → Refused (buildingOf bin cfg out .refusal) → buildingOf bin cfg out ≡ buildRefused bin cfg (buildingOf bin cfg out .refusal)
+build-zero : (bin cfg label out : List ℕ) → Refused (buildingOf bin cfg label out .refusal) → buildingOf bin cfg label out ≡ buildRefused bin cfg label (buildingOf bin cfg label out .refusal)
 unfolding buildingOf
-build-zero bin cfg out n = cases (builds bin cfg out) (λ e. absurd (n (rw e))) (λ e. rw e)
+build-zero bin cfg label out n = cases (builds bin cfg label out) (λ e. absurd (n (rw e))) (λ e. rw e)
 
 pub demand-1 : Demand1
 demand-1 =
@@ -56,7 +56,7 @@ demand-1 =
       write = λ out c. record { refused = Save.answers out c .refused; accepted = Save.answers out c .accepted };
       write-zero = λ out c. Save.answers out c .zero;
       write-keeps = λ out c. Save.answers out c .kept;
-      build = λ bin cfg out. record { refused = Build.answers bin cfg out .refused; accepted = Build.answers bin cfg out .accepted };
+      build = λ bin cfg label out. record { refused = Build.answers bin cfg label out .refused; accepted = Build.answers bin cfg label out .accepted };
       build-zero = build-zero;
-      build-keeps = λ bin cfg out. Build.answers bin cfg out .kept;
+      build-keeps = λ bin cfg label out. Build.answers bin cfg label out .kept;
     }

@@ -16,9 +16,9 @@ pub loads-whole :
 loads-whole left ram stored f l long h q = rw (take-all long left h) (record { answer = q .0; leaves = q .1 })
 
 -- what the records promise determines each answer and each buffer
-module _ (bin cfg out ram flash : List ℕ) (b c : Building) (left after : List ℕ) (l m : Loading) (stored kept : List ℕ)
-    (p : Pressed (record { bin = bin; cfg = cfg; out = out; ram = ram; flash = flash; building = b; left = left; loading = l; stored = stored }))
-    (q : Pressed (record { bin = bin; cfg = cfg; out = out; ram = ram; flash = flash; building = c; left = after; loading = m; stored = kept })) where
+module _ (bin cfg label out ram flash : List ℕ) (b c : Building) (left after : List ℕ) (l m : Loading) (stored kept : List ℕ)
+    (p : Pressed (record { bin = bin; cfg = cfg; label = label; out = out; ram = ram; flash = flash; building = b; left = left; loading = l; stored = stored }))
+    (q : Pressed (record { bin = bin; cfg = cfg; label = label; out = out; ram = ram; flash = flash; building = c; left = after; loading = m; stored = kept })) where
   pub one-building : b ≡ c
   one-building = p .answer ∙ sym (q .answer)
 

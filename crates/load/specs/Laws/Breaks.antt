@@ -25,7 +25,7 @@ use Rattle.hunk.specs.Hunk.{checkHunk, broken, breakOf}
 use Rattle.hunk.specs.Laws.Refusals.{BreaksAt, broken-breaks, breaks-broken}
 use Rattle.tables.specs.Tables.{Tables, tablesIn, tablesRows}
 use Rattle.blocks.specs.Blocks.{frameSize, typeOf, sumSaid, payloadIn, isTables, isHunk, Block}
-use Rattle.blocks.specs.Judged.{isEncrypted, wrongSum, wrongTables, wrongHunk, breakIn, judgeRows}
+use Rattle.blocks.specs.Judged.{isEncrypted, wrongSum, wrongMetadata, wrongTables, wrongHunk, breakIn, judgeRows}
 use Rattle.blocks.specs.Images.{firstBlock, blocksIn, stopOf, isCut, judgeAll, anyTables, payloadOfTables}
 use Rattle.blocks.specs.Laws.Images.{judge-append, next-blocks, reading}
 use Rattle.load.specs.Load.{walkRows, refusalRows, loadingOf}
@@ -80,7 +80,8 @@ unfolding judgeRows
 nine-row m e p sum x (here a) n = absurd (omega arith)
 nine-row m e p sum x (later a (here b)) n = absurd (omega arith)
 nine-row m e p sum x (later a (later b (here c))) n = absurd (omega arith)
-nine-row m e p sum x (later a (later b (later c (here d)))) n = record { good-sum = b; wrong = d; is = refl }
+nine-row m e p sum x (later a (later b (later w (here c)))) n = absurd (omega arith)
+nine-row m e p sum x (later a (later b (later w (later c (here d))))) n = record { good-sum = b; wrong = d; is = refl }
 
 -- ---- which block
 
@@ -176,10 +177,11 @@ module _ (s : List ℕ) (m f at : ℕ) where
       let c : checkHunk (payloadIn x) m ≡ Broken (b .byte) = breaks-broken (payloadIn x) m (b .byte) (b .breaks) in
       let e₇ : isEncrypted x ≡ false = rw t in
       let e₆ : wrongSum (crc324Of (payloadIn x)) x ≡ false = rw (t, eq-eqb _ _ (b .sum)) in
+      let e₁₂ : wrongMetadata (crc324Of (payloadIn x)) x ≡ false = rw t in
       let e₈ : wrongTables (anyTables (b .before)) x ≡ false = rw t in
       let e₉ : wrongHunk m x ≡ true = rw (t, c) in
       let q : p + breakIn m x ≡ at = rw c (sym (b .place)) in
-      let g : Gives (judgeRows m (anyTables (b .before)) p (crc324Of (payloadIn x)) x) (refuse 9 (p + breakIn m x)) = later e₇ (later e₆ (later e₈ (here e₉))) in
+      let g : Gives (judgeRows m (anyTables (b .before)) p (crc324Of (payloadIn x)) x) (refuse 9 (p + breakIn m x)) = later e₇ (later e₆ (later e₁₂ (later e₈ (here e₉)))) in
       let all : Gives (judgeAll m false firstBlock (blocksIn s)) (refuse 9 (p + breakIn m x)) =
       rw (b .all, judge-append m false firstBlock (b .before) (x ∷ b .after)) (silent-gives (b .quiet) (gives-append _ g)) in
       rw (← q) (silent-gives (b .header) (gives-append _ (gives-append _ all)))

@@ -25,7 +25,7 @@ use Rattle.header.specs.Laws.Refusals.{header-accepted, accepted-length}
 use Rattle.hunk.specs.declared.Checked.{Checked}
 use Rattle.hunk.specs.declared.Checked.the-variants.{Whole, Broken}
 use Rattle.hunk.specs.Hunk.{Hunk, address, wordsOf, checkHunk, storeHunk}
-use Rattle.tables.specs.Tables.{tablesSize, tablesIn, tablesRows, tablesRefusal}
+use Rattle.tables.specs.Tables.{tablesSize, tablesIn, flashWords, tablesRows, tablesRefusal}
 use Rattle.tables.specs.Laws.Refusals.{tables-refusing}
 use Rattle.blocks.specs.Blocks.{typeOf, payloadIn, sizeSaid, isTables, isHunk, Block}
 use Rattle.blocks.specs.Judged.{wrongTables, wrongHunk, judgeRows}
@@ -35,18 +35,18 @@ use Rattle.blocks.specs.Laws.Images.{next-blocks, reading}
 use Rattle.load.specs.declared.Verdict.{Verdict}
 use Rattle.load.specs.declared.Verdict.the-variants.{Refused, Loads}
 use Rattle.load.specs.declared.Loading.{Loading}
-use Rattle.load.specs.Load.{walkRows, refusalRows, refusalOf, loads, loadedOf, refused, loadingOf, loadRamOf}
-use Rattle.load.specs.Code.Passes.{tablesPlace, verdictOf, Tabled, tablesAt, finishedOf, blockStored, eachStored, finishedRamOf}
+use Rattle.load.specs.Load.{walkRows, refusalRows, refusalOf, refusalBySize, loads, loadedOf, refused, loadingOf, loadRamOf}
+use Rattle.load.specs.Code.Passes.{tablesPlace, verdictOf, Tabled, tablesAt, endRefusal, finishedOf, blockStored, eachStored, finishedRamOf}
 use Rattle.load.specs.Laws.Refusals.{walk-silent, walk-refusing}
 
 -- what a block's rows say where none holds
 judged-tables : (m : ℕ) (e : Bool) (p sum : ℕ) (x : List ℕ) → Silent (judgeRows m e p sum x) → wrongTables e x ≡ false
 unfolding judgeRows
-judged-tables m e p sum x (also a (also b (also c (also d none)))) = c
+judged-tables m e p sum x (also a (also b (also w (also c (also d none))))) = c
 
 pub judged-hunk : (m : ℕ) (e : Bool) (p sum : ℕ) (x : List ℕ) → Silent (judgeRows m e p sum x) → wrongHunk m x ≡ false
 unfolding judgeRows
-judged-hunk m e p sum x (also a (also b (also c (also d none)))) = d
+judged-hunk m e p sum x (also a (also b (also w (also c (also d none))))) = d
 
 -- ---- the tables block
 
@@ -225,3 +225,20 @@ module _ (s ram : List ℕ) (f : ℕ) (h : Refusal) (eh : h ≡ headerRefusal s)
       pub done-so : (l : Loading) (after : List ℕ) → l ≡ finishedOf s (lent ram) f t blocks words → after ≡ finishedRamOf s t ram f → (l ≡ loadingOf s (lent ram) f) × (after ≡ loadRamOf s ram f)
       done-so l after el ea =
           (rw (← em) (done-answer s m f h eh zero v ev t blocks words e l (rw (← em) at el)), done-ram s m f h eh zero v ev t blocks words e ram after em ea)
+
+-- each way out of the refusals alone, for any number of words
+module _ (s : List ℕ) (m : ℕ) (h : Refusal) (eh : h ≡ headerRefusal s) where
+  abbrev size : ℕ
+  size = flashWords (flagsOf s)
+
+  pub refusal-head : (h .number ≡ 0 → ⊥) → h ≡ refusalBySize s m
+  refusal-head n = sym (header-refuses s m size h eh n)
+
+  module _ (zero : h .number ≡ 0) (v : Verdict) (ev : v ≡ verdictOf s m) where
+    pub refusal-walk : (r : Refusal) → v ≡ Refused r → r ≡ refusalBySize s m
+    refusal-walk r e = sym (walk-refuses s m size h eh zero v ev r e)
+
+    pub refusal-tables : (t blocks words : ℕ) → v ≡ Loads t blocks words → (r : Refusal) → r ≡ endRefusal s t m size → r ≡ refusalBySize s m
+    refusal-tables t blocks words e r er =
+        let p : Found s t (payloadOfTables (blocksIn s)) = here s m size h eh zero v ev t blocks words e in
+        er ∙ rw (p .payload) (sym (refusal-end s m size h eh zero v ev t blocks words e))

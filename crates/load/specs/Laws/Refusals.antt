@@ -37,7 +37,7 @@ unfolding walkRows
 walk-refusing s m =
     refusing-append (judgeAll m false firstBlock (blocksIn s)) _ (judge-all-refusing m false firstBlock (blocksIn s)) ((λ z. omega arith), ((λ z. omega arith), tt))
 
-rows-refusing : (s : List ℕ) (m f : ℕ) → Refusing (refusalRows s m f)
+pub rows-refusing : (s : List ℕ) (m f : ℕ) → Refusing (refusalRows s m f)
 rows-refusing s m f =
     refusing-append (headerRows s) _ (header-refusing s)
     (refusing-append (walkRows s m) _ (walk-refusing s m) (tables-refusing (flagsOf s) (tablesIn (payloadOfTables (blocksIn s)) .flips) m f))

@@ -1,6 +1,6 @@
 -- `save::put_tables` meets its contract: the payload in its part, then the frame.
 use borrow.Author.Needs.{needs}
-use Rattle.save.proofs.Laws.{block-placed}
+use Rattle.blocks.specs.Laws.Payloads.{block-placed}
 use Rattle.save.proofs.put_tables.Statement.{statement}
 use Rattle.save.proofs.put_tables.Tie as tie
 

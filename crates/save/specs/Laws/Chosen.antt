@@ -9,7 +9,7 @@ use native.Mathlib.Omega.{arith}
 use native.Mathlib.Numerals.{add-one}
 use native.Mathlib.Nat.{eq-or-lt-of-le}
 use lib.ListN.{length, length-append}
-use Rattle.basics.specs.Lists.{joined, Each, none, also}
+use Rattle.basics.specs.Lists.{joined, flat, Each, none, also}
 use Rattle.basics.specs.Counts.{count}
 use Rattle.basics.specs.Laws.Each.{joined-append, joined-more, flat-map, each-append}
 use Rattle.basics.specs.Laws.Tests.{cases}
@@ -23,7 +23,7 @@ use Rattle.hunk.specs.Laws.Sizes.{length-payload, size-most}
 use Rattle.blocks.specs.Blocks.{frameSize, tablesType, hunkType, endMark}
 use Rattle.blocks.specs.Images.{imageOf}
 use Rattle.blocks.specs.Laws.ReadBack.{length-block}
-use Rattle.save.specs.Chosen.{paragraphHunk, chosen, tablesBlock, hunkBlock, imageFor, Sized}
+use Rattle.save.specs.Chosen.{paragraphHunk, chosen, tablesBlock, hunkBlock, imageWith, imageFor, Sized}
 
 module _ (on : ℕ → Bool) (words : ℕ → List ℕ) where
   -- one paragraph more
@@ -88,9 +88,18 @@ hunk-block-most h e = omega (arith, length-hunk-block h, size-most (h .words))
 
 -- an image is its header, its blocks and the byte that ends it, and as long as they are
 module _ (flags uid : List ℕ) (t : Tables) where
+  pub with-parts : (others : List (List ℕ)) (hunks : List Hunk)
+      → imageWith flags uid t others hunks ≡ (headerOf flags uid ++ tablesBlock t) ++ (flat others ++ (joined hunkBlock hunks ++ (endMark ∷ [])))
+  unfolding imageWith imageOf joined
+  with-parts others hunks = rw (joined-append, flat-map) (simp append-assoc)
+
+  pub length-with : (others : List (List ℕ)) (hunks : List Hunk)
+      → length (imageWith flags uid t others hunks) ≡ length (headerOf flags uid) + length (tablesBlock t) + (length (flat others) + length (joined hunkBlock hunks)) + 1
+  length-with others hunks = ap length (with-parts others hunks) ∙ simp length-append (omega arith)
+
   pub image-parts : (hunks : List Hunk) → imageFor flags uid t hunks ≡ (headerOf flags uid ++ tablesBlock t) ++ (joined hunkBlock hunks ++ (endMark ∷ []))
-  unfolding imageFor imageOf joined
-  image-parts hunks = rw flat-map (simp append-assoc)
+  unfolding imageFor joined
+  image-parts hunks = with-parts [] hunks
 
   pub length-image : (hunks : List Hunk) → length (imageFor flags uid t hunks) ≡ length (headerOf flags uid) + length (tablesBlock t) + length (joined hunkBlock hunks) + 1
   length-image hunks = ap length (image-parts hunks) ∙ simp length-append (omega arith)

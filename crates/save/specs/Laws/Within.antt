@@ -31,8 +31,9 @@ module _ (flags uid : List ℕ) (t : Tables) (z : Sized flags uid t) (on : ℕ �
   abbrev hunks : List Hunk
   hunks = chosen locutusParagraphs on words
 
-  pub within-limit : length (imageFor flags uid t hunks) ≤ imageLimit
-  within-limit =
+  -- and has room left for other blocks
+  pub image-most : length (imageFor flags uid t hunks) ≤ 1600000
+  image-most =
       omega (
         arith,
         length-sized flags uid t z hunks,
@@ -40,6 +41,9 @@ module _ (flags uid : List ℕ) (t : Tables) (z : Sized flags uid t) (on : ℕ �
         length-chosen on words locutusParagraphs,
         count-most on locutusParagraphs,
       )
+
+  pub within-limit : length (imageFor flags uid t hunks) ≤ imageLimit
+  within-limit = omega (arith, image-most)
 
 -- the row of 1 does not hold
 pub never-long : (c : Content) → Sized (c .flags) (c .uid) (c .tables) → ltb imageLimit (length (imageBy c)) ≡ false

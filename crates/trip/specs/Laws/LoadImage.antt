@@ -1,5 +1,5 @@
 -- Loading an image of a header, tables and blocks that refuse nothing gives its tables and counts and lays its hunks over the RAM: for any
--- such blocks, a block of a type that is not looked into among them; and for the blocks of hunks.
+-- such blocks, a block of a type that is not looked into among them; and for the blocks of hunks, behind others.
 use Prim.Native.Nat.{ℕ, suc, _+_, _*_, _≤_, _<_, _^_}
 use mathlib.Core.Path.{_≡_, refl, sym, ap, _∙_}
 use mathlib.Core.List.{List, [], _∷_, _++_, map}
@@ -7,7 +7,7 @@ use mathlib.Core.Bool.{Bool, true, false, not, _||_}
 use mathlib.Core.Logic.{inr}
 use native.Mathlib.Omega.{arith}
 use borrow.Author.Tests.{eq-eqb, ne-eqb}
-use lib.ListN.{length, length-map}
+use lib.ListN.{length, length-map, length-append}
 use lib.Dec.{eqb}
 use Rattle.basics.specs.Lists.{flat, Each, none as no-blocks, also as and-block}
 use Rattle.basics.specs.Rows.{Silent, none, also}
@@ -26,15 +26,16 @@ use Rattle.tables.specs.Laws.Tables.{length-tables, payload-tables}
 use Rattle.hunk.specs.declared.Checked.the-variants.{Whole}
 use Rattle.hunk.specs.Hunk.{Hunk, hunkOf, hunkPayload, checkHunk}
 use Rattle.hunk.specs.Laws.ReadBack.{payload-hunk, payload-checks}
-use Rattle.blocks.specs.Blocks.{typeOf, payloadIn, sizeSaid, sumSaid, blockOf, tablesType, hunkType, endMark, isTables, isHunk, Block}
-use Rattle.blocks.specs.Judged.{wrongSum, wrongTables, wrongHunk, judgeRows}
+use Rattle.blocks.specs.Blocks.{typeOf, payloadIn, sizeSaid, sumSaid, blockOf, tablesType, hunkType, metadataType, endMark, isTables, isHunk, isMetadata, Block}
+use Rattle.metadata.specs.Records.{isCut}
+use Rattle.blocks.specs.Judged.{wrongSum, wrongMetadata, wrongTables, wrongHunk, judgeRows}
 use Rattle.blocks.specs.Images.{firstBlock, imageOf, blocksIn, judgeAll, anyTables, payloadOfTables, hunksIn, overlay, wordCount}
 use Rattle.blocks.specs.Laws.ReadBack as Made
 use Rattle.blocks.specs.Laws.Images.{blocks-back, image-ends, length-image}
 use Rattle.load.specs.declared.Loading.{Loading}
 use Rattle.load.specs.Load.{refusalOf, loads, loadedOf, loadingOf, loadRamOf}
 use Rattle.load.specs.Laws.Refusals.{Accepted, accepts}
-use Rattle.save.specs.Chosen.{tablesBlock, hunkBlock, imageFor, Sized}
+use Rattle.save.specs.Chosen.{tablesBlock, hunkBlock, imageWith, Sized}
 use Rattle.save.specs.Laws.Chosen.{Lies}
 use Rattle.trip.specs.Trip.{answerOf}
 
@@ -55,16 +56,24 @@ fine-silent m e p [] no-blocks = none
 fine-silent m e p (x ∷ xs) (and-block f fs) = silent-append (f .silent e p) (fine-silent m (e || isTables x) (p + length x) xs fs)
 
 -- a made block has the checksum of its payload
+sum-is : (t : ℕ) (x : List ℕ) → crc324Of (payloadIn (blockOf t x)) ≡ sumSaid (blockOf t x)
+sum-is t x = ap crc324Of (Made.payload-back t (crc324Of x) x) ∙ sym (Made.sum-back t (crc324Of x) x)
+
 sum-right : (t : ℕ) (x : List ℕ) → wrongSum (crc324Of (payloadIn (blockOf t x))) (blockOf t x) ≡ false
-sum-right t x =
-    let e : crc324Of (payloadIn (blockOf t x)) ≡ sumSaid (blockOf t x) = ap crc324Of (Made.payload-back t (crc324Of x) x) ∙ sym (Made.sum-back t (crc324Of x) x) in
-    and-false (isTables (blockOf t x) || isHunk (blockOf t x)) _ (rw (eq-eqb _ _ e))
+sum-right t x = and-false (isTables (blockOf t x) || isHunk (blockOf t x)) _ (rw (eq-eqb _ _ (sum-is t x)))
+
+-- and of metadata 12 is asked where it is cut
+whole-right : (t : ℕ) (x : List ℕ) → isCut x ≡ false → wrongMetadata (crc324Of (payloadIn (blockOf t x))) (blockOf t x) ≡ false
+whole-right t x w =
+    let c : isCut (payloadIn (blockOf t x)) ≡ false = ap isCut (Made.payload-back t (crc324Of x) x) ∙ w in
+    and-false (isMetadata (blockOf t x)) _ (rw (eq-eqb _ _ (sum-is t x), c))
 
 -- a type that a load does not look into
 pub record Unread (t : ℕ) : Type 0 where
   pub not-0 : t ≡ 0x00 → ⊥
   pub not-1 : t ≡ 0x01 → ⊥
   pub not-2 : t ≡ 0x02 → ⊥
+  pub not-3 : t ≡ 0x03 → ⊥
   pub not-end : t ≡ 0xFF → ⊥
 
 pub fine-unread : (m t : ℕ) (payload : List ℕ) → Unread t → Fine m (blockOf t payload)
@@ -75,14 +84,34 @@ fine-unread m t payload u =
     let e₀ : eqb (typeOf x) 0x00 ≡ false = rw k (ne-eqb _ _ (u .not-0)) in
     let e₁ : eqb (typeOf x) 0x01 ≡ false = rw k (ne-eqb _ _ (u .not-1)) in
     let e₂ : eqb (typeOf x) 0x02 ≡ false = rw k (ne-eqb _ _ (u .not-2)) in
+    let e₃ : eqb (typeOf x) 0x03 ≡ false = rw k (ne-eqb _ _ (u .not-3)) in
     record {
       block = Made.block-back t (crc324Of payload) payload (u .not-end);
       plain = e₁;
       silent =
           λ e p.
+          let e₁₂ : wrongMetadata (crc324Of (payloadIn x)) x ≡ false = rw e₃ in
           let e₈ : wrongTables e x ≡ false = rw e₁ in
           let e₉ : wrongHunk m x ≡ false = rw e₂ in
-          also e₀ (also (sum-right t payload) (also e₈ (also e₉ none)));
+          also e₀ (also (sum-right t payload) (also e₁₂ (also e₈ (also e₉ none))));
+    }
+
+-- metadata that is not cut
+pub fine-metadata : (m : ℕ) (payload : List ℕ) → isCut payload ≡ false → Fine m (blockOf metadataType payload)
+unfolding judgeRows
+fine-metadata m payload w =
+    let x : List ℕ = blockOf metadataType payload in
+    let k : typeOf x ≡ 0x03 = Made.type-back metadataType (crc324Of payload) payload in
+    let e₀ : eqb (typeOf x) 0x00 ≡ false = rw k in
+    let e₁ : eqb (typeOf x) 0x01 ≡ false = rw k in
+    record {
+      block = Made.block-back metadataType (crc324Of payload) payload (λ e. omega arith);
+      plain = e₁;
+      silent =
+          λ e p.
+          let e₈ : wrongTables e x ≡ false = rw e₁ in
+          let e₉ : wrongHunk m x ≡ false = rw k in
+          also e₀ (also (sum-right metadataType payload) (also (whole-right metadataType payload w) (also e₈ (also e₉ none))));
     }
 
 pub unread-none : (t : ℕ) (payload : List ℕ) (xs : List (List ℕ)) → Unread t → hunksIn (blockOf t payload ∷ xs) ≡ hunksIn xs
@@ -114,7 +143,8 @@ module _ (flags uid : List ℕ) (t : Tables) (xs : List (List ℕ)) (z : Sized f
       let e₀ : eqb (typeOf (tablesBlock t)) 0x00 ≡ false = rw tables-type in
       let e₈ : wrongTables false (tablesBlock t) ≡ false = rw (tables-type, l) in
       let e₉ : wrongHunk m (tablesBlock t) ≡ false = rw tables-type in
-      also e₀ (also (sum-right tablesType (tablesPayload t)) (also e₈ (also e₉ none)))
+      let e₁₂ : wrongMetadata (crc324Of (payloadIn (tablesBlock t))) (tablesBlock t) ≡ false = rw tables-type in
+      also e₀ (also (sum-right tablesType (tablesPayload t)) (also e₁₂ (also e₈ (also e₉ none))))
 
   any-back : anyTables (tablesBlock t ∷ xs) ≡ true
   unfolding anyTables
@@ -195,7 +225,8 @@ module _ (m : ℕ) (few : m ≤ lentLimit) (h : Hunk) (w : Lies m h) where
             λ e p.
             let e₈ : wrongTables e (hunkBlock h) ≡ false = rw e₁ in
             let e₉ : wrongHunk m (hunkBlock h) ≡ false = rw (hunk-type, c) in
-            also e₀ (also (sum-right hunkType (hunkPayload h)) (also e₈ (also e₉ none)));
+            let e₁₂ : wrongMetadata (crc324Of (payloadIn (hunkBlock h))) (hunkBlock h) ≡ false = rw hunk-type in
+            also e₀ (also (sum-right hunkType (hunkPayload h)) (also e₁₂ (also e₈ (also e₉ none))));
       }
 
   hunk-one : (xs : List (List ℕ)) → hunksIn (hunkBlock h ∷ xs) ≡ h ∷ hunksIn xs
@@ -216,24 +247,50 @@ unfolding wordCount
 count-words [] no-blocks = refl
 count-words (h ∷ hs) (and-block w ws) = omega (arith, w .whole, count-words hs ws)
 
--- the image of hunks that lie in the words lent
-module _ (flags uid : List ℕ) (t : Tables) (hs : List Hunk) (z : Sized flags uid t) (short : length (imageFor flags uid t hs) ≤ imageLimit)
-    (ram : List ℕ) (f : ℕ) (supported : Silent (tablesRows flags (t .flips) (lent ram) f)) (w : Each (Lies (lent ram)) hs) where
+-- other blocks: they refuse nothing, and are no hunks
+pub record Other (m : ℕ) (x : List ℕ) : Type 0 where
+  pub fine : Fine m x
+  pub no-hunk : isHunk x ≡ false
+
+fine-others : {m : ℕ} (xs ys : List (List ℕ)) → Each (Other m) xs → Each (Fine m) ys → Each (Fine m) (xs ++ ys)
+fine-others [] ys no-blocks v = v
+fine-others (x ∷ xs) ys (and-block o os) v = and-block (o .fine) (fine-others xs ys os v)
+
+pub hunks-behind : {m : ℕ} (xs ys : List (List ℕ)) → Each (Other m) xs → hunksIn (xs ++ ys) ≡ hunksIn ys
+unfolding hunksIn
+hunks-behind [] ys no-blocks = refl
+hunks-behind (x ∷ xs) ys (and-block o os) = rw (o .no-hunk) (hunks-behind xs ys os)
+
+pub other-metadata : (m : ℕ) (payload : List ℕ) → isCut payload ≡ false → Other m (blockOf metadataType payload)
+other-metadata m payload w =
+    record { fine = fine-metadata m payload w; no-hunk = rw (Made.type-back metadataType (crc324Of payload) payload) }
+
+-- the image of other blocks, and of hunks that lie in the words lent
+module _ (flags uid : List ℕ) (t : Tables) (others : List (List ℕ)) (hs : List Hunk) (z : Sized flags uid t)
+    (short : length (imageWith flags uid t others hs) ≤ imageLimit) (ram : List ℕ) (f : ℕ) (supported : Silent (tablesRows flags (t .flips) (lent ram) f))
+    (o : Each (Other (lent ram)) others) (w : Each (Lies (lent ram)) hs) where
   few : lent ram ≤ lentLimit
   few = omega arith
 
-  pub image-blocks : blocksIn (imageFor flags uid t hs) ≡ tablesBlock t ∷ map hunkBlock hs
-  unfolding imageFor
-  image-blocks = read-back flags uid t (map hunkBlock hs) z short (lent ram) f supported (fine-hunks (lent ram) few hs w)
+  abbrev blocks : List (List ℕ)
+  blocks = others ++ map hunkBlock hs
 
-  pub image-answers : loadingOf (imageFor flags uid t hs) (lent ram) f ≡ answerOf flags t (1 + length hs) (paragraphSize * length hs)
-  unfolding imageFor
+  fine : Each (Fine (lent ram)) blocks
+  fine = fine-others others (map hunkBlock hs) o (fine-hunks (lent ram) few hs w)
+
+  hunks-are : hunksIn blocks ≡ hs
+  hunks-are = hunks-behind others (map hunkBlock hs) o ∙ hunks-back (lent ram) few hs w
+
+  pub image-blocks : blocksIn (imageWith flags uid t others hs) ≡ tablesBlock t ∷ blocks
+  unfolding imageWith
+  image-blocks = read-back flags uid t blocks z short (lent ram) f supported fine
+
+  pub image-answers : loadingOf (imageWith flags uid t others hs) (lent ram) f ≡ answerOf flags t (1 + (length others + length hs)) (paragraphSize * length hs)
+  unfolding imageWith
   image-answers =
-      load-answers flags uid t (map hunkBlock hs) z short (lent ram) f supported (fine-hunks (lent ram) few hs w)
-      ∙ rw (hunks-back (lent ram) few hs w, length-map hs hunkBlock, count-words hs w)
+      let n : length blocks ≡ length others + length hs = length-append others (map hunkBlock hs) ∙ ap (_+_ (length others)) (length-map hs hunkBlock) in
+      load-answers flags uid t blocks z short (lent ram) f supported fine ∙ rw (hunks-are, n, count-words hs w)
 
-  pub image-lays : loadRamOf (imageFor flags uid t hs) ram f ≡ overlay hs ram
-  unfolding imageFor
-  image-lays =
-      load-lays flags uid t (map hunkBlock hs) z short ram f supported (fine-hunks (lent ram) few hs w)
-      ∙ ap (λ (l : List Hunk). overlay l ram) (hunks-back (lent ram) few hs w)
+  pub image-lays : loadRamOf (imageWith flags uid t others hs) ram f ≡ overlay hs ram
+  unfolding imageWith
+  image-lays = load-lays flags uid t blocks z short ram f supported fine ∙ ap (λ (l : List Hunk). overlay l ram) hunks-are

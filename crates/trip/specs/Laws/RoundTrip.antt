@@ -2,13 +2,13 @@
 -- tables and the marked words, and every other word is kept (01, demand 2; 02, W-209).
 use Prim.Native.Nat.{ℕ, _+_, _*_, _/_, _%_, _≤_, min}
 use mathlib.Core.Path.{_≡_, refl, sym, ap, subst, _∙_}
-use mathlib.Core.List.{List, _++_}
+use mathlib.Core.List.{List, [], _++_}
 use mathlib.Core.Bool.{Bool, false}
 use native.Mathlib.Omega.{arith}
 use lib.ListN.{length, getD, take, drop}
 use lib.Seq.{take-append-seam}
 use Rattle.basics.specs.Counts.{count}
-use Rattle.basics.specs.Lists.{Each}
+use Rattle.basics.specs.Lists.{Each, none}
 use Rattle.basics.specs.Laws.Tables.{length-table, getD-table}
 use Rattle.places.specs.Limits.{imageLimit, lent, lentLimit, locutusParagraphs, paragraphSize}
 use Rattle.basics.specs.Rows.{Silent}
@@ -18,30 +18,31 @@ use Rattle.hunk.specs.Hunk.{Hunk}
 use Rattle.load.specs.declared.Loading.{Loading}
 use Rattle.load.specs.Load.{loadingOf, loadRamOf}
 use Rattle.save.specs.declared.Writing.{Writing}
-use Rattle.save.specs.Chosen.{chosen, imageFor, Sized}
+use Rattle.save.specs.Chosen.{chosen, imageWith, imageFor, Sized}
 use Rattle.save.specs.Writing.{Content, isMarked, paragraphOf, imageBy, writingOf, writtenOf}
 use Rattle.save.specs.Laws.Chosen.{Lies, chosen-each, length-chosen}
 use Rattle.save.specs.Laws.Refusals.{Accepted, accepted-so}
 use Rattle.trip.specs.Trip.{answerOf, Overlaid, ComesBack}
-use Rattle.trip.specs.Laws.LoadImage.{image-answers, image-lays}
+use Rattle.trip.specs.Laws.LoadImage.{Other, image-answers, image-lays}
 use Rattle.trip.specs.Laws.Overlay.{EachLies, laid-back}
 
--- an image of chosen paragraphs, as writer and builder make it: what its load answers, and the RAM after it
-pub record LoadsChosen (flags : List ℕ) (t : Tables) (on : ℕ → Bool) (words : ℕ → List ℕ) (s ram : List ℕ) (f : ℕ) : Type 0 where
-  pub answer : loadingOf s (lent ram) f ≡ answerOf flags t (1 + count on locutusParagraphs) (paragraphSize * count on locutusParagraphs)
+-- an image of chosen paragraphs behind so many other blocks, as writer and builder make it: what its load answers, and the RAM after it
+pub record LoadsChosen (flags : List ℕ) (t : Tables) (others : ℕ) (on : ℕ → Bool) (words : ℕ → List ℕ) (s ram : List ℕ) (f : ℕ) : Type 0 where
+  pub answer : loadingOf s (lent ram) f ≡ answerOf flags t (1 + (others + count on locutusParagraphs)) (paragraphSize * count on locutusParagraphs)
   pub back : Overlaid on words ram (loadRamOf s ram f)
 
 pub load-chosen :
-    (flags uid : List ℕ) (t : Tables) (on : ℕ → Bool) (words : ℕ → List ℕ) (ram : List ℕ) (f : ℕ) → Sized flags uid t
-    → length (imageFor flags uid t (chosen locutusParagraphs on words)) ≤ imageLimit → Silent (tablesRows flags (t .flips) (lent ram) f)
-    → EachLies (lent ram) locutusParagraphs on words → LoadsChosen flags t on words (imageFor flags uid t (chosen locutusParagraphs on words)) ram f
-load-chosen flags uid t on words ram f z short supported c =
+    (flags uid : List ℕ) (t : Tables) (others : List (List ℕ)) (on : ℕ → Bool) (words : ℕ → List ℕ) (ram : List ℕ) (f : ℕ) → Sized flags uid t
+    → length (imageWith flags uid t others (chosen locutusParagraphs on words)) ≤ imageLimit → Silent (tablesRows flags (t .flips) (lent ram) f)
+    → Each (Other (lent ram)) others → EachLies (lent ram) locutusParagraphs on words
+    → LoadsChosen flags t (length others) on words (imageWith flags uid t others (chosen locutusParagraphs on words)) ram f
+load-chosen flags uid t others on words ram f z short supported o c =
     let hs : List Hunk = chosen locutusParagraphs on words in
     let w : Each (Lies (lent ram)) hs = chosen-each on words locutusParagraphs c in
     let few : lent ram ≤ length ram = omega arith in
     record {
-      answer = image-answers flags uid t hs z short ram f supported w ∙ ap (λ (n : ℕ). answerOf flags t (1 + n) (paragraphSize * n)) (length-chosen on words locutusParagraphs);
-      back = subst (λ (x : List ℕ). Overlaid on words ram x) (sym (image-lays flags uid t hs z short ram f supported w)) (laid-back on words ram (lent ram) few c);
+      answer = image-answers flags uid t others hs z short ram f supported o w ∙ ap (λ (n : ℕ). answerOf flags t (1 + (length others + n)) (paragraphSize * n)) (length-chosen on words locutusParagraphs);
+      back = subst (λ (x : List ℕ). Overlaid on words ram x) (sym (image-lays flags uid t others hs z short ram f supported o w)) (laid-back on words ram (lent ram) few c);
     }
 
 -- word k of a RAM, by its paragraph
@@ -69,12 +70,14 @@ module _ (out : List ℕ) (c : Content) (z : Sized (c .flags) (c .uid) (c .table
 
   pub round-trip : (to : List ℕ) → length to ≡ length (c .ram) → (f : ℕ) → mislent (c .flags) f ≡ false
       → ComesBack c to (loadingOf (imageBy c) (lent to) f) (loadRamOf (imageBy c) to f)
+  unfolding imageFor
   round-trip to same f right =
-      let r : LoadsChosen (c .flags) (c .tables) (isMarked (c .marks)) (paragraphOf (c .ram)) (imageBy c) to f =
-      load-chosen (c .flags) (c .uid) (c .tables) (isMarked (c .marks)) (paragraphOf (c .ram)) to f z (accepted .short) (supported-in to same f right)
-      (marked-lie to same) in
+      let r : LoadsChosen (c .flags) (c .tables) 0 (isMarked (c .marks)) (paragraphOf (c .ram)) (imageBy c) to f =
+      load-chosen (c .flags) (c .uid) (c .tables) [] (isMarked (c .marks)) (paragraphOf (c .ram)) to f z (accepted .short) (supported-in to same f right)
+      none (marked-lie to same) in
+      let n : 1 + (0 + count (isMarked (c .marks)) locutusParagraphs) ≡ 1 + count (isMarked (c .marks)) locutusParagraphs = omega arith in
       record {
-        answer = r .answer;
+        answer = r .answer ∙ ap (λ (k : ℕ). answerOf (c .flags) (c .tables) k (paragraphSize * count (isMarked (c .marks)) locutusParagraphs)) n;
         same = r .back .same;
         marked-words = λ k h o. r .back .given k h o ∙ paragraph-word (c .ram) k;
         other-words = λ k h. r .back .kept k h;

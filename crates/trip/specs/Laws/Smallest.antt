@@ -10,6 +10,7 @@ use lib.Seq.{getD-append-add}
 use lib.Dec.{ltb}
 use borrow.Author.Tests.{eq-eqb, ltb-true, ltb-false}
 use Rattle.basics.specs.Lists.{joined, flat, Each, none as no-blocks, also as and-block}
+use Rattle.basics.specs.Laws.Each.{joined-append}
 use Rattle.basics.specs.Laws.Octets.{Bytes, bytes-drop}
 use Rattle.basics.specs.Laws.Tests.{cases, true-is-not-false}
 use Rattle.places.specs.Limits.{imageLimit, lent, lentLimit, locutusParagraphs}
@@ -28,13 +29,13 @@ use Rattle.load.specs.Load.{refusalOf, loads, loadingOf, loadRamOf}
 use Rattle.load.specs.Leaves.{Filled, Leaves}
 use Rattle.load.specs.Laws.Refusals.{answer-refusal}
 use Rattle.load.specs.Laws.Ram.{leaves}
-use Rattle.save.specs.Chosen.{chosen, tablesBlock, hunkBlock, imageFor, Sized}
-use Rattle.save.specs.Laws.Chosen.{Lies, chosen-each, length-image}
+use Rattle.save.specs.Chosen.{chosen, tablesBlock, hunkBlock, imageWith, imageFor, Sized}
+use Rattle.save.specs.Laws.Chosen.{Lies, chosen-each, length-with}
 use Rattle.save.specs.declared.Writing.{Writing}
 use Rattle.save.specs.Writing.{Content, isMarked, paragraphOf, imageBy, writingOf, writtenOf}
 use Rattle.save.specs.Laws.Refusals.{Accepted}
 use Rattle.trip.specs.Smallest.{Recoded, SameBlocks, none, same, coded, Alike}
-use Rattle.trip.specs.Laws.LoadImage.{hunks-all, image-blocks, image-lays}
+use Rattle.trip.specs.Laws.LoadImage.{Other, hunks-all, hunks-behind, image-blocks, image-lays}
 use Rattle.trip.specs.Laws.Overlay.{EachLies}
 use Rattle.trip.specs.Laws.RoundTrip.{accepted, marked-lie, image-front, supported-in}
 use Rattle.trip.specs.Laws.Rising.{Rising, SamePlaces, none as no-places, also as and-places, told, rising-chosen}
@@ -108,11 +109,29 @@ least (and-hunk {h = h} {y = y} {hs = hs} {ys = ys} c r) (and-block f fs) (and-b
       least r fs bs os j,
     )
 
--- the image of hunks that lie one behind the other in the words lent
-module _ (flags uid : List ℕ) (t : Tables) (hs : List Hunk) (z : Sized flags uid t) (short : length (imageFor flags uid t hs) ≤ imageLimit)
-    (ram : List ℕ) (f : ℕ) (supported : Silent (tablesRows flags (t .flips) (lent ram) f)) (w : Each (Lies (lent ram)) hs) (a b : ℕ) (rising : Rising a hs b) where
+-- blocks that are no hunks are the same in both
+record Behind (xs zs ys : List (List ℕ)) : Type 0 where
+  pub rest : List (List ℕ)
+  pub is : ys ≡ xs ++ rest
+  pub alike : SameBlocks zs rest
+
+peeled : {m : ℕ} (xs zs ys : List (List ℕ)) → Each (Other m) xs → SameBlocks (xs ++ zs) ys → Behind xs zs ys
+peeled [] zs ys no-blocks s = record { rest = ys; is = refl; alike = s }
+peeled (x ∷ xs) zs (y ∷ ys) (and-block o os) (same s) =
+    let b : Behind xs zs ys = peeled xs zs ys os s in
+    record { rest = b .rest; is = ap (_∷_ x) (b .is); alike = b .alike }
+peeled (x ∷ xs) zs (y ∷ ys) (and-block o os) (coded c s) = true-is-not-false (c .hunk) (o .no-hunk)
+
+each-behind : {P : List ℕ → Type 0} (xs ys : List (List ℕ)) → Each P (xs ++ ys) → Each P ys
+each-behind [] ys e = e
+each-behind (x ∷ xs) ys (and-block p e) = each-behind xs ys e
+
+-- the image of other blocks, and of hunks that lie one behind the other in the words lent
+module _ (flags uid : List ℕ) (t : Tables) (others : List (List ℕ)) (hs : List Hunk) (z : Sized flags uid t)
+    (short : length (imageWith flags uid t others hs) ≤ imageLimit) (ram : List ℕ) (f : ℕ) (supported : Silent (tablesRows flags (t .flips) (lent ram) f))
+    (ot : Each (Other (lent ram)) others) (w : Each (Lies (lent ram)) hs) (a b : ℕ) (rising : Rising a hs b) where
   abbrev image : List ℕ
-  image = imageFor flags uid t hs
+  image = imageWith flags uid t others hs
 
   module _ (other : List ℕ) (r : Alike image other ram f) where
     left : Leaves other ram (loadingOf other (lent ram) f) (loadRamOf other ram f)
@@ -134,56 +153,66 @@ module _ (flags uid : List ℕ) (t : Tables) (hs : List Hunk) (z : Sized flags u
     stops = cases (ltb (stopOf other) (length other)) (λ e. ltb-true _ _ e)
         (λ e. absurd (omega (arith, r .ended, List·getD-eq-default other 0 (ltb-false (stopOf other) (length other) e))))
 
-    -- behind the tables block
-    behind : (ys : List (List ℕ)) → blocksIn other ≡ tablesBlock t ∷ ys → SameBlocks (map hunkBlock hs) ys → Each Filled ys → Each Block ys → Each Bytes ys → length image ≤ length other
+    -- behind the tables block and the others
+    behind : (ys : List (List ℕ)) → blocksIn other ≡ tablesBlock t ∷ others ++ ys → SameBlocks (map hunkBlock hs) ys → Each Filled ys → Each Block ys → Each Bytes ys → length image ≤ length other
     unfolding joined
     behind ys e s g k o =
         let c : Coded hs ys = coded-of hs s in
         let v : overlay (hunksIn ys) ram ≡ overlay hs ram =
-        ap (λ (gs : List Hunk). overlay gs ram) (sym (ap hunksIn e ∙ hunks-all flags uid t ys z)) ∙ sym laid ∙ r .words ∙ image-lays flags uid t hs z short ram f supported w in
+        ap (λ (gs : List Hunk). overlay gs ram) (sym (ap hunksIn e ∙ hunks-all flags uid t (others ++ ys) z ∙ hunks-behind others ys ot)) ∙ sym laid ∙ r .words
+        ∙ image-lays flags uid t others hs z short ram f supported ot w in
         let same-hunks : hunksIn ys ≡ hs = told (hunksIn ys) hs (places (omega arith) w c) rising w ram (omega arith) v in
         omega (
           arith,
           stops,
           ap (λ (xs : List (List ℕ)). length (flat xs)) e,
-          length-append (tablesBlock t) (flat ys),
+          length-append (tablesBlock t) (flat (others ++ ys)),
+          ap length (joined-append (λ x. x) others ys),
+          length-append (flat others) (flat ys),
           least c g k o same-hunks,
-          length-image flags uid t hs,
+          length-with flags uid t others hs,
           length-header flags uid (z .flags-long) (z .uid-long),
         )
 
-    at-tables : (bs : List (List ℕ)) → blocksIn other ≡ bs → SameBlocks (tablesBlock t ∷ map hunkBlock hs) bs → Each Filled bs → Each Block bs → Each Bytes bs → length image ≤ length other
-    at-tables (y ∷ ys) e (same s) (and-block f fs) (and-block k ks) (and-block o os) = behind ys e s fs ks os
+    at-others : (ys : List (List ℕ)) → blocksIn other ≡ tablesBlock t ∷ ys → Behind others (map hunkBlock hs) ys → Each Filled ys → Each Block ys → Each Bytes ys → length image ≤ length other
+    at-others ys e p f k o =
+        behind (p .rest) (e ∙ ap (_∷_ (tablesBlock t)) (p .is)) (p .alike) (each-behind others (p .rest) (rw (p .is) at f))
+        (each-behind others (p .rest) (rw (p .is) at k)) (each-behind others (p .rest) (rw (p .is) at o))
+
+    at-tables : (bs : List (List ℕ)) → blocksIn other ≡ bs → SameBlocks (tablesBlock t ∷ others ++ map hunkBlock hs) bs → Each Filled bs → Each Block bs → Each Bytes bs → length image ≤ length other
+    at-tables (y ∷ ys) e (same s) (and-block f fs) (and-block k ks) (and-block o os) = at-others ys e (peeled others (map hunkBlock hs) ys ot s) fs ks os
     at-tables (y ∷ ys) e (coded c s) f k o =
         let n : isHunk (tablesBlock t) ≡ false = rw (Made.type-back tablesType (crc324Of (tablesPayload t)) (tablesPayload t)) in
         true-is-not-false (c .hunk) n
 
     pub smallest : length image ≤ length other
     smallest =
-        at-tables (blocksIn other) refl (rw (image-blocks flags uid t hs z short ram f supported w) at (r .blocks)) (left .filled) (reading other .each) octets
+        at-tables (blocksIn other) refl (rw (image-blocks flags uid t others hs z short ram f supported ot w) at (r .blocks)) (left .filled) (reading other .each) octets
 
 -- so of chosen paragraphs, as writer and builder have them
 pub chosen-smallest :
-    (flags uid : List ℕ) (t : Tables) (on : ℕ → Bool) (words : ℕ → List ℕ) (ram : List ℕ) (f : ℕ) → Sized flags uid t
-    → length (imageFor flags uid t (chosen locutusParagraphs on words)) ≤ imageLimit → Silent (tablesRows flags (t .flips) (lent ram) f)
-    → EachLies (lent ram) locutusParagraphs on words → (other : List ℕ) → Alike (imageFor flags uid t (chosen locutusParagraphs on words)) other ram f
-    → length (imageFor flags uid t (chosen locutusParagraphs on words)) ≤ length other
-chosen-smallest flags uid t on words ram f z short supported c other r =
+    (flags uid : List ℕ) (t : Tables) (others : List (List ℕ)) (on : ℕ → Bool) (words : ℕ → List ℕ) (ram : List ℕ) (f : ℕ) → Sized flags uid t
+    → length (imageWith flags uid t others (chosen locutusParagraphs on words)) ≤ imageLimit → Silent (tablesRows flags (t .flips) (lent ram) f)
+    → Each (Other (lent ram)) others → EachLies (lent ram) locutusParagraphs on words
+    → (other : List ℕ) → Alike (imageWith flags uid t others (chosen locutusParagraphs on words)) other ram f
+    → length (imageWith flags uid t others (chosen locutusParagraphs on words)) ≤ length other
+chosen-smallest flags uid t others on words ram f z short supported o c other r =
     let hs : List Hunk = chosen locutusParagraphs on words in
     let w : Each (Lies (lent ram)) hs = chosen-each on words locutusParagraphs c in
-    smallest flags uid t hs z short ram f supported w 0 _ (rising-chosen on words locutusParagraphs (λ p h e. c p h e .whole)) other r
+    smallest flags uid t others hs z short ram f supported o w 0 _ (rising-chosen on words locutusParagraphs (λ p h e. c p h e .whole)) other r
 
 -- what the writer accepts is written so
 module _ (out : List ℕ) (c : Content) (z : Sized (c .flags) (c .uid) (c .tables)) (e : writingOf out c .refusal .number ≡ 0) where
   pub written-smallest :
       (w : Writing) (after : List ℕ) → w ≡ writingOf out c → after ≡ writtenOf out c → (to : List ℕ) → length to ≡ length (c .ram)
       → (f : ℕ) → mislent (c .flags) f ≡ false → (other : List ℕ) → Alike (take (w .length) after) other to f → w .length ≤ length other
+  unfolding imageFor
   written-smallest w after ew ea to same-long f right other r =
       let a : Accepted out c = accepted out c z e in
       let k : w .length ≡ length (imageBy c) = ap (λ (x : Writing). x .length) (ew ∙ a .answer) in
       let s : Alike (imageBy c) other to f = rw (image-front out c z e w after ew ea) at r in
       omega (
         arith,
-        chosen-smallest (c .flags) (c .uid) (c .tables) (isMarked (c .marks)) (paragraphOf (c .ram)) to f z (a .short) (supported-in out c z e to same-long f right)
-            (marked-lie out c z e to same-long) other s,
+        chosen-smallest (c .flags) (c .uid) (c .tables) [] (isMarked (c .marks)) (paragraphOf (c .ram)) to f z (a .short) (supported-in out c z e to same-long f right)
+            no-blocks (marked-lie out c z e to same-long) other s,
       )

@@ -1,0 +1,3 @@
+-- A publisher's label file as a metadata block.
+pub mod Label
+pub mod Laws
