@@ -11,7 +11,7 @@ from load import LOCUTUS_WORDS
 from machine import SILENT
 from refusal import Refused
 from tables import PFE, READ, Tables
-from writer import compose, put
+from writer import check_label, compose, put
 
 BIN_LIMIT = 524_288
 FLAGS = b"\x55\x05" + bytes(14)
@@ -176,20 +176,21 @@ def checked_entries(bin_file: bytes, cfg: bytes) -> tuple[Entry, ...]:
 
 
 @lru_cache(maxsize=2)
-def make_image(bin_file: bytes, cfg: bytes, entries: tuple[Entry, ...]) -> bytes:
+def make_image(bin_file: bytes, cfg: bytes, entries: tuple[Entry, ...], label: bytes = b"") -> bytes:
     """Compose the image of checked entries (01, Header; READINGS B3, B6); kept, for the length is asked first."""
     layout = lay_out(entries)
     uid = crc32(bin_file).to_bytes(4, "little") + crc32(cfg).to_bytes(4, "little")
     hunks = [hunk for entry in entries for hunk in entry_hunks(entry, layout, bin_file)]
-    return compose(FLAGS, uid, make_tables(entries, layout), sorted(hunks))
+    return compose(FLAGS, uid, make_tables(entries, layout), sorted(hunks), label)
 
 
-def build(bin_file: bytes, cfg: bytes, buffer: bytearray) -> Built:
-    """Build a title into the buffer, or answer number and place (01, Build order)."""
+def build(bin_file: bytes, cfg: bytes, buffer: bytearray, label: bytes = b"") -> Built:
+    """Build a title into the buffer, or answer number and place (01, Build order; 02, W-204, W-210)."""
     length = 0
     try:
         entries = checked_entries(bin_file, cfg)
-        image = make_image(bin_file, cfg, entries)
+        check_label(label)
+        image = make_image(bin_file, cfg, entries, label)
         length = len(image)
         put(image, buffer)
         return Built(0, 0, length, words_needed(entries))

@@ -1,10 +1,10 @@
-"""Cases on images: sums, load, card and write (README.md, Families)."""
+"""Cases on images: sums, card and write, and the edges of loading (README.md, Families)."""
 
 from typing import Iterator, Optional
 
 import hunk
 from encode import Draft, DraftBlock, damaged, hunk_block, random_draft, random_tables, spoil, tables_block
-from families import Laid, card_record, load_record, sums_record, write_record
+from families import Laid, card_record, sums_record, write_record
 from generator import Generator, fill_bytes
 from load import IMAGE_LIMIT
 from tables import Tables
@@ -227,18 +227,6 @@ def random_image(g: Generator, ram_length: int) -> tuple[str, bytes]:
     return f"{faults} faults", image
 
 
-def load_cases(g: Generator) -> Iterator[Case]:
-    """Give the edges, then random images (01, File layout)."""
-    for edges in (data_edges(), bit_edges(), block_edges(), hunk_edges(), field_edges(), readable_edges(),
-                  feature_edges(), flash_edges(), large_edges()):
-        for label, image, ram_length, ram_seed, *flash in edges:
-            yield (label, *load_record(image, (ram_length, ram_seed), *flash))
-    for _ in range(1000):
-        ram_length = 73_600 if g.one_in(30) else g.pick(RAM_SIZES)
-        label, image = random_image(g, ram_length)
-        yield (label, *load_record(image, (ram_length, g.between(1, 9)), g.pick([0, 0, 768])))
-
-
 def card_cases(g: Generator) -> Iterator[Case]:
     """Give images and the card's exact text (01, Bench cases; refusal 30)."""
     small = simple(hunk_block(16_383, hunk.block_16([7])))
@@ -251,6 +239,7 @@ def card_cases(g: Generator) -> Iterator[Case]:
     images += [(f"W205-2 {size} bytes", simple(DraftBlock(2, two[:size]))) for size in range(4)]
     images += [("W205-3 reserved", simple(hunk_block(0, two + b"\x00" + two)))]
     images += [(f"LW-8 field {jlp}, size {size}", simple(bits=jlp_flags(jlp, size))) for jlp in range(4) for size in (0, 1, 683)]
+    images += [("W204-12 a cut record", simple(DraftBlock(3, b"\x00\x05ab"))), ("W204-21 a record", simple(DraftBlock(3, b"\x00\x02ab")))]
     images += [random_image(g, 16_384) for _ in range(150)]
     for label, image in images:
         yield (label, *card_record(image))

@@ -6,8 +6,10 @@ from typing import Iterator
 
 from builder import build, checked_entries, lay_out, paragraphs_of
 from cases_images import Case, random_forms
+from cases_metadata import label_of, random_records
 from families import build_record, bus_record
 from generator import Generator
+from subrecords import spelt
 from titles import BAD_LINES, Title, random_accesses, random_title, spoil
 
 BUFFER_SEED = 17
@@ -48,7 +50,7 @@ def size_edges() -> Iterator[tuple[str, Title]]:
 
 def image_length(title: Title) -> int:
     """Give the length of a title's image, 0 if 21 to 28 refuse it (01, refusal 29)."""
-    return build(title.bin_file(), title.cfg, bytearray()).length
+    return build(title.bin_file(), title.cfg, bytearray(), title.label).length
 
 
 def cfg_cases(g: Generator) -> Iterator[Case]:
@@ -83,11 +85,33 @@ def form_edges(g: Generator) -> Iterator[tuple[str, Title]]:
         yield "W207 random forms", Title(1024, 0, [], cfg, 0, data)
 
 
+def label_edges() -> Iterator[tuple[str, Title]]:
+    """Give labels at their edges, and 12 between 20 and 29 (02, W-204; READINGS W204-18 to W204-22)."""
+    cfg, text = b"[mapping]\n$0-$FF=$5000\n", spelt([(0, b"Name"), (2, b"Ann"), (2, b""), (0x77, b"?")])
+    pages = f"[mapping]\n{page_lines(128)}|[memattr]|$500-$5FF=RAM 8|".replace("|", "\n").encode()
+    over = f"[mapping]\n{page_lines(127)}|[memattr]|$E000-$FFFF=RAM 8|".replace("|", "\n").encode()
+    for size in range(len(text) + 1):
+        yield f"W204-19 a label's first {size} bytes", Title(512, 3, [], cfg, label=text[:size])
+    for size in (65_534, 65_535, 65_536):
+        yield f"W204-18 a label of {size} bytes", Title(512, 3, [], cfg, label=label_of(size))
+    for cut in (text, text[:1]):
+        yield "W204-19 25 before 12", Title(510, 3, [], cfg, label=cut)
+        yield "W204-19 28 before 12", Title(8192, 3, [], cfg + b"$0-$FFF=$5000 PAGE 1\n", label=cut)
+        yield "W204-19 24 before 12", Title(8192, 3, [], pages, label=cut)
+        yield "W204-19 20 before 12", Title(98_304, 3, [], over, label=cut)
+    for base in (b"[memattr]\n$5000-$50FF=RAM 8\n", b"[mapping]\n$0-$FFF=$C000 PAGE 2\n"):
+        yield "W204-20 the block stands after the tables", Title(8192, 3, [], base, label=text)
+
+
 def build_cases(g: Generator) -> Iterator[Case]:
     """Give random titles: good ones, short buffers, one fault, several faults (01, Build order)."""
     for label, title in form_edges(g):
         length = image_length(title)
         yield (label, *build_record(title, (length - g.below(2), BUFFER_SEED)))
+    for label, title in label_edges():
+        length = image_length(title)
+        for buffer in (length, length - 1) if length else (0,):
+            yield (label, *build_record(title, (buffer, BUFFER_SEED)))
     for which in range(1000):
         title = random_title(g, 14 if which % 40 == 0 else g.pick([1, 2, 3]))
         numbers = [g.pick([21, 25, 25, 26, 26, 27, 27, 28, 28]) for _ in range(g.pick([0, 0, 1, 1, 2, 3]))]
@@ -95,6 +119,8 @@ def build_cases(g: Generator) -> Iterator[Case]:
             numbers.append(g.between(22, 24))
         if numbers:
             spoil(g, title, numbers)
+        if g.one_in(4):
+            title.label = random_records(g, 4)[:-1 if g.one_in(4) else None]
         length = image_length(title)
         spare = g.pick([-length, -1, -g.below(length + 1), 0, 0, 1, 300])
         yield (f"faults {sorted(numbers)}", *build_record(title, (max(length + spare, 0), BUFFER_SEED)))

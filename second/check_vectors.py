@@ -60,8 +60,18 @@ class Cursor:
             runs.append((first, [self.number(2) for _ in range(count)]))
         return runs
 
+    def asked(self) -> list[tuple[int, int]]:
+        """Read tags and numbers asked for (README.md, names)."""
+        return [(self.number(1), self.number(4)) for _ in range(self.number(2))]
+
+    def labelled(self) -> Title:
+        """Read a BIN, a CFG and a label (README.md, build)."""
+        title = self.title()
+        title.label = self.fill()[0]
+        return title
+
     def title(self) -> Title:
-        """Read a BIN and a CFG (README.md, build)."""
+        """Read a BIN and a CFG (README.md, bus)."""
         base = self.data[self.place + 4]
         bin_file, seed = self.fill()
         return Title(len(bin_file), seed, [], self.fill()[0], base, bin_file)
@@ -74,8 +84,11 @@ AGAIN = {
     "machine": lambda c: families.machine_record(c.fill()[0], c.filled(), c.number(4), c.kept(), c.accesses()),
     "jlp": lambda c: families.machine_record(c.fill()[0], c.filled(), c.number(4), c.kept(), c.accesses()),
     "write": lambda c: families.write_record(c.raw(24), c.fill()[0], c.filled(), c.laid(), c.fill()[0], c.filled()),
-    "cfg": lambda c: families.build_record(c.title(), c.filled()),
-    "build": lambda c: families.build_record(c.title(), c.filled()),
+    "cfg": lambda c: families.build_record(c.labelled(), c.filled()),
+    "build": lambda c: families.build_record(c.labelled(), c.filled()),
+    "names": lambda c: families.names_record(c.fill()[0], c.fill()[0], c.asked()),
+    "dates": lambda c: families.dates_record(c.raw(c.number(1))),
+    "label": lambda c: families.label_record(c.fill()[0], c.filled()),
     "bus": lambda c: families.bus_record(c.title(), c.filled(), c.accesses()),
 }
 

@@ -5,7 +5,7 @@ from dataclasses import dataclass, field
 import hunk
 from checksums import crc32_4, dowcrc
 from generator import Generator
-from load import DATA_HUNK, MAGIC, TABLES
+from load import DATA_HUNK, MAGIC, METADATA, TABLES
 from tables import BANKSW, PFE, Tables
 
 
@@ -98,8 +98,9 @@ def random_hunk(g: Generator, ram_words: int) -> DraftBlock:
 def random_draft(g: Generator, ram_words: int) -> Draft:
     """Make an image that a RAM of so many words accepts (01, File layout)."""
     blocks = [random_hunk(g, min(ram_words, 524_288)) for _ in range(g.below(4))]
-    blocks += [DraftBlock(g.between(3, 254), bytes(g.below(20)), 0, 0, g.below(3))
+    blocks += [DraftBlock(g.between(4, 254), bytes(g.below(20)), 0, 0, g.below(3))
                for _ in range(g.below(3))]
+    blocks += [DraftBlock(METADATA, bytes(2 * g.below(4)) + b"\x02\x01A" * g.below(3)) for _ in range(g.below(2))]
     blocks = g.shuffled(blocks + [tables_block(random_tables(g, g.below(6)))])
     draft = Draft(blocks)
     draft.flags = bytes([g.below(256), g.below(256), g.below(64) * 4, g.below(256), g.below(128) * 2])
@@ -152,8 +153,8 @@ def ask_unsupported(g: Generator, draft: Draft) -> None:
 
 
 def spoil(g: Generator, draft: Draft, words_lent: int) -> None:
-    """Put in a fault for one of the refusals 2 to 10 (01, Numbers that come back)."""
-    fault, block = g.pick([2, 3, 4, 5, 6, 7, 8, 8, 8, 9, 9, 10, 10, 10]), g.pick(draft.blocks)
+    """Put in a fault for one of the refusals 2 to 13 (01, Numbers that come back; 02)."""
+    fault, block = g.pick([2, 3, 4, 5, 6, 7, 8, 8, 8, 9, 9, 10, 10, 10, 12, 12]), g.pick(draft.blocks)
     if fault == 2:
         draft.magic = g.pick([b"LTo", b"\x00TO", b"LUO", b"OTL"])
     elif fault == 3:
@@ -172,6 +173,9 @@ def spoil(g: Generator, draft: Draft, words_lent: int) -> None:
         spoil_tables(g, draft)
     elif fault == 9:
         draft.blocks.insert(g.between(0, len(draft.blocks)), bad_hunk(g, words_lent))
+    elif fault == 12:
+        payload, wrong = g.pick([(b"\x00", 0), (b"\x02\x05abcd", 0), (b"\x02\x01a", 1), (b"\x00\x00\x0F", 0), (b"", 1), (b"\x01", 7)])
+        draft.blocks.insert(g.below(len(draft.blocks) + 1), DraftBlock(METADATA, payload, spoil_payload=wrong))
     else:
         ask_unsupported(g, draft)
 

@@ -9,12 +9,14 @@ from checksums import crc32, crc32_4, dowcrc
 from generator import fill_bytes, fill_words
 from load import load
 from machine import Machine
+from metadata import date_of, given_twice, image_records, lookup
 from plain import PlainCartridge
 from play import play_machine, play_plain
 from records import Record, digest, digest_words
+from subrecords import sub_records
 from tables import Tables, read_tables
 from titles import Access, Title
-from writer import write
+from writer import write, write_metadata
 
 Answered = tuple[int, bytes]
 Filled = tuple[int, int]
@@ -86,12 +88,44 @@ def write_record(head: bytes, tables: bytes, ram: Filled, laid: Laid, marks: byt
 
 
 def build_record(title: Title, buffer: Filled) -> Answered:
-    """Build a title (README.md, build)."""
+    """Build a title with its label (README.md, build)."""
     out = bytearray(fill_bytes(buffer[0], 0, buffer[1]))
-    answer = build(title.bin_file(), title.cfg, out)
-    record = Record().fill(title.bin_file(), title.bin_base, title.bin_seed).fill(title.cfg, 0x20).number(4, *buffer)
+    answer = build(title.bin_file(), title.cfg, out, title.label)
+    record = Record().fill(title.bin_file(), title.bin_base, title.bin_seed).fill(title.cfg, 0x20).fill(title.label).number(4, *buffer)
     record.number(1, answer.number).number(4, answer.place, answer.length, answer.needed, digest(out))
     return answer.number, record.finished()
+
+
+def names_record(image: bytes, label: bytes, asked: list[tuple[int, int]]) -> Answered:
+    """Look texts up in a label and an image, and tell of tags given twice (README.md, names)."""
+    record = Record().fill(image).fill(label).number(2, len(asked))
+    for tag, n in asked:
+        record.number(1, tag).number(4, n)
+    refused = lookup(image, label, 0, 0)
+    mine, records = (sub_records(label) or [], image_records(image)) if not refused.number else ([], [])
+    told = b"".join(bytes([r.tag, len(r.text)]) + r.text for r in records)
+    twice = sum(1 << bit for bit, given in enumerate(given_twice(records) + given_twice(mine)) if given)
+    record.number(1, refused.number).number(4, refused.place, len(records), digest(told)).number(1, twice)
+    for tag, n in asked:
+        found = lookup(image, label, tag, n)
+        record.number(1, found.source).number(4, found.start, found.length)
+    return refused.number, record.finished()
+
+
+def dates_record(text: bytes) -> Answered:
+    """Read a release date (README.md, dates)."""
+    date = date_of(text)
+    record = Record().number(1, len(text)).raw(text).number(2, date.year)
+    record.number(1, date.month, date.day, date.hour, date.minute, date.second, date.zone_hour % 256, date.zone_minutes)
+    return 0, record.finished()
+
+
+def label_record(label: bytes, buffer: Filled) -> Answered:
+    """Write sub-records as a block (README.md, label)."""
+    out = bytearray(fill_bytes(buffer[0], 0, buffer[1]))
+    answer = write_metadata(label, out)
+    record = Record().fill(label).number(4, *buffer).number(1, answer.number)
+    return answer.number, record.number(4, answer.place, answer.length, digest(out)).finished()
 
 
 def bus_record(title: Title, ram: Filled, accesses: list[Access]) -> Answered:

@@ -6,6 +6,7 @@ from typing import Iterator, MutableSequence, Optional
 import hunk
 from checksums import crc32_4, dowcrc
 from refusal import Refused
+from subrecords import sub_records
 from tables import PFE, TABLES_SIZE, Tables, read_tables
 
 HEADER, BLOCK_HEADER = 32, 8
@@ -15,7 +16,7 @@ JLP_WORDS = 73_600
 MOST_SECTORS, SECTOR_WORDS = 682, 768
 MAGIC = b"\x4C\x54\x4F"
 NOT_STATED = 4
-ENDED, ENCRYPTED, TABLES, DATA_HUNK = 0xFF, 0x00, 0x01, 0x02
+ENDED, ENCRYPTED, TABLES, DATA_HUNK, METADATA = 0xFF, 0x00, 0x01, 0x02, 0x03
 
 
 @dataclass
@@ -73,11 +74,14 @@ def blocks_of(image: bytes) -> Iterator[Block]:
 
 
 def check_payload(block: Block) -> None:
-    """Ask 7, then 6 of types 1 and 2 only (01, Load order)."""
+    """Ask 7, then 6 of types 1 and 2, and 12 of type 3 (01, Load order; 02, W-204)."""
     if block.kind == ENCRYPTED:
         raise Refused(7, block.start)
-    if block.kind in (TABLES, DATA_HUNK) and crc32_4(block.payload) != block.checksum:
+    wrong = crc32_4(block.payload) != block.checksum
+    if block.kind in (TABLES, DATA_HUNK) and wrong:
         raise Refused(6, block.start)
+    if block.kind == METADATA and (wrong or sub_records(block.payload) is None):
+        raise Refused(12, block.start)
 
 
 def decode_hunk(block: Block, words_lent: int) -> tuple[int, list[int]]:

@@ -6,7 +6,9 @@ from pathlib import Path
 
 import cases_flash
 import cases_images
+import cases_load
 import cases_machine
+import cases_metadata
 import cases_titles
 from generator import Generator
 
@@ -14,7 +16,7 @@ SEED = 20190706
 FILE_LIMIT = 1_000_000
 FAMILIES = {
     "sums": cases_images.sums_cases,
-    "load": cases_images.load_cases,
+    "load": cases_load.load_cases,
     "card": cases_images.card_cases,
     "machine": cases_machine.machine_cases,
     "jlp": cases_flash.cases,
@@ -22,6 +24,9 @@ FAMILIES = {
     "cfg": cases_titles.cfg_cases,
     "build": cases_titles.build_cases,
     "bus": cases_titles.bus_cases,
+    "names": cases_metadata.names_cases,
+    "dates": cases_metadata.dates_cases,
+    "label": cases_metadata.label_cases,
 }
 
 

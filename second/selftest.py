@@ -7,19 +7,22 @@ from typing import Callable, Iterator
 import hunk
 from builder import build, checked_entries, make_image
 from card import card
-from cases_images import random_forms
+from cases_images import random_forms, simple
 from cases_jlp import CORNERS, CRC_TABLE
+from cases_metadata import metadata
 from checksums import CRC32, CRC32_4, DOWCRC, ONES, bit_by_bit, crc32, crc32_4, dowcrc, run
 from encode import bad_hunk, random_draft, random_hunk, random_tables
 from generator import Generator, fill_bytes, fill_words
 from jlp import Jlp, crc_step, signed
 from load import NOT_STATED, compatibility, load
 from machine import Machine, asked_entry, flipped, half_page_of, stored
+from metadata import Date, date_of, image_records, lookup
 from plain import PlainCartridge
 from play import play_machine, play_plain
+from subrecords import spelt, sub_records
 from tables import Tables
 from titles import random_accesses, random_title
-from writer import write
+from writer import write, write_metadata
 
 Check = tuple[str, bool]
 RISING, FOUR = bytes(range(16)), bytes.fromhex("4A5A6A7A")
@@ -254,6 +257,35 @@ def check_forms(g: Generator, rounds: int) -> Iterator[Check]:
         yield "same cuts", [len(more or []) for _, more in hunk.data_blocks(packed)] == [62, 62, 62, 62, 8]
 
 
+def check_metadata(g: Generator, rounds: int) -> Iterator[Check]:
+    """Write records and read them back, cut them anywhere, and look texts up in plain lists (02, W-204)."""
+    for _ in range(rounds):
+        parts = [[(g.pick([0, 1, 2, 2, 16]), bytes(g.below(256) for _ in range(g.below(5)))) for _ in range(g.below(6))] for _ in range(3)]
+        label, blocks = spelt(parts[0]), [metadata(spelt(part)) for part in parts[1:]]
+        image = simple(*blocks)
+        records = image_records(image)
+        yield "same records", [(r.tag, r.text) for r in records] == parts[1] + parts[2]
+        yield "shown where they stand", all(image[r.start:r.start + len(r.text)] == r.text for r in records)
+        cut, ends = g.below(len(label) + 1), {0}
+        for place in range(cut - 1):
+            if place in ends:
+                ends.add(place + 2 + label[place + 1])
+        yield "cut", (sub_records(label[:cut]) is None) == (cut not in ends)
+        for tag in range(3):
+            mine, others = ([text for t, text in part if t == tag] for part in (parts[0], parts[1] + parts[2]))
+            n = g.below(5)
+            found = lookup(image, label, tag, n)
+            wanted = dict(enumerate(others, 1)) | dict(enumerate(mine, 1))
+            shown = (label if found.source == 1 else image)[found.start:found.start + found.length] if found.source else None
+            yield "n-th text", shown == wanted.get(n)
+            yield "the label's first", (found.source == 1) == (1 <= n <= len(mine))
+        out = bytearray(8 + len(label))
+        yield "block written", write_metadata(label, out).number == 0 and out == metadata(label).encoded()
+    for size in range(9):
+        date = date_of(bytes([119, 7, 6, 23, 59, 60, 0xFE, 30][:size]))
+        yield "date", date == Date(*([2019, 7, 6, 23, 59, 60, -2, 30][:size] + [1900, 0, 0, 0, 0, 0, 0, 0][size:]))
+
+
 def built(bin_length: int, text: str) -> tuple:
     """Build lines after [mapping], and load the image (01, Bench cases 6 and 7)."""
     buffer, ram = bytearray(1_100_000), [7] * 524_288
@@ -338,7 +370,7 @@ def main() -> None:
     """Run every check, and say how many there were (01, Bench cases)."""
     g, ran = Generator(2019), 0
     for checks in (check_sums(), check_hunks(), check_cases_1_to_5(), check_cases_6_to_8(),
-                   check_faults(g, 1000), check_forms(g, 1000), check_pages(), check_fields(), check_rows(), check_switches(g, 300), check_jlp(g, 2000), check_flash(g, 60),
+                   check_faults(g, 1000), check_forms(g, 1000), check_pages(), check_fields(), check_rows(), check_switches(g, 300), check_jlp(g, 2000), check_flash(g, 60), check_metadata(g, 200),
                    check_titles(g, 200),
                    check_round_trips(g, 500)):
         for name, passed in checks:

@@ -15,7 +15,7 @@ Access = tuple[int, int, int]
 
 @dataclass
 class Title:
-    """A BIN by length, seed and base, the lines of a CFG, its text once spelt, and the BIN's bytes if they differ."""
+    """A BIN by length, seed and base, the lines of a CFG, its text once spelt, the BIN's bytes if they differ, and a label."""
 
     bin_length: int
     bin_seed: int
@@ -23,6 +23,7 @@ class Title:
     cfg: bytes = b""
     bin_base: int = 0
     data: Optional[bytes] = None
+    label: bytes = b""
 
     def bin_file(self) -> bytes:
         """Give the BIN's bytes (README.md, Fills)."""

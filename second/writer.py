@@ -5,9 +5,12 @@ from typing import MutableSequence, Sequence
 
 from checksums import crc32_4, dowcrc
 from hunk import encode
-from load import DATA_HUNK, ENDED, IMAGE_LIMIT, MAGIC, TABLES, check_features, lent
+from load import BLOCK_HEADER, DATA_HUNK, ENDED, IMAGE_LIMIT, MAGIC, METADATA, TABLES, check_features, lent
 from refusal import Refused
+from subrecords import sub_records
 from tables import Tables
+
+MOST_PAYLOAD = 65_535
 
 
 @dataclass
@@ -32,12 +35,31 @@ def block(kind: int, payload: bytes) -> bytes:
     return summed + bytes([dowcrc(summed)]) + checksum + payload
 
 
-def compose(flags: bytes, uid: bytes, tables: Tables, hunks: list[tuple[int, list[int]]]) -> bytes:
-    """Lay out header, tables, a hunk for each paragraph and 0xFF (01, How an image is laid out)."""
+def compose(flags: bytes, uid: bytes, tables: Tables, hunks: list[tuple[int, list[int]]], label: bytes = b"") -> bytes:
+    """Lay out header, tables, a label if any, a hunk for each paragraph and 0xFF (01; 02, W-204)."""
     parts = [header(flags, uid), block(TABLES, tables.payload())]
+    if label:
+        parts.append(block(METADATA, label))
     for paragraph, words in hunks:
         parts.append(block(DATA_HUNK, encode(paragraph * 256, words)))
     return b"".join(parts) + bytes([ENDED])
+
+
+def check_label(label: bytes) -> None:
+    """Ask 12 of sub-records to be written: cut, or longer than a block (02, W-204; READINGS W204-18)."""
+    if len(label) > MOST_PAYLOAD or sub_records(label) is None:
+        raise Refused(12, 0)
+
+
+def write_metadata(label: bytes, buffer: bytearray) -> Written:
+    """Write sub-records as a block of type 0x03, refusing 12, then 29 (02, W-204; READINGS W204-23)."""
+    length = 0
+    try:
+        check_label(label)
+        length = BLOCK_HEADER + len(label)
+        return Written(0, 0, put(block(METADATA, label), buffer))
+    except Refused as refused:
+        return Written(refused.number, refused.place, length)
 
 
 def put(image: bytes, buffer: bytearray) -> int:
