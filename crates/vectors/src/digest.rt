@@ -2,10 +2,10 @@
 use crate::fill::put_at;
 use crate::record::front;
 
-const ONES: u32 = 0xFFFF_FFFF;
+pub const ONES: u32 = 0xFFFF_FFFF;
 
 // The digest of a sum from ONES on.
-fn ended(sum: u32) -> usize {
+pub fn ended(sum: u32) -> usize {
     wide32(sum ^ ONES)
 }
 

@@ -11,6 +11,7 @@ mod checksums;
 mod digest;
 mod fill;
 mod loads;
+mod names;
 mod play;
 mod record;
 mod tally;
@@ -27,21 +28,30 @@ pub enum Family {
     Cfg,
     Build,
     Bus,
+    Names,
+    Dates,
+    Label,
 }
 
-const FAMILIES: usize = 9;
+const FAMILIES: usize = 12;
 
-// Room for any family's file or any buffer, for any image, and for any RAM or flash.
-fn buffer_room() -> [u8; 1082672]
-    ensures { λ r. ⌜ 1082672 ≡ length r ⌝ }
+// Room for any family's file, buffer or built image, for any image, any label, and any RAM or flash.
+fn buffer_room() -> [u8; 1200000]
+    ensures { λ r. ⌜ 1200000 ≡ length r ⌝ }
 {
-    [0; 1082672]
+    [0; 1200000]
 }
 
 fn image_room() -> [u8; 2097176]
     ensures { λ r. ⌜ 2097176 ≡ length r ⌝ }
 {
     [0; 2097176]
+}
+
+fn label_room() -> [u8; 70016]
+    ensures { λ r. ⌜ 70016 ≡ length r ⌝ }
+{
+    [0; 70016]
 }
 
 fn word_room() -> [u16; 524545]
@@ -58,6 +68,7 @@ fn agrees(
     a: &mut [u8],
     b: &mut [u8],
     cfg: &mut [u8],
+    label: &mut [u8],
     ram: &mut [u16],
     flash: &mut [u16],
 ) -> bool {
@@ -68,9 +79,12 @@ fn agrees(
         Family::Machine => loads::machine_agrees(rec, ieee, a, b, ram, flash),
         Family::Jlp => loads::machine_agrees(rec, ieee, a, b, ram, flash),
         Family::Write => writes::write_agrees(rec, ieee, a, b, ram),
-        Family::Cfg => titles::build_agrees(rec, ieee, a, cfg, b),
-        Family::Build => titles::build_agrees(rec, ieee, a, cfg, b),
+        Family::Cfg => titles::build_agrees(rec, ieee, a, cfg, label, b),
+        Family::Build => titles::build_agrees(rec, ieee, a, cfg, label, b),
         Family::Bus => titles::bus_agrees(rec, ieee, a, cfg, b, ram),
+        Family::Names => names::names_agree(rec, ieee, a, label),
+        Family::Dates => names::date_agrees(rec),
+        Family::Label => names::label_agrees(rec, ieee, label, b),
     }
 }
 
@@ -93,6 +107,7 @@ fn run(
     a: &mut [u8],
     b: &mut [u8],
     cfg: &mut [u8],
+    label: &mut [u8],
     ram: &mut [u16],
     flash: &mut [u16],
 ) -> Tally {
@@ -102,7 +117,7 @@ fn run(
         let end = end_of(file, at);
         t = tally::counted(
             t,
-            agrees(family, &file[at..end], ieee, a, b, cfg, ram, flash),
+            agrees(family, &file[at..end], ieee, a, b, cfg, label, ram, flash),
         );
         at = end;
     }
@@ -121,6 +136,9 @@ fn put_name(family: Family, out: &mut [u8]) -> usize {
         Family::Cfg => fill::put(out, 0, b"cfg"),
         Family::Build => fill::put(out, 0, b"build"),
         Family::Bus => fill::put(out, 0, b"bus"),
+        Family::Names => fill::put(out, 0, b"names"),
+        Family::Dates => fill::put(out, 0, b"dates"),
+        Family::Label => fill::put(out, 0, b"label"),
     }
 }
 
@@ -133,10 +151,11 @@ fn run_records(
     a: &mut [u8],
     b: &mut [u8],
     cfg: &mut [u8],
+    label: &mut [u8],
     ram: &mut [u16],
     flash: &mut [u16],
 ) -> Tally {
-    let t = run(family, file, ieee, a, b, cfg, ram, flash);
+    let t = run(family, file, ieee, a, b, cfg, label, ram, flash);
     tally::report(name, t);
     t
 }
@@ -149,6 +168,7 @@ fn run_file(
     a: &mut [u8],
     b: &mut [u8],
     cfg: &mut [u8],
+    label: &mut [u8],
     ram: &mut [u16],
     flash: &mut [u16],
 ) -> Tally {
@@ -169,6 +189,7 @@ fn run_file(
         a,
         b,
         cfg,
+        label,
         ram,
         flash,
     )
@@ -184,7 +205,10 @@ fn family_of(k: usize) -> Family {
         5 => Family::Write,
         6 => Family::Cfg,
         7 => Family::Build,
-        _ => Family::Bus,
+        8 => Family::Bus,
+        9 => Family::Names,
+        10 => Family::Dates,
+        _ => Family::Label,
     }
 }
 
@@ -195,6 +219,7 @@ fn run_files(
     a: &mut [u8],
     b: &mut [u8],
     cfg: &mut [u8],
+    label: &mut [u8],
     ram: &mut [u16],
     flash: &mut [u16],
 ) {
@@ -203,7 +228,7 @@ fn run_files(
     let mut had = 0;
     let mut k = 0;
     while k < FAMILIES {
-        let t = run_file(family_of(k), &ieee, file, a, b, cfg, ram, flash);
+        let t = run_file(family_of(k), &ieee, file, a, b, cfg, label, ram, flash);
         had = tally::with_cases(had, t);
         all = tally::both_of(all, t);
         k += 1;
@@ -216,6 +241,7 @@ fn main() {
     let mut a = image_room();
     let mut b = buffer_room();
     let mut cfg = [0u8; 20480];
+    let mut label = label_room();
     let mut ram = word_room();
     let mut flash = word_room();
     let first = checksums::vectors();
@@ -226,6 +252,7 @@ fn main() {
         &mut a,
         &mut b,
         &mut cfg,
+        &mut label,
         &mut ram,
         &mut flash,
     );

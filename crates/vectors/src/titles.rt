@@ -1,4 +1,4 @@
-// A case of each family on titles: a BIN and a CFG built, and a built image played beside the plain cartridge.
+// A case of each family on titles: a BIN, a CFG and a label built, and a built image played beside the plain cartridge.
 use crate::digest::digest;
 use crate::fill::take_buffer;
 use crate::fill::take_bytes;
@@ -31,10 +31,40 @@ fn take_title(rec: &[u8], bin: &mut [u8], cfg: &mut [u8]) -> Title {
     }
 }
 
-// A build of the title into the first n bytes of a buffer.
-fn build_in(bin: &[u8], cfg: &[u8], t: Title, out: &mut [u8], n: usize) -> Building {
+// The same with a label, how many bytes it has, and the place behind it.
+struct Labelled {
+    title: Title,
+    label: usize,
+    next: usize,
+}
+
+fn take_labelled(rec: &[u8], bin: &mut [u8], cfg: &mut [u8], label: &mut [u8]) -> Labelled {
+    let title = take_title(rec, bin, cfg);
+    let l = take_bytes(rec, title.next, label);
+    Labelled {
+        title,
+        label: l.n,
+        next: l.next,
+    }
+}
+
+// A build of the title, with a label of l bytes, into the first n bytes of a buffer.
+fn build_in(
+    bin: &[u8],
+    cfg: &[u8],
+    t: Title,
+    label: &[u8],
+    l: usize,
+    out: &mut [u8],
+    n: usize,
+) -> Building {
     let k = least(n, out.len());
-    build::build(front(bin, t.bin), front(cfg, t.cfg), &mut out[0..k])
+    build::build(
+        front(bin, t.bin),
+        front(cfg, t.cfg),
+        front(label, l),
+        &mut out[0..k],
+    )
 }
 
 fn same_building(rec: &[u8], at: usize, b: Building, whole: usize) -> bool {
@@ -56,11 +86,12 @@ pub fn build_agrees(
     ieee: &[u32; 2048],
     bin: &mut [u8],
     cfg: &mut [u8],
+    label: &mut [u8],
     out: &mut [u8],
 ) -> bool {
-    let t = take_title(rec, bin, cfg);
+    let t = take_labelled(rec, bin, cfg, label);
     let o = take_buffer(rec, t.next, out);
-    let b = build_in(bin, cfg, t, out, o.n);
+    let b = build_in(bin, cfg, t.title, label, t.label, out, o.n);
     same_building(rec, o.next, b, digest(ieee, front(out, o.n)))
 }
 
@@ -73,7 +104,7 @@ struct Pressed {
 
 fn press(rec: &[u8], bin: &mut [u8], cfg: &mut [u8], image: &mut [u8]) -> Pressed {
     let t = take_title(rec, bin, cfg);
-    let b = build_in(bin, cfg, t, image, image.len());
+    let b = build_in(bin, cfg, t, cfg, 0, image, image.len());
     let r = b.refusal;
     Pressed {
         good: r.number == 0,

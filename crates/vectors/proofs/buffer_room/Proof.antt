@@ -6,7 +6,7 @@ use Rattle.vectors.proofs.buffer_room.Statement.{statement}
 use Rattle.vectors.proofs.buffer_room.Tie as tie
 
 returns : tie.Need-returns
-returns c = sym (length-replicate {A = ℕ} 1082672 0)
+returns c = sym (length-replicate {A = ℕ} 1200000 0)
 
 pub buffer-room-spec : {M : Type 1} → statement M
 buffer-room-spec = tie.close (tie.spec returns)
