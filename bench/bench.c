@@ -152,10 +152,10 @@ static bool same_load(void) {
         && !memcmp(ram[0], ram[1], sizeof ram[0]);
 }
 
-static void proved_build(void) { luigi_build(&built, bin, BIN_BYTES, cfg, cfg_length, made[0], ROOM); }
+static void proved_build(void) { luigi_build(&built, bin, BIN_BYTES, cfg, cfg_length, cfg, 0, made[0], ROOM); }
 static void plain_build(void) { building = c_build(bin, BIN_BYTES, cfg, cfg_length, made[1], ROOM); }
 
-static void proved_build_narrow(void) { luigi_build(&built, narrow, BIN_BYTES, cfg, cfg_length, made[0], ROOM); }
+static void proved_build_narrow(void) { luigi_build(&built, narrow, BIN_BYTES, cfg, cfg_length, cfg, 0, made[0], ROOM); }
 static void plain_build_narrow(void) { building = c_build(narrow, BIN_BYTES, cfg, cfg_length, made[1], ROOM); }
 
 static bool same_build(void) {

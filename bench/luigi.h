@@ -29,7 +29,7 @@ typedef struct {
     size_t place, length;
 } Built;
 
-Built *luigi_build(Built *answer, const uint8_t *bin, size_t nbin, const uint8_t *cfg, size_t ncfg, uint8_t *out, size_t room);
+Built *luigi_build(Built *answer, const uint8_t *bin, size_t nbin, const uint8_t *cfg, size_t ncfg, const uint8_t *label, size_t nlabel, uint8_t *out, size_t room);
 
 typedef struct {
     uint16_t mapping[256];

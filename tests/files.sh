@@ -45,6 +45,8 @@ bare() { # NAME ARGUMENT..
 }
 
 # ---- the cases' tools
+newline='
+'
 cases=0 wrongs=0 skips=0 wrong='' skipped=''
 
 # The command, with what it says and its status kept.
@@ -89,7 +91,7 @@ try() { # NAME WITH UNDERSCORES
     rm -rf "$work/case"
     mkdir "$work/case"
     cd "$work/case" || fail "a case's folder cannot be entered"
-    cp "$work"/title.bin "$work"/title.cfg "$work"/other.bin "$work"/other.cfg .
+    cp "$work"/title.bin "$work"/title.cfg "$work"/title.label "$work"/other.bin "$work"/other.cfg .
     cp "$work/old" out
     cases=$((cases + 1)) wrong='' skipped=''
     "$1"
@@ -748,6 +750,91 @@ a_card_with_its_output_closed_or_full() {
     status_is 2
 }
 
+# ---- labels
+a_title_with_its_label() {
+    run "$luigi" press title.bin title.cfg out title.label
+    status_is 0
+    run "$luigi" labels out
+    status_is 0
+    cmp -s said "$here/examples/four_in_one.shelf.txt" || differs "it does not print the example's shelf label"
+    run "$luigi" card out
+    status_is 0
+}
+the_label_that_the_example_explains() {
+    "$here/examples/label.sh" >made
+    cmp -s made title.label || differs "examples/label.sh does not write the example's label file"
+}
+a_label_before_the_images_own() {
+    printf '\000\003New\002\001A' >new.label
+    run "$luigi" press title.bin title.cfg out title.label
+    run "$luigi" labels out new.label
+    status_is 0
+    says '^name=New$'
+    says '^author=A$'
+    says '^author=B. Writer$'
+    [ "$(sed -n '1,2p' said)" = "result=shown${newline}name=New" ] || differs "it does not begin with the label's name"
+}
+a_label_with_bytes_that_a_screen_obeys() {
+    printf '\000\011\033[2J\\\n\015a\377' >new.label
+    run "$luigi" labels "$work/new" new.label
+    status_is 0
+    says '^name=\\x1B\[2J\\\\\\x0A\\x0Da\\xFF$'
+    LC_ALL=C grep -q '[^ -~]' said && differs "a byte that is no sign came out"
+}
+an_image_without_labels() {
+    run "$luigi" labels "$work/new"
+    status_is 0
+    [ "$(cat said)" = "result=shown${newline}texts=0" ] || differs "it prints more than that there are none"
+}
+a_label_that_is_cut_or_too_long() {
+    printf '\000\004New' >new.label
+    run "$luigi" press title.bin title.cfg out new.label
+    status_is 1
+    says '^code=12$'
+    is_image out old
+    run "$luigi" labels "$work/new" new.label
+    status_is 1
+    says '^code=12$'
+    says '^at=0$'
+    says 'new.label is cut'
+    head -c 65536 /dev/zero >new.label
+    run "$luigi" labels "$work/new" new.label
+    status_is 1
+    says '^code=12$'
+}
+labels_of_a_damaged_image() {
+    run "$luigi" press title.bin title.cfg out title.label
+    printf '\377' | dd of=out bs=1 seek=1330 conv=notrunc 2>/dev/null
+    run "$luigi" labels out
+    status_is 1
+    says '^code=12$'
+    says '^at=1320$'
+    says 'out, byte 1320: the metadata block'
+}
+labels_of_what_cannot_be_read() {
+    run "$luigi" labels nothing
+    status_is 2
+    one_sentence
+    tells 'nothing cannot be opened'
+    run "$luigi" labels "$work/new" nothing
+    status_is 2
+    one_sentence
+    says '^file=LABEL$'
+    tells 'nothing cannot be opened'
+    run faulty read:1:5 "$luigi" labels "$work/new"
+    status_is 2
+    one_sentence
+    tells 'cannot be read to its end'
+}
+out_is_the_label() {
+    cp title.label before
+    run "$luigi" press title.bin title.cfg title.label title.label
+    status_is 2
+    one_sentence
+    tells 'title.label is one of the files that were read'
+    cmp -s title.label before || differs "the label file is lost"
+}
+
 # ---- what the sentences explain
 code_28_in_chapter_4() {
     printf '[mapping]\n$0000 - $00FF = $4800\n$0000 - $07FF = $4800 PAGE 1\n' >title.cfg
@@ -821,7 +908,7 @@ no_arguments() {
     [ ! -s said ] || differs "usage went to standard output"
 }
 arguments_that_are_none() {
-    for words in 'press a b' 'card' 'card a b' 'prss' 'vectors a b'; do
+    for words in 'press a b' 'press a b c d e' 'card' 'card a b' 'labels' 'labels a b c' 'prss' 'vectors a b'; do
         # shellcheck disable=SC2086
         run "$luigi" $words
         status_is 2
@@ -971,6 +1058,7 @@ vectors_that_differ() {
 # ---- the images that the cases are held against
 cp examples/four_in_one.bin "$work/title.bin"
 cp examples/four_in_one.cfg "$work/title.cfg"
+cp examples/four_in_one.label "$work/title.label"
 cp crates/press/data/one.bin "$work/other.bin"
 cp crates/press/data/one.cfg "$work/other.cfg"
 head -c 512 examples/four_in_one.bin >"$work/old.bin"
