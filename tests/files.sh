@@ -835,6 +835,128 @@ out_is_the_label() {
     cmp -s title.label before || differs "the label file is lost"
 }
 
+# ---- salvage
+# The first block behind the tables is at byte 1,320 of a pressed image.
+salvage() { run "$luigi" salvage "$1" out; }
+damage() { # FILE PLACE
+    byte=$(od -An -tu1 -j "$2" -N 1 "$1" | tr -d ' ')
+    # shellcheck disable=SC2059
+    printf "\\$(printf %03o $((byte ^ 1)))" | dd of="$1" bs=1 seek="$2" conv=notrunc 2>/dev/null
+}
+behind() { # FILE PLACE
+    # shellcheck disable=SC2046
+    set -- "$2" $(od -An -tu1 -j $(($2 + 1)) -N 2 "$1")
+    echo $(($1 + 8 + $2 + 256 * $3))
+}
+a_sound_image_is_salvaged_as_it_is() {
+    chmod 604 out
+    salvage "$work/new"
+    status_is 0
+    says '^kept=35$'
+    says '^dropped=0$'
+    says '^stopped=none$'
+    says 'nothing was lost'
+    is_image out new
+    mode_is out 604
+    no_part
+}
+a_damaged_hunk_is_left_out() {
+    cp "$work/new" image
+    damage image 1340
+    head -c 1320 image >kept
+    tail -c +$(($(behind image 1320) + 1)) image >>kept
+    salvage image
+    status_is 0
+    says '^kept=34$'
+    says '^dropped=1$'
+    says '^stopped=none$'
+    says '^drop=1320$'
+    says 'out has 34 of the 35 blocks of image: 1 damaged'
+    cmp -s out kept || differs "out is not the header and the sound blocks"
+    run "$luigi" card out
+    status_is 0
+    says '^blocks=34$'
+    cp out once
+    salvage once
+    status_is 0
+    says 'nothing was lost'
+    cmp -s out once || differs "a second salvage changed it"
+    no_part
+}
+a_damaged_frame_stops_it() {
+    cp "$work/new" image
+    at=$(behind image 1320)
+    damage image 1340
+    damage image $((at + 3))
+    { head -c 1320 image; printf '\377'; } >kept
+    salvage image
+    status_is 0
+    [ "$(sed -n '1,4p' said)" = "kept=1
+dropped=1
+stopped=$at
+drop=1320" ] || differs "it says '$(cat said)'"
+    says "before byte $at: 1 damaged"
+    cmp -s out kept || differs "out is not the header and the tables"
+}
+an_image_without_its_end() {
+    head -c "$(behind "$work/new" 1320)" "$work/new" >image
+    { cat image; printf '\377'; } >kept
+    salvage image
+    status_is 0
+    says '^kept=2$'
+    says '^stopped=none$'
+    cmp -s out kept || differs "out is not closed with 0xFF"
+}
+damaged_tables_are_refused() {
+    cp "$work/new" image
+    damage image 50
+    salvage image
+    status_is 1
+    [ "$(sed -n '1,3p' said)" = "result=refused
+code=6
+at=32" ] || differs "it says '$(cat said)'"
+    is_image out old
+    no_part
+}
+no_tables_before_the_stop() {
+    cp "$work/new" image
+    damage image 35
+    salvage image
+    status_is 1
+    says '^code=8$'
+    says "^at=$(($(wc -c <image)))$"
+    is_image out old
+}
+a_longer_image_is_not_salvaged() {
+    { cat "$work/new"; head -c 24577 /dev/zero; } | head -c 24577 >image
+    salvage image
+    status_is 1
+    says '^code=30$'
+    says 'longer than 24,576 bytes'
+    is_image out old
+    head -c 24576 image >shorter
+    salvage shorter
+    status_is 0
+    is_image out new
+}
+a_salvage_over_its_image() {
+    cp "$work/new" image
+    run "$luigi" salvage image ../case/image
+    status_is 2
+    one_sentence
+    tells 'one of the files that were read'
+    is_image image new
+    no_part
+}
+a_salvage_of_no_file() {
+    salvage nothing
+    stopped 'nothing cannot be opened'
+}
+a_salvage_to_a_full_disk() {
+    run faulty write:1:28 "$luigi" salvage "$work/new" out
+    stopped 'out cannot be written whole (the disk is full): it is as it was; make room and salvage again'
+}
+
 # ---- what the sentences explain
 code_28_in_chapter_4() {
     printf '[mapping]\n$0000 - $00FF = $4800\n$0000 - $07FF = $4800 PAGE 1\n' >title.cfg
@@ -908,7 +1030,7 @@ no_arguments() {
     [ ! -s said ] || differs "usage went to standard output"
 }
 arguments_that_are_none() {
-    for words in 'press a b' 'press a b c d e' 'card' 'card a b' 'labels' 'labels a b c' 'prss' 'vectors a b'; do
+    for words in 'press a b' 'press a b c d e' 'card' 'card a b' 'labels' 'labels a b c' 'salvage a' 'prss' 'vectors a b'; do
         # shellcheck disable=SC2086
         run "$luigi" $words
         status_is 2
