@@ -89,6 +89,7 @@ AGAIN = {
     "names": lambda c: families.names_record(c.fill()[0], c.fill()[0], c.asked()),
     "dates": lambda c: families.dates_record(c.raw(c.number(1))),
     "label": lambda c: families.label_record(c.fill()[0], c.filled()),
+    "salvage": lambda c: families.salvage_record(c.fill()[0], c.filled()),
     "bus": lambda c: families.bus_record(c.title(), c.filled(), c.accesses()),
 }
 

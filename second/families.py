@@ -13,6 +13,7 @@ from metadata import date_of, given_twice, image_records, lookup
 from plain import PlainCartridge
 from play import play_machine, play_plain
 from records import Record, digest, digest_words
+from salvage import program, salvage
 from subrecords import sub_records
 from tables import Tables, read_tables
 from titles import Access, Title
@@ -126,6 +127,16 @@ def label_record(label: bytes, buffer: Filled) -> Answered:
     answer = write_metadata(label, out)
     record = Record().fill(label).number(4, *buffer).number(1, answer.number)
     return answer.number, record.number(4, answer.place, answer.length, digest(out)).finished()
+
+
+def salvage_record(image: bytes, buffer: Filled) -> Answered:
+    """Salvage an image, and say what the program prints (README.md, salvage)."""
+    out = bytearray(fill_bytes(buffer[0], 0, buffer[1]))
+    answer, text = salvage(image, out), program(image)[0]
+    stopped = 0 if answer.number else 0xFFFFFFFF if answer.stopped is None else answer.stopped
+    record = Record().fill(image).number(4, *buffer).number(1, answer.number)
+    record.number(4, answer.place, answer.length, answer.kept, len(answer.dropped), stopped, *answer.dropped, digest(out))
+    return answer.number, record.number(2, len(text)).raw(text.encode()).finished()
 
 
 def bus_record(title: Title, ram: Filled, accesses: list[Access]) -> Answered:

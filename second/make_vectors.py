@@ -9,6 +9,7 @@ import cases_images
 import cases_load
 import cases_machine
 import cases_metadata
+import cases_salvage
 import cases_titles
 from generator import Generator
 
@@ -27,6 +28,7 @@ FAMILIES = {
     "names": cases_metadata.names_cases,
     "dates": cases_metadata.dates_cases,
     "label": cases_metadata.label_cases,
+    "salvage": cases_salvage.salvage_cases,
 }
 
 

@@ -10,15 +10,17 @@ from card import card
 from cases_images import random_forms, simple
 from cases_jlp import CORNERS, CRC_TABLE
 from cases_metadata import metadata
+from cases_salvage import random_damage
 from checksums import CRC32, CRC32_4, DOWCRC, ONES, bit_by_bit, crc32, crc32_4, dowcrc, run
 from encode import bad_hunk, random_draft, random_hunk, random_tables
 from generator import Generator, fill_bytes, fill_words
 from jlp import Jlp, crc_step, signed
-from load import NOT_STATED, compatibility, load
+from load import NOT_STATED, Loaded, compatibility, load
 from machine import Machine, asked_entry, flipped, half_page_of, stored
 from metadata import Date, date_of, image_records, lookup
 from plain import PlainCartridge
 from play import play_machine, play_plain
+from salvage import salvage
 from subrecords import spelt, sub_records
 from tables import Tables
 from titles import random_accesses, random_title
@@ -286,6 +288,34 @@ def check_metadata(g: Generator, rounds: int) -> Iterator[Check]:
         yield "date", date == Date(*([2019, 7, 6, 23, 59, 60, -2, 30][:size] + [1900, 0, 0, 0, 0, 0, 0, 0][size:]))
 
 
+def loads_in_full(image: bytes) -> tuple[Loaded, list[int]]:
+    """Load into a RAM of 524,288 words with a flash that 13 lets through (02, W-208)."""
+    ram = [0x5A5A] * 524_288
+    return load(image, ram, None), ram
+
+
+def check_salvage(g: Generator, rounds: int) -> Iterator[Check]:
+    """Load before and after, and leave blocks out one by one by asking a load of each alone (02, W-208)."""
+    for _ in range(rounds):
+        image, buffer = random_damage(g), bytearray(100_000)
+        answer, (before, ram_before) = salvage(image, buffer), loads_in_full(image)
+        out = bytes(buffer[:answer.length])
+        if answer.number:
+            yield "a refusal changes nothing", buffer == bytearray(100_000)
+            yield "a refused image does not load", before.number != 0
+            continue
+        after, ram_after = loads_in_full(out)
+        yield "loads after", (after.number, after.blocks) == (0, answer.kept)
+        if before.number == 0:
+            yield "the same before and after", (before, ram_before) == (after, ram_after) and not answer.dropped and answer.stopped is None
+        again = bytearray(100_000)
+        yield "a second salvage changes nothing", (salvage(out, again).length, again) == (answer.length, buffer)
+        for place in answer.dropped:
+            size = 8 + image[place + 1] + 256 * image[place + 2]
+            alone = loads_in_full(simple(tail=image[place:place + size]))[0]
+            yield "what is left out would give 6 or 9", alone.number in (6, 9) and image[place] == 2
+
+
 def built(bin_length: int, text: str) -> tuple:
     """Build lines after [mapping], and load the image (01, Bench cases 6 and 7)."""
     buffer, ram = bytearray(1_100_000), [7] * 524_288
@@ -370,7 +400,7 @@ def main() -> None:
     """Run every check, and say how many there were (01, Bench cases)."""
     g, ran = Generator(2019), 0
     for checks in (check_sums(), check_hunks(), check_cases_1_to_5(), check_cases_6_to_8(),
-                   check_faults(g, 1000), check_forms(g, 1000), check_pages(), check_fields(), check_rows(), check_switches(g, 300), check_jlp(g, 2000), check_flash(g, 60), check_metadata(g, 200),
+                   check_faults(g, 1000), check_forms(g, 1000), check_pages(), check_fields(), check_rows(), check_switches(g, 300), check_jlp(g, 2000), check_flash(g, 60), check_metadata(g, 200), check_salvage(g, 200),
                    check_titles(g, 200),
                    check_round_trips(g, 500)):
         for name, passed in checks:
