@@ -43,6 +43,11 @@ class Cursor:
         base = self.data[self.place + 4]
         return Kept(self.fill()[0], self.number(4), self.number(4), base)
 
+    def flash(self) -> Kept:
+        """Read flash that is lent whole (README.md, runs)."""
+        base = self.data[self.place + 4]
+        return Kept(self.fill()[0], base=base)
+
     def accesses(self) -> list[Access]:
         """Read accesses, leaving out the words that answer reads (README.md, Records)."""
         found = []
@@ -90,6 +95,7 @@ AGAIN = {
     "dates": lambda c: families.dates_record(c.raw(c.number(1))),
     "label": lambda c: families.label_record(c.fill()[0], c.filled()),
     "salvage": lambda c: families.salvage_record(c.fill()[0], c.filled()),
+    "runs": lambda c: families.runs_record(c.fill()[0], c.filled(), c.flash(), c.fill()[0], c.number(4), c.number(4)),
     "bus": lambda c: families.bus_record(c.title(), c.filled(), c.accesses()),
 }
 

@@ -4,6 +4,7 @@ from dataclasses import dataclass
 from struct import unpack
 
 from builder import build, checked_entries, make_image
+from bus import run_list
 from card import card
 from checksums import crc32, crc32_4, dowcrc
 from generator import fill_bytes, fill_words
@@ -137,6 +138,23 @@ def salvage_record(image: bytes, buffer: Filled) -> Answered:
     record = Record().fill(image).number(4, *buffer).number(1, answer.number)
     record.number(4, answer.place, answer.length, answer.kept, len(answer.dropped), stopped, *answer.dropped, digest(out))
     return answer.number, record.number(2, len(text)).raw(text.encode()).finished()
+
+
+def runs_record(image: bytes, ram: Filled, kept: Kept, text: bytes, limit: int, room: int) -> Answered:
+    """Load an image and run a list of accesses (README.md, runs)."""
+    words, flash = list(fill_words(*ram)), list(unpack(f"<{len(kept.data) // 2}H", kept.data))
+    loaded = load(image, words, len(flash))
+    if loaded.number:
+        raise SystemExit(f"a run's image gives {loaded.number}")
+    machine = Machine(loaded.tables, loaded.flags)
+    ran = run_list(machine, words, flash, text, limit, room)
+    record = Record().fill(image).number(4, *ram).fill(kept.data, kept.base).fill(text, 0x30).number(4, limit, room)
+    record.number(1, ran.number).number(4, ran.place, ran.length, ran.lines).number(2, len(ran.answers))
+    for word in ran.answers:
+        record.number(2, word or 0).number(1, word is not None)
+    active = Tables(machine.mapping, machine.permissions, machine.initial.flips)
+    record.number(4, digest(active.payload()), digest_words(words), digest_words(flash)).number(2, machine.readable)
+    return ran.number, record.number(1, machine.jlp.on).finished()
 
 
 def bus_record(title: Title, ram: Filled, accesses: list[Access]) -> Answered:

@@ -4,6 +4,7 @@ import sys
 from collections import Counter
 from pathlib import Path
 
+import cases_bus
 import cases_flash
 import cases_images
 import cases_load
@@ -29,6 +30,7 @@ FAMILIES = {
     "dates": cases_metadata.dates_cases,
     "label": cases_metadata.label_cases,
     "salvage": cases_salvage.salvage_cases,
+    "runs": cases_bus.runs_cases,
 }
 
 

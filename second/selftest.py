@@ -1,12 +1,15 @@
 """The self-test: 001's vectors, 01's bench cases, and random titles and images against each other."""
 
+import re
 import struct
 import zlib
 from typing import Callable, Iterator
 
 import hunk
 from builder import build, checked_entries, make_image
+from bus import run_list
 from card import card
+from cases_bus import spelt as listed
 from cases_images import random_forms, simple
 from cases_jlp import CORNERS, CRC_TABLE
 from cases_metadata import metadata
@@ -316,6 +319,32 @@ def check_salvage(g: Generator, rounds: int) -> Iterator[Check]:
             yield "what is left out would give 6 or 9", alone.number in (6, 9) and image[place] == 2
 
 
+def check_runs(g: Generator, rounds: int) -> Iterator[Check]:
+    """Run lists with two limits, and beside the accesses made one by one (02, W-214)."""
+    for _ in range(rounds):
+        tables, accesses = random_tables(g, 300), random_accesses(g, [g.below(16), 5], g.between(1, 30))
+        text, low = listed(g, accesses), g.below(35)
+        high = low + g.below(10)
+        rams = [list(fill_words(2048, 3)) for _ in range(3)]
+        short = run_list(Machine(tables), rams[0], [], text, low, 30)
+        long = run_list(Machine(tables), rams[1], [], text, high, 30)
+        yield "lines run", (short.lines, long.lines) == (min(low, len(accesses)), min(high, len(accesses)))
+        yield "a higher limit adds", long.answers[:len(short.answers)] == short.answers
+        by_hand, machine = [], Machine(tables)
+        for operation, address, value in accesses[:low]:
+            if operation == 0:
+                by_hand.append(machine.read(rams[2], address))
+            elif operation == 1:
+                machine.write(rams[2], [], address, value)
+            else:
+                machine.reset()
+        yield "one by one", (by_hand, rams[2]) == (short.answers, rams[0])
+        place = g.below(len(text))
+        spoilt = text[:place] + bytes([text[place] ^ 1 << g.below(8)]) + text[place + 1:]
+        grammar = b"((op=x|op=r addr=[0-9a-fA-F]{4}|op=w addr=[0-9a-fA-F]{4} value=[0-9a-fA-F]{4})(\r?\n|(?!\n)\\Z))*"
+        yield "33", (run_list(Machine(tables), [], [], spoilt, 0, 30).number == 33) == (re.fullmatch(grammar, spoilt) is None)
+
+
 def built(bin_length: int, text: str) -> tuple:
     """Build lines after [mapping], and load the image (01, Bench cases 6 and 7)."""
     buffer, ram = bytearray(1_100_000), [7] * 524_288
@@ -400,7 +429,7 @@ def main() -> None:
     """Run every check, and say how many there were (01, Bench cases)."""
     g, ran = Generator(2019), 0
     for checks in (check_sums(), check_hunks(), check_cases_1_to_5(), check_cases_6_to_8(),
-                   check_faults(g, 1000), check_forms(g, 1000), check_pages(), check_fields(), check_rows(), check_switches(g, 300), check_jlp(g, 2000), check_flash(g, 60), check_metadata(g, 200), check_salvage(g, 200),
+                   check_faults(g, 1000), check_forms(g, 1000), check_pages(), check_fields(), check_rows(), check_switches(g, 300), check_jlp(g, 2000), check_flash(g, 60), check_metadata(g, 200), check_salvage(g, 200), check_runs(g, 300),
                    check_titles(g, 200),
                    check_round_trips(g, 500)):
         for name, passed in checks:
