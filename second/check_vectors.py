@@ -96,6 +96,7 @@ AGAIN = {
     "label": lambda c: families.label_record(c.fill()[0], c.filled()),
     "salvage": lambda c: families.salvage_record(c.fill()[0], c.filled()),
     "runs": lambda c: families.runs_record(c.fill()[0], c.filled(), c.flash(), c.fill()[0], c.number(4), c.number(4)),
+    "back": lambda c: families.back_record(c.fill()[0], c.filled(), c.filled()),
     "bus": lambda c: families.bus_record(c.title(), c.filled(), c.accesses()),
 }
 

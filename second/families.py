@@ -3,6 +3,7 @@
 from dataclasses import dataclass
 from struct import unpack
 
+from back import back
 from builder import build, checked_entries, make_image
 from bus import run_list
 from card import card
@@ -155,6 +156,15 @@ def runs_record(image: bytes, ram: Filled, kept: Kept, text: bytes, limit: int, 
     active = Tables(machine.mapping, machine.permissions, machine.initial.flips)
     record.number(4, digest(active.payload()), digest_words(words), digest_words(flash)).number(2, machine.readable)
     return ran.number, record.number(1, machine.jlp.on).finished()
+
+
+def back_record(image: bytes, bin_buffer: Filled, cfg_buffer: Filled) -> Answered:
+    """Write an image's BIN and CFG (README.md, back)."""
+    outs = [bytearray(fill_bytes(length, 0, seed)) for length, seed in (bin_buffer, cfg_buffer)]
+    answer = back(image, *outs)
+    record = Record().fill(image).number(4, *bin_buffer, *cfg_buffer).number(1, answer.number)
+    record.number(4, answer.place, answer.bin_length, answer.cfg_length, *(digest(out) for out in outs))
+    return answer.number, record.finished()
 
 
 def bus_record(title: Title, ram: Filled, accesses: list[Access]) -> Answered:

@@ -4,6 +4,7 @@ import sys
 from collections import Counter
 from pathlib import Path
 
+import cases_back
 import cases_bus
 import cases_flash
 import cases_images
@@ -31,6 +32,7 @@ FAMILIES = {
     "label": cases_metadata.label_cases,
     "salvage": cases_salvage.salvage_cases,
     "runs": cases_bus.runs_cases,
+    "back": cases_back.back_cases,
 }
 
 

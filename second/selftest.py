@@ -6,9 +6,11 @@ import zlib
 from typing import Callable, Iterator
 
 import hunk
-from builder import build, checked_entries, make_image
+from back import back, holds_words, named_words, page_entry, paragraph_entry
+from builder import build, checked_entries, lay_out, make_image, make_tables
 from bus import run_list
 from card import card
+from cases_back import random_image as image_to_undo
 from cases_bus import spelt as listed
 from cases_images import random_forms, simple
 from cases_jlp import CORNERS, CRC_TABLE
@@ -18,7 +20,7 @@ from checksums import CRC32, CRC32_4, DOWCRC, ONES, bit_by_bit, crc32, crc32_4, 
 from encode import bad_hunk, random_draft, random_hunk, random_tables
 from generator import Generator, fill_bytes, fill_words
 from jlp import Jlp, crc_step, signed
-from load import NOT_STATED, Loaded, compatibility, load
+from load import NOT_STATED, Loaded, compatibility, jlp_field, load
 from machine import Machine, asked_entry, flipped, half_page_of, stored
 from metadata import Date, date_of, image_records, lookup
 from plain import PlainCartridge
@@ -26,7 +28,7 @@ from play import play_machine, play_plain
 from salvage import salvage
 from subrecords import spelt, sub_records
 from tables import Tables
-from titles import random_accesses, random_title
+from titles import PAGED, random_accesses, random_title
 from writer import write, write_metadata
 
 Check = tuple[str, bool]
@@ -345,6 +347,56 @@ def check_runs(g: Generator, rounds: int) -> Iterator[Check]:
         yield "33", (run_list(Machine(tables), [], [], spoilt, 0, 30).number == 33) == (re.fullmatch(grammar, spoilt) is None)
 
 
+def plan_by_rows(tables: Tables, named: set[int]) -> tuple[dict[int, str], set[tuple[int, int]]]:
+    """Decode kinds and pages from flips, permissions and named paragraphs alone, without trying (02, W-213)."""
+    kinds: dict[int, str] = {}
+    found: set[tuple[int, int]] = set()
+    first = 0
+    for chapter in range(16):
+        row, pages, flat = tables.flips[16 * chapter:16 * chapter + 16], set(), set()
+        if any(row) and chapter in PAGED:
+            flat = set(range(16 * chapter + (8 if chapter == 4 else 0), 16 * chapter + 16))
+            absent = 8 if 8 in row else 16 * first + 9
+            pages = {page for page in range(16) if row[page] != absent}
+            if absent != 8 and 16 * first + 8 in named:
+                kinds.update(dict.fromkeys(flat, "rom"))
+        for paragraph in set(range(16 * chapter, 16 * chapter + 16)) - flat:
+            if paragraph >= 5 and chapter not in (1, 3) and tables.permissions[paragraph] in (1, 3, 7):
+                kinds[paragraph] = {1: "rom", 3: "ram16", 7: "ram8"}[tables.permissions[paragraph]]
+        found |= {(chapter, page) for page in pages}
+        first += len(pages) + any(p >> 4 == chapter for p in kinds)
+    return kinds, found
+
+
+def check_back(g: Generator, rounds: int) -> Iterator[Check]:
+    """Decode a plan without trying, and build again what came back (02, W-213)."""
+    for _ in range(rounds):
+        image = image_to_undo(g)[1]
+        loaded = load(image, [0] * 524_288, None)
+        bin_buffer, cfg_buffer = bytearray(600_000), bytearray(16_384)
+        answer = back(image, bin_buffer, cfg_buffer)
+        yield "a load's refusals first", not loaded.number or (answer.number, answer.place) == (loaded.number, loaded.place)
+        if loaded.number:
+            continue
+        named = named_words(image)
+        kinds, pages = plan_by_rows(loaded.tables, {word // 256 for word in named})
+        plan = tuple(paragraph_entry(p, kind) for p, kind in kinds.items()) + tuple(page_entry(*page) for page in pages)
+        starts = len([p for p in kinds if kinds.get(p - 1) != kinds[p]])
+        possible = (jlp_field(loaded.flags) == 0 and 1 <= starts + len(pages) <= 128
+                    and make_tables(plan, lay_out(plan)) == loaded.tables and holds_words(plan, named))
+        yield "31", (answer.number == 31) == (not possible)
+        if answer.number:
+            continue
+        bin_file, cfg = bytes(bin_buffer[:answer.bin_length]), bytes(cfg_buffer[:answer.cfg_length])
+        entries = checked_entries(bin_file, cfg)
+        yield "as many lines", len(entries) == starts + len(pages)
+        again = make_image(bin_file, cfg, entries)
+        yield "the same tables and words", (load(again, [0] * 524_288).tables, named_words(again)) == (loaded.tables, named)
+        twice = [bytearray(600_000), bytearray(16_384)]
+        back(again, *twice)
+        yield "back again", twice == [bin_buffer, cfg_buffer]
+
+
 def built(bin_length: int, text: str) -> tuple:
     """Build lines after [mapping], and load the image (01, Bench cases 6 and 7)."""
     buffer, ram = bytearray(1_100_000), [7] * 524_288
@@ -429,7 +481,7 @@ def main() -> None:
     """Run every check, and say how many there were (01, Bench cases)."""
     g, ran = Generator(2019), 0
     for checks in (check_sums(), check_hunks(), check_cases_1_to_5(), check_cases_6_to_8(),
-                   check_faults(g, 1000), check_forms(g, 1000), check_pages(), check_fields(), check_rows(), check_switches(g, 300), check_jlp(g, 2000), check_flash(g, 60), check_metadata(g, 200), check_salvage(g, 200), check_runs(g, 300),
+                   check_faults(g, 1000), check_forms(g, 1000), check_pages(), check_fields(), check_rows(), check_switches(g, 300), check_jlp(g, 2000), check_flash(g, 60), check_metadata(g, 200), check_salvage(g, 200), check_runs(g, 300), check_back(g, 200),
                    check_titles(g, 200),
                    check_round_trips(g, 500)):
         for name, passed in checks:
