@@ -1,10 +1,10 @@
 """Back to BIN and CFG: the lines that build an image's tables and words (02, W-213)."""
 
 from dataclasses import dataclass, replace
-from typing import Iterator, Optional, Sequence
+from typing import Iterator, Sequence
 
 import hunk
-from builder import BIN_LIMIT, PERMISSIONS, flippable, lay_out, make_tables, paged_chapters, paragraphs_of, plain_kinds
+from builder import BIN_LIMIT, PERMISSIONS, flippable, lay_out, make_tables, paragraphs_of, plain_kinds
 from cfg import MOST_ENTRIES, Entry
 from load import DATA_HUNK, LOCUTUS_WORDS, blocks_of, jlp_field, load
 from machine import silent
@@ -73,7 +73,8 @@ def chapter_plans(tables: Tables, chapter: int, first_page: int) -> Iterator[lis
 def same_chapter(one: Tables, other: Tables, chapter: int) -> bool:
     """Tell whether two tables agree in a chapter, entry by entry (READINGS W213-11)."""
     here = slice(16 * chapter, 16 * chapter + 16)
-    return (one.mapping[here], one.permissions[here], one.flips[here]) == (other.mapping[here], other.permissions[here], other.flips[here])
+    rows = [(tables.mapping[here], tables.permissions[here], tables.flips[here]) for tables in (one, other)]
+    return rows[0] == rows[1]
 
 
 def plans(tables: Tables, chapter: int = 0, so_far: Plan = ()) -> Iterator[Plan]:
@@ -98,7 +99,8 @@ def holds_words(plan: Plan, named: Named) -> bool:
     covered = [256 * p + word for entry in plan for p in locutus(entry, layout) for word in range(256)]
     if len(covered) != len(named) or any(word not in named for word in covered):
         return False
-    ram = [256 * p + word for entry in plan if entry.kind != "rom" for p in locutus(entry, layout) for word in range(256)]
+    ram = [256 * p + word for entry in plan if entry.kind != "rom" for p in locutus(entry, layout)
+           for word in range(256)]
     return all(named[word] == 0 for word in ram)
 
 
@@ -144,7 +146,8 @@ def spelt_cfg(lines: list[Entry]) -> bytes:
 def bin_of(lines: list[Entry], named: Named) -> bytes:
     """Write the words of the lines, high byte first; one zero word if there are none (READINGS W213-8, W213-9)."""
     layout = lay_out(lines)
-    words = [named[256 * p + word] for line in lines if line.kind == "rom" for p in locutus(line, layout) for word in range(256)]
+    words = [named[256 * p + word] for line in lines if line.kind == "rom" for p in locutus(line, layout)
+             for word in range(256)]
     return b"".join(word.to_bytes(2, "big") for word in words or [0])
 
 

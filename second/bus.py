@@ -54,7 +54,8 @@ def read_list(text: bytes) -> list[Access]:
     return accesses
 
 
-def run_list(machine: Machine, ram: MutableSequence[int], flash: MutableSequence[int], text: bytes, limit: int, room: int) -> Ran:
+def run_list(machine: Machine, ram: MutableSequence[int], flash: MutableSequence[int], text: bytes, limit: int,
+             room: int) -> Ran:
     """Run up to limit lines, refusing 33, then 29, before any (02, W-214; READINGS W214-5 to W214-10)."""
     try:
         accesses = read_list(text)

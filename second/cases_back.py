@@ -82,9 +82,11 @@ def good_edges() -> Iterator[tuple[str, Built]]:
     """Give titles at the readings' edges that come back (READINGS W213-4 to W213-9, W213-15)."""
     every, m, r = range(16), "[mapping]|", "[memattr]|"
     yield "W213-9 RAM alone", titled(r + "$5000-$50FF=RAM 8")
-    yield "W213-5 three kinds side by side", titled(m + "$0-$FF=$5000|" + r + "$5100-$51FF=RAM 8|$5200-$52FF=RAM 16|" + m + "$0-$FF=$5300")
+    yield "W213-5 three kinds side by side", titled(
+        m + "$0-$FF=$5000|" + r + "$5100-$51FF=RAM 8|$5200-$52FF=RAM 16|" + m + "$0-$FF=$5300")
     yield "W213-5 a run across chapters", titled(m + "$0-$2FF=$4E00|" + r + "$6000-$80FF=RAM 16|")
-    yield "W213-5 lines cut and out of order", titled(r + "$8100-$81FF=RAM 8|$8000-$80FF=RAM 8|" + m + "$100-$1FF=$7000|$0-$FF=$7100|")
+    yield "W213-5 lines cut and out of order", titled(
+        r + "$8100-$81FF=RAM 8|$8000-$80FF=RAM 8|" + m + "$100-$1FF=$7000|$0-$FF=$7100|")
     yield "W213-5 up to the silent ranges", titled(m + "$0-$AFF=$0500|$0-$FFF=$2000|$0-$FF=$4000|$0-$FF=$FF00|")
     yield "W213-3 last address", titled(r + "$FF00-$FFFF=RAM 16|$0500-$05FF=RAM 8|")
     for chapter in (2, 4, 5, 15):
@@ -103,7 +105,8 @@ def good_edges() -> Iterator[tuple[str, Built]]:
     for below in ("$0-$7FF=$4000|", "$0-$FF=$4300|", r + "$4000-$40FF=RAM 16|" + m):
         for under in ("", "$0-$7FF=$4800|"):
             for which in (every, range(1, 16), range(3)):
-                yield f"W213-6 chapter 4, {below[:9]} below, {bool(under)} under, {len(which)} pages", titled(m + below + under + pages(4, which))
+                label = f"W213-6 chapter 4, {below[:9]} below, {bool(under)} under, {len(which)} pages"
+                yield label, titled(m + below + under + pages(4, which))
     yield "W213-7 sixteen pages beside plain words", titled(m + "$0-$1FF=$4E00|$0-$FF=$6000|" + pages(5, every))
     yield "W213-7 two chapters of sixteen pages", titled(m + pages(5, every) + pages(6, every))
     yield "W213-8 the same words twice", titled(m + "$0-$FF=$5000|$0-$FF=$7000|$0-$FFF=$C000 PAGE 1|")
@@ -111,7 +114,8 @@ def good_edges() -> Iterator[tuple[str, Built]]:
 
 def many_ram(count: int, first: int) -> str:
     """Spell so many RAM lines that can't be joined (READINGS W213-15)."""
-    return "[memattr]|" + "".join(f"${256 * p:X}-${256 * p + 255:X}=RAM {16 if p % 2 else 8}|" for p in range(first, first + count))
+    return "[memattr]|" + "".join(f"${256 * p:X}-${256 * p + 255:X}=RAM {16 if p % 2 else 8}|"
+                                  for p in range(first, first + count))
 
 
 def limit_edges() -> Iterator[tuple[str, Built]]:
@@ -133,7 +137,8 @@ def limit_edges() -> Iterator[tuple[str, Built]]:
 def spoilt_tables(g: Generator, tables: Tables) -> None:
     """Change one entry of a table, often one that is used (READINGS W213-11)."""
     used = [p for p in range(256) if tables.permissions[p]] or [0]
-    paragraph, entry = g.pick([g.pick(used), g.below(256)]), g.pick([e for e in range(256) if tables.flips[e]] or [g.below(256)])
+    paragraph = g.pick([g.pick(used), g.below(256)])
+    entry = g.pick([e for e in range(256) if tables.flips[e]] or [g.below(256)])
     choice = g.below(6)
     if choice == 0:
         tables.mapping[paragraph] ^= 1 << g.below(16)
@@ -169,7 +174,7 @@ def spoilt_words(g: Generator, built: Built) -> None:
 
 
 def dressed(g: Generator, built: Built) -> bytes:
-    """Write an image with other blocks, other cuts, another order, and words named twice (READINGS W213-12, W213-14)."""
+    """Write an image with other blocks, cuts and order, and words named twice (READINGS W213-12, W213-14)."""
     built.bits = g.pick([COMPATIBLE, 0, 0xFFFF, jlp_flags(0, 1023, 5), COMPATIBLE | 0xFFFF << 48])
     hunks = hunks_of(built.words, g.pick([1, 7, 16, 120]))
     if hunks and g.one_in(2):
@@ -246,5 +251,6 @@ def back_cases(g: Generator) -> Iterator[Case]:
         answer = back(image, bytearray(), bytearray())
         spare = g.pick([(0, 0), (0, 0), (3, 5)])
         yield (label, *back_record(image, (answer.bin_length + spare[0], 13), (answer.cfg_length + spare[1], 13)))
-    for text in ("[mapping]|$0-$FF=$5000|", "[memattr]|$5000-$50FF=RAM 8|", "[mapping]|$0-$FFF=$C000 PAGE 2|[memattr]|$5000-$50FF=RAM 8|"):
+    for text in ("[mapping]|$0-$FF=$5000|", "[memattr]|$5000-$50FF=RAM 8|",
+                 "[mapping]|$0-$FFF=$C000 PAGE 2|[memattr]|$5000-$50FF=RAM 8|"):
         yield from short_buffers(image_of(titled(text)))

@@ -7,7 +7,7 @@ from cases_flash import kept, random_flash_access
 from cases_images import Case, jlp_flags
 from cases_jlp import JLP_RAM, over
 from encode import random_tables
-from families import Filled, Kept, runs_record
+from families import Kept, runs_record
 from generator import Generator
 from tables import READ, WRITE, Tables
 from titles import READ_IT, RESET_IT, Access, random_accesses
@@ -26,21 +26,25 @@ def small() -> bytes:
 
 def edges() -> Iterator[tuple[str, bytes, int, int]]:
     """Give lists, limits and rooms at the readings' edges (READINGS W214-1 to W214-10)."""
-    good = b"op=w addr=5001 value=aBcD\nop=r addr=5001\nop=w addr=6FFF value=6A52\nop=r addr=6000\nop=x\nop=r addr=6000\nop=r addr=5001\n"
+    good = (b"op=w addr=5001 value=aBcD\nop=r addr=5001\nop=w addr=6FFF value=6A52\nop=r addr=6000\n"
+            b"op=x\nop=r addr=6000\nop=r addr=5001\n")
     for limit in (0, 1, 2, 3, 4, 5, 6, 7, 8, 0xFFFFFFFF):
         yield f"W214-10 limit {limit}", good, limit, 4
     for room in (0, 3, 4, 5, 100):
         for limit in (0, 2, 7):
             yield f"W214-6 room {room}, limit {limit}", good, limit, room
-    for text in (b"", b"\n", b"op=x", b"op=x\n", b"op=x\r\n", b"op=x\r", b"op=x\n\n", b"\nop=x", b"op=x\n\nop=x\n", b"op=x\r\r\n", b"\r\n", b"\r", b"op=x\n\r\n",
-                 b"op=x\r\nop=x\nop=x\r\n", b"op=r addr=5000\r", b"op=r\raddr=5000\n", b"\rop=x\n", b"op=x\n\r", b"op=x\r\n\n", b"op=x\x00\n", b"op=x\x0b", b"op=x\n \n", b"op=x\x1a"):
+    for text in (b"", b"\n", b"op=x", b"op=x\n", b"op=x\r\n", b"op=x\r", b"op=x\n\n", b"\nop=x", b"op=x\n\nop=x\n",
+                 b"op=x\r\r\n", b"\r\n", b"\r", b"op=x\n\r\n",
+                 b"op=x\r\nop=x\nop=x\r\n", b"op=r addr=5000\r", b"op=r\raddr=5000\n", b"\rop=x\n", b"op=x\n\r",
+                 b"op=x\r\n\n", b"op=x\x00\n", b"op=x\x0b", b"op=x\n \n", b"op=x\x1a"):
         yield f"W214-2 W214-3 {text!r}", text, 9, 9
     for line in BAD:
         yield f"W214-1 {line!r}", b"op=x\n" + line + b"\nop=x\n", 9, 9
     for byte in (0x00, 0x09, 0x0D, 0x1F, 0x20, 0x3A, 0x40, 0x47, 0x60, 0x67, 0x7F, 0x80, 0xB2, 0xFF):
         yield f"W214-1 byte {byte:#04x} as a digit", b"op=r addr=500" + bytes([byte]) + b"\n", 9, 9
     for digit in b"0123456789abcdefABCDEF":
-        yield f"W214-1 digit {chr(digit)}", b"op=w addr=500%c value=%c00%c\nop=r addr=500%c" % (digit, digit, digit, digit), 9, 9
+        text = b"op=w addr=500%c value=%c00%c\nop=r addr=500%c" % (digit, digit, digit, digit)
+        yield f"W214-1 digit {chr(digit)}", text, 9, 9
     bad = b"op=r addr=5000\nop=r addr=5001\nop=q\nop=z\n"
     for limit, room in ((0, 9), (1, 9), (2, 9), (9, 0), (0, 0)):
         yield f"W214-5 33 at line 3, limit {limit}, room {room}", bad, limit, room
@@ -55,7 +59,11 @@ def spelt(g: Generator, accesses: list[Access]) -> bytes:
     lines = []
     for operation, address, value in accesses:
         form = g.pick(["%04X", "%04x"])
-        line = "op=x" if operation == RESET_IT else ("op=r addr=" + form) % address if operation == READ_IT else ("op=w addr=" + form + " value=" + form) % (address, value)
+        line = "op=x"
+        if operation == READ_IT:
+            line = ("op=r addr=" + form) % address
+        elif operation != RESET_IT:
+            line = ("op=w addr=" + form + " value=" + form) % (address, value)
         lines.append(line + g.pick(["\n", "\n", "\r\n"]))
     text = "".join(lines).encode()
     return text if g.below(4) else text.rstrip(b"\r\n")
@@ -64,7 +72,8 @@ def spelt(g: Generator, accesses: list[Access]) -> bytes:
 def random_case(g: Generator) -> Case:
     """Run a random list on plain, JLP or flash (02, W-214)."""
     if g.one_in(5):
-        flags, ram, flash = jlp_flags(3, 1).to_bytes(16, "little"), (JLP_RAM, g.between(1, 9)), kept(1, {2: b"\x01\x02"})
+        flags, flash = jlp_flags(3, 1).to_bytes(16, "little"), kept(1, {2: b"\x01\x02"})
+        ram = (JLP_RAM, g.between(1, 9))
         tables, accesses = over(READ | WRITE), [access for _ in range(16) for access in random_flash_access(g, 1)]
     else:
         flags, ram, flash = bytes(16), (g.pick([300, 4096]), g.between(1, 9)), Kept()

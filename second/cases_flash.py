@@ -48,15 +48,20 @@ def register_edges() -> Iterator[Edge]:
         for size in (0, 1, 2):
             flash = kept(size if jlp >= 2 else 0, {0: fill_bytes(192, 0, 5)} if size and jlp >= 2 else {})
             writes = [(1, a, 0x8100 + a % 16) for a in range(0x8022, 0x8031)]
-            accesses = every + writes + every + [ON, *every, *at(0x8040, 0), DO_READ, *look(0x8040), OFF, *every, *at(0x8200, 0), DO_READ, ON, DO_READ, *look(0x8040), *look(0x8200)]
+            accesses = every + writes + every
+            accesses += [ON, *every, *at(0x8040, 0), DO_READ, *look(0x8040)]
+            accesses += [OFF, *every, *at(0x8200, 0), DO_READ, ON, DO_READ, *look(0x8040), *look(0x8200)]
             yield f"W209-1 field {jlp}, size {size}", jlp, size, flash, accesses
-    yield "W209-4 682 sectors", 3, 682, Kept(b"", SECTOR * 682, 0, 0), [*ROWS_READ, *at(0x8040, 0), DO_READ, DO_WRITE, DO_ERASE, *look(0x8040)]
-    yield "W209-1 field 1 keeps no flash", 1, 682, Kept(b"\x12\x34" * 5, 3, 5, 0), [*ROWS_READ, *at(0x8040, 0), DO_READ, DO_WRITE, DO_ERASE, *look(0x8040)]
+    commands = [*ROWS_READ, *at(0x8040, 0), DO_READ, DO_WRITE, DO_ERASE, *look(0x8040)]
+    yield "W209-4 682 sectors", 3, 682, Kept(b"", SECTOR * 682, 0, 0), commands
+    yield "W209-1 field 1 keeps no flash", 1, 682, Kept(b"\x12\x34" * 5, 3, 5, 0), commands
     survive = [*at(0x8100, 1), RESET, DO_READ, *look(0x8100), OFF, ON, (1, AT_ROW, 0), DO_READ, *look(0x8100)]
     yield "W209-11 registers survive", 3, 1, kept(1, {1: fill_bytes(192, 0, 6)}), survive
     for command in (WRITE, READ, ERASE):
         for word in (0xC0DE, 0xDEC0, 0xBEEF, 0, command[1] ^ 1):
-            yield f"W209-6 {word:04X} to {command[0]:04X}", 3, 1, kept(1, {1: fill_bytes(192, 0, 6)}), [*at(0x8100, 0), (1, command[0], word), *look(0x8100), *at(0x8100, 1), (1, command[0], word), *look(0x8100)]
+            ask = [(1, command[0], word), *look(0x8100)]
+            flash = kept(1, {1: fill_bytes(192, 0, 6)})
+            yield f"W209-6 {word:04X} to {command[0]:04X}", 3, 1, flash, [*at(0x8100, 0), *ask, *at(0x8100, 1), *ask]
 
 
 def range_edges() -> Iterator[Edge]:
@@ -67,18 +72,22 @@ def range_edges() -> Iterator[Edge]:
     for command in (DO_READ, DO_WRITE):
         for start in (7, 9):
             accesses = [access for n, addr in enumerate(addrs)
-                        for access in (*at(addr, start if command == DO_READ else start - 7 + n), command, *look(addr), *look(0x8040)[1:3])]
+                        for access in (*at(addr, start if command == DO_READ else start - 7 + n), command, *look(addr),
+                                       *look(0x8040)[1:3])]
             yield f"W209-2 {command[1]:04X}, addresses, from row {start}", 3, 2, kept(2, full), accesses
-        accesses = [access for n, row in enumerate(rows) for access in (*at(0x9000 + 96 * n, row), command, *look(0x9000 + 96 * n))]
+        accesses = [access for n, row in enumerate(rows)
+                    for access in (*at(0x9000 + 96 * n, row), command, *look(0x9000 + 96 * n))]
         yield f"W209-3 {command[1]:04X}, rows", 2, 2, kept(2, full), [ON, *accesses]
         for spare in (1, 768, -1, -95, -96, -97, -768, -769, -1536):
-            accesses = [access for row in (0, 6, 8, 14, 15, 16) for access in (*at(0x9000 + row, row), command, *look(0x9000 + row))]
+            accesses = [access for row in (0, 6, 8, 14, 15, 16)
+                        for access in (*at(0x9000 + row, row), command, *look(0x9000 + row))]
             yield f"W209-5 {command[1]:04X}, {spare} words more lent", 3, 2, kept(2, full, spare), accesses
     for row in rows:
         yield f"W209-7 erase row {row}", 3, 2, kept(2, full), [*at(0xFFFF, row), DO_ERASE]
     for spare in (768, -1, -767, -768, -769):
         for row in (0, 8, 15, 16):
-            yield f"W209-7 erase row {row}, {spare} words more lent", 3, 2, kept(2, full, spare), [*at(0, row), DO_ERASE]
+            label = f"W209-7 erase row {row}, {spare} words more lent"
+            yield label, 3, 2, kept(2, full, spare), [*at(0, row), DO_ERASE]
 
 
 def write_edges() -> Iterator[Edge]:
@@ -86,11 +95,15 @@ def write_edges() -> Iterator[Edge]:
     for word in (0, 1, 94, 95):
         for byte in (0, 1):
             spot = bytes([0xFF] * (2 * word + byte)) + b"\xFE"
-            yield f"W209-8 word {word} isn't empty", 3, 1, kept(1, {3: spot}), [*at(0x9000, 3), DO_WRITE, *at(0x8100, 3), DO_READ, *look(0x8100), *at(0x9000, 4), DO_WRITE]
-    story = [*at(0x8040, 2), DO_WRITE, (1, 0x8040, 0x5555), DO_WRITE, *at(0x9000, 2), DO_READ, *look(0x9000), *at(0x8100, 3), DO_WRITE,
-             *at(0, 5), DO_ERASE, *at(0x8040, 2), DO_WRITE, *at(0x9100, 2), DO_READ, *look(0x9100), *at(0x9200, 9), DO_READ, *look(0x9200)]
+            accesses = [*at(0x9000, 3), DO_WRITE, *at(0x8100, 3), DO_READ, *look(0x8100), *at(0x9000, 4), DO_WRITE]
+            yield f"W209-8 word {word} isn't empty", 3, 1, kept(1, {3: spot}), accesses
+    story = [*at(0x8040, 2), DO_WRITE, (1, 0x8040, 0x5555), DO_WRITE, *at(0x9000, 2), DO_READ, *look(0x9000),
+             *at(0x8100, 3), DO_WRITE,
+             *at(0, 5), DO_ERASE, *at(0x8040, 2), DO_WRITE, *at(0x9100, 2), DO_READ, *look(0x9100), *at(0x9200, 9),
+             DO_READ, *look(0x9200)]
     yield "000's story: write, write again, read, erase, write", 3, 2, kept(2, {}), story
-    blank = [*at(0x9000, 0), DO_READ, *look(0x9000), *at(0x9000, 1), DO_WRITE, *at(0x8100, 1), DO_WRITE, DO_READ, *look(0x8100)]
+    blank = [*at(0x9000, 0), DO_READ, *look(0x9000), *at(0x9000, 1), DO_WRITE, *at(0x8100, 1), DO_WRITE, DO_READ,
+             *look(0x8100)]
     yield "W209-8 a row of $FFFF may be written", 3, 1, kept(1, {}), blank
 
 
@@ -114,7 +127,8 @@ def flash_case(g: Generator) -> Case:
         accesses += random_flash_access(g, sectors)
     lent = g.pick([JLP_RAM, JLP_RAM, JLP_RAM, JLP_RAM - 1, 0x11000])
     image = compose(jlp_flags(3, sectors).to_bytes(16, "little"), bytes(8), over(READABLE | WRITABLE), [])
-    return (f"flash of {sectors} sectors, {lent} words lent", *machine_record(image, (JLP_RAM, g.between(1, 9)), lent, flash, paired(accesses)))
+    return (f"flash of {sectors} sectors, {lent} words lent",
+            *machine_record(image, (JLP_RAM, g.between(1, 9)), lent, flash, paired(accesses)))
 
 
 def flash_cases(g: Generator) -> Iterator[Case]:

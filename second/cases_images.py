@@ -92,7 +92,8 @@ def block_edges() -> Iterator[Image]:
 
 def broken_hunks() -> Iterator[tuple[str, bytes, int]]:
     """Give what is wrong, the payload and the lent words of hunks with two good data blocks before the bad one."""
-    forms = {"8-bit": hunk.block_8([1, 2, 3]), "10-bit": hunk.block_10([4, 5, 6, 7, 8, 9]), "16-bit": hunk.block_16([10, 11])}
+    forms = {"8-bit": hunk.block_8([1, 2, 3]), "10-bit": hunk.block_10([4, 5, 6, 7, 8, 9]),
+             "16-bit": hunk.block_16([10, 11])}
     counts = {"8-bit": 3, "10-bit": 6, "16-bit": 2}
     for first, second in (("8-bit", "10-bit"), ("10-bit", "16-bit"), ("16-bit", "8-bit")):
         start, words = bytes([1, 0, 0]) + forms[first] + forms[second], 1 + counts[first] + counts[second]
@@ -133,6 +134,18 @@ def hunk_edges() -> Iterator[Image]:
     yield "W205 9 before none of 8 and 10", Draft([bad], flags=b"\xFF" * 16).encoded(), 10, 3
 
 
+EXAMPLE = bytes.fromhex("""46 92 40 00 40 40 60 01 B8 5F 7A 41 80 40 FF 7F 44 12 04 54 42 BC 40 80 41 80 B9 4F 1F
+ 50 10 04 54 46 02 66 C0 40 2E 40 44 02 04 54 30 04 01 04 54 51 A8 56 45 1C 04 50 66 00 80 20 09 00""")
+
+
+def example_edges() -> Iterator[Image]:
+    """Give 001's encoded example, whole, cut at each byte, and in a RAM short by each word (001, Encoded Example)."""
+    for lent in range(100, 140):
+        yield f"001's example, {lent} words lent", simple(hunk_block(100, EXAMPLE)), lent, 3
+    for size in range(len(EXAMPLE)):
+        yield f"001's example, the first {size} bytes", simple(hunk_block(100, EXAMPLE[:size])), 139, 3
+
+
 def field_edges() -> Iterator[Image]:
     """Give each value of flag bits 8 to 15, and each refusal of an image that states all (02, W-201)."""
     for byte in range(256):
@@ -154,11 +167,14 @@ def field_edges() -> Iterator[Image]:
 
 def readable_edges() -> Iterator[Image]:
     """Give tables with none, one, some and all paragraphs readable, and a refusal of the last (02, W-211)."""
-    for label, permissions in (("none", [0xFE] * 256), ("all", [0x01] * 256), ("all bits", [0xFF] * 256), ("half", [0xFE, 0x01] * 128),
-                               ("silent ones", [int(p < 5 or p >> 4 in (1, 3)) for p in range(256)]), ("255", [0] + [1] * 255)):
+    for label, permissions in (("none", [0xFE] * 256), ("all", [0x01] * 256), ("all bits", [0xFF] * 256),
+                               ("half", [0xFE, 0x01] * 128),
+                               ("silent ones", [int(p < 5 or p >> 4 in (1, 3)) for p in range(256)]),
+                               ("255", [0] + [1] * 255)):
         yield f"W211-1 {label} readable", simple(tables=Tables(permissions=permissions)), 10, 0
         yield f"W211-2 {label} readable, but 10", simple(tables=Tables(permissions=permissions), bits=1 << 32), 10, 0
-        yield f"W211-2 {label} readable, but 9", simple(DraftBlock(2, b""), tables=Tables(permissions=permissions)), 10, 0
+        broken = simple(DraftBlock(2, b""), tables=Tables(permissions=permissions))
+        yield f"W211-2 {label} readable, but 9", broken, 10, 0
 
 
 def jlp_flags(jlp: int, size: int = 0, more: int = 0) -> int:
@@ -173,7 +189,8 @@ def feature_edges() -> Iterator[Image]:
     for jlp in range(4):
         for lent in (0, 73_599, 73_600, 73_601):
             yield f"LW-3 field {jlp}, {lent} words lent", simple(bits=jlp_flags(jlp)), lent, 3
-            yield f"LW-2 10 before 11: field {jlp}, flag 32, {lent} words lent", simple(bits=jlp_flags(jlp, 0, 1 << 32)), lent, 3
+            mapper = simple(bits=jlp_flags(jlp, 0, 1 << 32))
+            yield f"LW-2 10 before 11: field {jlp}, flag 32, {lent} words lent", mapper, lent, 3
         for size in (1, 2, 3, 4, 512, 682, 683, 1023):
             for lent in (73_599, 73_600):
                 yield f"LW-6 field {jlp}, size {size}, {lent} words lent", simple(bits=jlp_flags(jlp, size)), lent, 3
@@ -182,7 +199,8 @@ def feature_edges() -> Iterator[Image]:
         yield f"LW-2 10 before 11: field {jlp}, PFE in chapter 1", simple(tables=pfe, bits=jlp_flags(jlp)), 100, 3
         broken = hunk_block(73_599, hunk.block_16([1, 2]))
         yield f"LW-2 9 before 11: field {jlp}", simple(broken, bits=jlp_flags(jlp)), 73_600, 3
-        yield f"LW-2 none of 8 before 11: field {jlp}", Draft([], flags=jlp_flags(jlp).to_bytes(16, "little")).encoded(), 9, 3
+        bare = Draft([], flags=jlp_flags(jlp).to_bytes(16, "little")).encoded()
+        yield f"LW-2 none of 8 before 11: field {jlp}", bare, 9, 3
         inside = hunk_block(0x10040, hunk.block_16([1, 2]))
         yield f"W206-5 field {jlp}, a hunk in JLP RAM", simple(inside, bits=jlp_flags(jlp)), 73_600, 3
     for lent in (524_287, 524_288, 524_300):
@@ -196,7 +214,8 @@ def flash_edges() -> Iterator[tuple[str, bytes, int, int, int]]:
             right = 768 * size
             for flash in sorted({0, 1, 8, 768, right - 1, right, right + 1, 96 * size, 2 * right} - {-1}):
                 if size < 3 or flash < 524_600 and flash in (0, right, right - 1, right + 1):
-                    yield f"LW-4 LW-5 field {jlp}, size {size}, {flash} words of flash", simple(bits=jlp_flags(jlp, size)), 73_600, 3, flash
+                    label = f"LW-4 LW-5 field {jlp}, size {size}, {flash} words of flash"
+                    yield label, simple(bits=jlp_flags(jlp, size)), 73_600, 3, flash
         yield f"LW-2 11 before 13: field {jlp}", simple(bits=jlp_flags(jlp, 683)), 73_599, 3, 768
         yield f"LW-2 10 before 13: field {jlp}", simple(bits=jlp_flags(jlp, 683, 1 << 32)), 73_600, 3, 768
 
@@ -238,8 +257,10 @@ def card_cases(g: Generator) -> Iterator[Case]:
     images += [(f"W205-4 two blocks at {first}", simple(hunk_block(first, two))) for first in range(16_380, 16_385)]
     images += [(f"W205-2 {size} bytes", simple(DraftBlock(2, two[:size]))) for size in range(4)]
     images += [("W205-3 reserved", simple(hunk_block(0, two + b"\x00" + two)))]
-    images += [(f"LW-8 field {jlp}, size {size}", simple(bits=jlp_flags(jlp, size))) for jlp in range(4) for size in (0, 1, 683)]
-    images += [("W204-12 a cut record", simple(DraftBlock(3, b"\x00\x05ab"))), ("W204-21 a record", simple(DraftBlock(3, b"\x00\x02ab")))]
+    images += [(f"LW-8 field {jlp}, size {size}", simple(bits=jlp_flags(jlp, size))) for jlp in range(4)
+               for size in (0, 1, 683)]
+    images += [("W204-12 a cut record", simple(DraftBlock(3, b"\x00\x05ab"))),
+               ("W204-21 a record", simple(DraftBlock(3, b"\x00\x02ab")))]
     images += [random_image(g, 16_384) for _ in range(150)]
     for label, image in images:
         yield (label, *card_record(image))
@@ -259,7 +280,8 @@ def write_edges() -> Iterator[Case]:
                 for other, buffer in ((0, 0), (0, 1321), (1 << 32, 1321)):
                     head = jlp_flags(jlp, size, other).to_bytes(16, "little") + bytes(8)
                     for few in (set(), {287}):
-                        label = f"LW-7 field {jlp}, size {size}, RAM {words}, marks {few}, buffer {buffer}, flag 32 {other >> 32}"
+                        label = f"LW-7 field {jlp}, size {size}, RAM {words}, marks {few}, buffer {buffer}, flag 32 "
+                        label += str(other >> 32)
                         yield (label, *write_record(head, tables, (words, 3), [], marks_of(few), (buffer, 13)))
     for count in (1983, 1984, 2048):
         marks = marks_of(set(range(count - 1)) | {2047})
@@ -276,14 +298,16 @@ def write_edges() -> Iterator[Case]:
 
 
 def form_edges() -> Iterator[Case]:
-    """Give data blocks at the edge between two forms, and 29 at the smaller length (02, W-207; READINGS W207-1, W207-7)."""
+    """Give data blocks at the edge between two forms, and 29 at the smaller length (READINGS W207-1, W207-7)."""
     places = (0, 1, 59, 60, 61, 62, 122, 123, 124, 247, 248, 254, 255)
     for word in (0x00FF, 0x0100, 0x03FF, 0x0400, 0xFFFF):
         for place in places:
             label = f"W207-1 word {word:#06x} at {place}"
-            yield (label, *write_record(bytes(24), bytes(1280), (512, 0), [(256 + place, [word])], marks_of({1}), (2000, 13)))
+            yield (label, *write_record(bytes(24), bytes(1280), (512, 0), [(256 + place, [word])], marks_of({1}),
+                                        (2000, 13)))
     for place in (60, 61):
-        laid = [(place, [0x0100]), (62 + place, [0x03FF]), (124 + place, [0x0400]), (186 + place, [0x8000]), (248, [0x100] * 8)]
+        laid = [(place, [0x0100]), (62 + place, [0x03FF]), (124 + place, [0x0400]), (186 + place, [0x8000]),
+                (248, [0x100] * 8)]
         length = write(bytes(16), bytes(8), Tables(), laid_over(laid), [True] + [False] * 2047, bytearray()).length
         for buffer in (length - 1, length, length + 1):
             label = f"W207-7 five data blocks, buffer {buffer}"
@@ -315,7 +339,8 @@ def write_cases(g: Generator) -> Iterator[Case]:
     yield from form_edges()
     for _ in range(60):
         laid = random_forms(g, 256)
-        yield ("W207 random forms", *write_record(bytes(24), bytes(1280), (768, g.below(2)), laid, marks_of({1, 2}), (2700, 13)))
+        yield ("W207 random forms",
+               *write_record(bytes(24), bytes(1280), (768, g.below(2)), laid, marks_of({1, 2}), (2700, 13)))
     for _ in range(300):
         words = g.pick([256, 300, 2048, 4096, 20_000])
         tables = random_tables(g, g.below(10))

@@ -35,7 +35,8 @@ def over(permissions: int) -> Tables:
 def switch_edges() -> Iterator[Edge]:
     """Give the two switch writes and near misses, on and off, stores beneath included (READINGS W206-1 to W206-4)."""
     look = [(0, a, 0) for a in (0x8033, 0x8034, 0x8040, 0x5033, 0x5034, 0x5040, 0x9F8E, 0x9FFD)]
-    misses = [(1, 0x8033, 0x6A7A), (1, 0x8034, 0x4A5A), (1, 0x8033, 0x4A5B), (1, 0x8034, 0x6A7B), (1, 0x8133, 0x4A5A), (1, 0x9034, 0x6A7A)]
+    misses = [(1, 0x8033, 0x6A7A), (1, 0x8034, 0x4A5A), (1, 0x8033, 0x4A5B), (1, 0x8034, 0x6A7B), (1, 0x8133, 0x4A5A),
+              (1, 0x9034, 0x6A7A)]
     for jlp in range(4):
         for permissions in (READ, READ | WRITE):
             tables = over(permissions)
@@ -43,15 +44,16 @@ def switch_edges() -> Iterator[Edge]:
             yield f"W206-2 field {jlp}, on, on", jlp, tables, [ON, *look, ON, *look]
             yield f"W206-3 field {jlp}, off, off", jlp, tables, [OFF, *look, OFF, *look]
             yield f"W206-3 field {jlp}, off, on, off", jlp, tables, [OFF, *look, ON, *look, OFF, *look]
-            yield f"W206-2 field {jlp}, misses", jlp, tables, misses + look + [ON] + misses + look + [OFF] + misses + look
+            wrong = misses + look
+            yield f"W206-2 field {jlp}, misses", jlp, tables, [*wrong, ON, *wrong, OFF, *wrong]
             yield f"W206-16 field {jlp}, reset", jlp, tables, [ON, RESET, *look, OFF, RESET, *look]
 
 
 def window_edges() -> Iterator[Edge]:
     """Write and read every kind of address of the window, on and off (READINGS ALL-2, W206-4, W206-5, W206-15)."""
-    edges = [0x7FFF, 0x8000, 0x8022, 0x8023, 0x8024, 0x8025, 0x8026, 0x802D, 0x802E, 0x802F, 0x8032, 0x8033, 0x8034, 0x803F,
-             0x8040, 0x8041, 0x80FF, 0x8FFE, 0x8FFF, 0x9000, 0x9F7E, 0x9F7F, 0x9F80, 0x9F8B, 0x9F8C, 0x9F8D, 0x9F8E, 0x9F8F,
-             0x9F90, 0x9FFB, 0x9FFC, 0x9FFD, 0x9FFE, 0x9FFF, 0xA000]
+    edges = [0x7FFF, 0x8000, 0x8022, 0x8023, 0x8024, 0x8025, 0x8026, 0x802D, 0x802E, 0x802F, 0x8032, 0x8033,
+             0x8034, 0x803F, 0x8040, 0x8041, 0x80FF, 0x8FFE, 0x8FFF, 0x9000, 0x9F7E, 0x9F7F, 0x9F80, 0x9F8B,
+             0x9F8C, 0x9F8D, 0x9F8E, 0x9F8F, 0x9F90, 0x9FFB, 0x9FFC, 0x9FFD, 0x9FFE, 0x9FFF, 0xA000]
     for jlp in range(4):
         for permissions in (READ, READ | WRITE | 4):
             tables = over(permissions)
@@ -59,7 +61,8 @@ def window_edges() -> Iterator[Edge]:
             beneath = [(0, a - 0x3000, 0) for a in edges if 0x8000 <= a <= 0x9FFF]
             yield f"W206-15 field {jlp}, as loaded", jlp, tables, accesses + beneath
             yield f"W206-4 field {jlp}, switched first", jlp, tables, [OFF if jlp & 1 else ON] + accesses + beneath
-    aliases = [(1, 0x8040, 0xABCD), (0, 0xC040, 0), (1, 0xC041, 0x1234), (0, 0x8041, 0), (1, 0xDF7F, 5), (0, 0x9F7F, 0), (1, 0xDF80, 6), (0, 0x9F80, 0)]
+    aliases = [(1, 0x8040, 0xABCD), (0, 0xC040, 0), (1, 0xC041, 0x1234), (0, 0x8041, 0), (1, 0xDF7F, 5), (0, 0x9F7F, 0),
+               (1, 0xDF80, 6), (0, 0x9F80, 0)]
     for jlp in (1, 2, 3):
         yield f"W206-5 field {jlp}, other paragraphs map to it", jlp, over(READ), aliases + [ON] + aliases
 
@@ -72,8 +75,10 @@ def request_edges() -> Iterator[Edge]:
             look = [(0, a, 0) for a in (4096 * chapter + 0xFFF, 4096 * chapter + 0x800, 0x5FFF, 0x6FFF, 0xCFFF, 0xDFFF)]
             tables = over(READ | WRITE | BANKSW)
             banks = [(1, 0x40 + chapter, 0xFD), (1, 0x50 + chapter, 0x7702)]
-            yield f"W206-6 field {jlp}, chapter {chapter}, ask", jlp, tables, [ask, *look, OFF, *look, ask, *look, ON, *look]
-            yield f"W202-9 field {jlp}, chapter {chapter}, bankswitch", jlp, tables, [*banks, *look, OFF, *look, ON, *banks, OFF, *look]
+            asks = [ask, *look, OFF, *look, ask, *look, ON, *look]
+            switches = [*banks, *look, OFF, *look, ON, *banks, OFF, *look]
+            yield f"W206-6 field {jlp}, chapter {chapter}, ask", jlp, tables, asks
+            yield f"W202-9 field {jlp}, chapter {chapter}, bankswitch", jlp, tables, switches
 
 
 def arithmetic_edges() -> Iterator[Edge]:
@@ -83,9 +88,12 @@ def arithmetic_edges() -> Iterator[Edge]:
         for half in (CORNERS[:4], CORNERS[4:]):
             accesses = [access for a in half for b in CORNERS for access in ((1, first, a), (1, second, b), *RESULTS)]
             yield f"W206-8 function {function}, first of {half[0]:04X}..", 1, Tables(), accesses
-        again = [(1, second, 7), *RESULTS, (1, first, 0xFFF0), *RESULTS, (1, OPERANDS[6], 3), (1, OPERANDS[7], 9), *RESULTS,
-                 (1, first, 0xFFF0), *RESULTS, (1, second, 0), *RESULTS, (1, first, 5), *RESULTS, (1, LOW, 1), (1, HIGH, 2), *RESULTS,
-                 RESET, *RESULTS, (1, second, 2), *RESULTS, OFF, *RESULTS, (1, second, 9), ON, *RESULTS, (1, first, 77), *RESULTS]
+        again = [(1, second, 7), *RESULTS, (1, first, 0xFFF0), *RESULTS, (1, OPERANDS[6], 3), (1, OPERANDS[7], 9),
+                 *RESULTS,
+                 (1, first, 0xFFF0), *RESULTS, (1, second, 0), *RESULTS, (1, first, 5), *RESULTS, (1, LOW, 1),
+                 (1, HIGH, 2), *RESULTS,
+                 RESET, *RESULTS, (1, second, 2), *RESULTS, OFF, *RESULTS, (1, second, 9), ON, *RESULTS, (1, first, 77),
+                 *RESULTS]
         yield f"W206-9 W206-11 W206-16 function {function}", 3, Tables(), again
     score, digits = 12_345, [(1, OPERANDS[11], 10)]
     for _ in range(5):
@@ -97,11 +105,14 @@ def arithmetic_edges() -> Iterator[Edge]:
 def crc_edges() -> Iterator[Edge]:
     """Give 000's printed table byte by byte, its short cycle, and words one after the other (READINGS W206-13)."""
     for first in range(0, 256, 32):
-        accesses = [access for byte in range(first, first + 32) for access in ((1, CRC, 0), (1, CRC_DATA, byte << 8), (0, CRC, 0))]
+        accesses = [access for byte in range(first, first + 32)
+                    for access in ((1, CRC, 0), (1, CRC_DATA, byte << 8), (0, CRC, 0))]
         yield f"W206-13 000's table from {first:#04x}", 1, Tables(), accesses
-    yield "W206-13 $5AA4 written again", 1, Tables(), [(1, CRC, 1), *[(1, CRC_DATA, 0x5AA4), (0, CRC, 0)] * 8, (0, CRC_DATA, 0)]
+    cycle = [(1, CRC_DATA, 0x5AA4), (0, CRC, 0)] * 8
+    yield "W206-13 $5AA4 written again", 1, Tables(), [(1, CRC, 1), *cycle, (0, CRC_DATA, 0)]
     words = [access for n in range(60) for access in ((1, CRC_DATA, n * 4001 % 65536), (0, CRC, 0))]
-    yield "W206-13 words from load on, then reset, off and on", 3, Tables(), words + [RESET, (0, CRC, 0), OFF, (0, CRC, 0), (1, CRC_DATA, 5), ON, (0, CRC, 0)]
+    words += [RESET, (0, CRC, 0), OFF, (0, CRC, 0), (1, CRC_DATA, 5), ON, (0, CRC, 0)]
+    yield "W206-13 words from load on, then reset, off and on", 3, Tables(), words
 
 
 def random_jlp_access(g: Generator) -> Access:
@@ -110,7 +121,8 @@ def random_jlp_access(g: Generator) -> Access:
     if choice == 0:
         return g.pick([ON, OFF, ON, OFF, (1, TURN_ON[0], word), (1, TURN_OFF[0], word)])
     if choice == 1:
-        return g.pick([(1, 0x8FFF, 0x8A50 + g.below(16)), (1, 0x9FFF, 0x9A50 + g.below(16)), (1, 0x48 + g.below(2) + 16 * g.below(2), word)])
+        return g.pick([(1, 0x8FFF, 0x8A50 + g.below(16)), (1, 0x9FFF, 0x9A50 + g.below(16)),
+                       (1, 0x48 + g.below(2) + 16 * g.below(2), word)])
     if choice < 5:
         return 1, g.pick(OPERANDS), word
     if choice == 5:
@@ -118,7 +130,8 @@ def random_jlp_access(g: Generator) -> Access:
     if choice < 8:
         return 0, g.pick([LOW, HIGH, CRC, 0x9F80 + g.below(128)]), 0
     if choice < 11:
-        return g.below(2), g.pick([g.pick(RAM), RAM[0] - 2 + g.below(4), RAM[-1] - 2 + g.below(4), 0x8000 + g.below(0x2000)]), word
+        return g.below(2), g.pick([g.pick(RAM), RAM[0] - 2 + g.below(4), RAM[-1] - 2 + g.below(4),
+                                   0x8000 + g.below(0x2000)]), word
     return random_access(g, [8, 9])
 
 

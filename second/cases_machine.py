@@ -20,17 +20,20 @@ def row_edges() -> Iterator[Case]:
                 tables.mapping[paragraph] = tables.mapping[0x60 + paragraph] = paragraph % 8
                 tables.permissions[paragraph], tables.permissions[0x60 + paragraph] = row | reserved, 1
                 for value in (0xABCD, 0x0100):
-                    accesses += [(0, 256 * paragraph + 7, 0), (1, 256 * paragraph + 7, value), (0, 256 * paragraph + 7, 0)]
+                    accesses += [(0, 256 * paragraph + 7, 0), (1, 256 * paragraph + 7, value),
+                                 (0, 256 * paragraph + 7, 0)]
                     accesses.append((0, 256 * (0x60 + paragraph) + 7, 0))
             image = compose(bytes(16), bytes(8), tables, [])
-            yield (f"W203-1 row {row:03b}, reserved {reserved:#04x}", *machine_record(image, (2048, 3), 2048, Kept(), accesses))
+            yield (f"W203-1 row {row:03b}, reserved {reserved:#04x}",
+                   *machine_record(image, (2048, 3), 2048, Kept(), accesses))
 
 
 def looks(half_page: int) -> list[Access]:
     """Read first and last words of a half-page's paragraphs, and beside it (01, The machine)."""
     first = 2048 * half_page
     near = [(first - 1) % 65536, (first + 2048) % 65536]
-    return [(0, address, 0) for p in range(8) for address in (first + 256 * p, first + 256 * p + 255)] + [(0, a, 0) for a in near]
+    return [(0, address, 0) for p in range(8)
+            for address in (first + 256 * p, first + 256 * p + 255)] + [(0, a, 0) for a in near]
 
 
 def bank_tables(mapping: int, permissions: int, half_pages: Iterable[int]) -> Tables:
@@ -54,6 +57,9 @@ def bank_edges() -> Iterator[tuple[str, Tables, list[Access]]]:
         others.mapping[0], others.mapping[0x60], others.permissions[0x60] = 9, 9, READ
         alias = [(1, register, 0x4321), (0, 0x6000 + register, 0), *looks(half_page)]
         yield f"W202-6 W202-7 half-page {half_page} has not the bit", others, alias
+    tables = bank_tables(0x1200, READ, [24, 25])
+    tables.permissions[0xC0] |= BANKSW
+    yield "001's write to $004C", tables, [(1, 0x004C, 0x0060), *looks(24), (1, 0x005C, 0x0068), *looks(25)]
     for address in (0x003F, 0x0040, 0x005F, 0x0060, 0x0140, 0x1040, 0x8040, 0xFF50, 0x0540, 0x0050):
         tables = bank_tables(0, READ | BANKSW | WRITE, [0, 1, 2, 16, 30, 31])
         tables.mapping[0x60], tables.permissions[0x60] = address >> 8, READ
@@ -63,13 +69,16 @@ def bank_edges() -> Iterator[tuple[str, Tables, list[Access]]]:
 
 def count_edges() -> Iterator[tuple[str, Tables, list[Access]]]:
     """Give flips that make paragraphs readable or not, then a bankswitch and a reset (02, W-211)."""
-    starts = {"none": [0] * 256, "all": [READ] * 256, "all, banked": [READ | BANKSW] * 256, "every third": [0xFE | READ * (p % 3 == 0) for p in range(256)]}
+    starts = {"none": [0] * 256, "all": [READ] * 256, "all, banked": [READ | BANKSW] * 256,
+              "every third": [0xFE | READ * (p % 3 == 0) for p in range(256)]}
     for chapter in (0, 1, 2, 3, 4, 5, 8, 15):
         for label, permissions in starts.items():
             tables = Tables(permissions=list(permissions))
-            tables.flips[16 * chapter:16 * chapter + 4] = [0x10, 0x19, 0x1E, 0x1F] if chapter != 1 else [0x10, 0x11, 0x16, 0x17]
+            row = [0x10, 0x19, 0x1E, 0x1F] if chapter != 1 else [0x10, 0x11, 0x16, 0x17]
+            tables.flips[16 * chapter:16 * chapter + 4] = row
             asks = [(1, 4096 * chapter + 0xFFF, 4096 * chapter + 0xA50 + page) for page in range(4)]
-            for accesses in ([], asks[:1], asks[:2], asks[:3], asks[1:], [asks[2], (2, 0, 0)], [(1, 0x40 + chapter, 0x20)]):
+            for accesses in ([], asks[:1], asks[:2], asks[:3], asks[1:], [asks[2], (2, 0, 0)],
+                             [(1, 0x40 + chapter, 0x20)]):
                 if accesses or chapter == 0:
                     yield f"W211-1 chapter {chapter}, {label} at first, {len(accesses)} accesses", tables, accesses
 
@@ -78,7 +87,8 @@ def bank_and_flip_edges() -> Iterator[tuple[str, Tables, list[Access]]]:
     """Give bankswitches before and after page requests and resets (02, W-202; READINGS W202-5, W202-9)."""
     for chapter in (0, 1, 2, 3, 4, 5, 8, 15):
         tables = bank_tables(0x30, READ | BANKSW, [2 * chapter, 2 * chapter + 1])
-        tables.flips[16 * chapter:16 * chapter + 16] = [(16 * page + 0x20) | (8 if chapter != 1 else 0) | page % 8 for page in range(16)]
+        pfe = 8 if chapter != 1 else 0
+        tables.flips[16 * chapter:16 * chapter + 16] = [16 * page + 0x20 | pfe | page % 8 for page in range(16)]
         tables.flips[16 * chapter + 7] &= 0xFFF7
         low, high = 0x40 + chapter, 0x50 + chapter
         request = 4096 * chapter + 0xA50
@@ -110,7 +120,8 @@ def machine_case(g: Generator, which: int) -> Case:
     image = compose(bytes(16), bytes(8), tables, [])
     lent = g.below(ram_length + 1) if g.one_in(8) else ram_length
     accesses = random_accesses(g, [g.below(16), g.below(5)], 100)
-    return (f"RAM of {ram_length} words, {lent} lent", *machine_record(image, (ram_length, ram_seed), lent, Kept(), accesses))
+    return (f"RAM of {ram_length} words, {lent} lent",
+            *machine_record(image, (ram_length, ram_seed), lent, Kept(), accesses))
 
 
 def machine_cases(g: Generator) -> Iterator[Case]:

@@ -12,7 +12,8 @@ from subrecords import spelt
 from tables import Tables
 
 Asked = list[tuple[int, int]]
-SHORT = [(0, b"Night Stalker"), (1, b"Stalker"), (2, b"Ann"), (3, b"Pub"), (4, bytes([82, 11])), (2, b"Bob"), (7, b"k=v"), (2, b"")]
+SHORT = [(0, b"Night Stalker"), (1, b"Stalker"), (2, b"Ann"), (3, b"Pub"), (4, bytes([82, 11])), (2, b"Bob"),
+         (7, b"k=v"), (2, b"")]
 
 
 def metadata(data: bytes, spoil: int = 0) -> DraftBlock:
@@ -26,7 +27,8 @@ def random_records(g: Generator, most: int) -> bytes:
     for _ in range(g.below(most + 1)):
         tag = g.pick([0, 1, 2, 2, 3, g.below(16), g.below(18), g.below(256)])
         length = g.pick([0, 1, 3, g.below(12), 255 if g.one_in(8) else 8])
-        records.append((tag, fill_bytes(length, 0, 0) if g.one_in(3) else bytes(g.between(0x20, 0x7E) for _ in range(length))))
+        records.append((tag, fill_bytes(length, 0, 0) if g.one_in(3)
+                        else bytes(g.between(0x20, 0x7E) for _ in range(length))))
     return spelt(records)
 
 
@@ -46,7 +48,8 @@ def refusal_edges() -> Iterator[Image]:
     bad, far = metadata(b"\x00"), hunk_block(9, hunk.block_16([1, 2]))
     for size in range(len(good) + 1):
         yield f"W204-2 the first {size} bytes", simple(metadata(good[:size])), 10, 3
-    for payload in (b"", b"\x10\x00", b"\xFF\x02ab", b"\x02\x00\x02\x00", b"\x05\xFF" + bytes(255), b"\x05\xFF" + bytes(254), b"\x05\xFF" + bytes(256), b"\xFF"):
+    for payload in (b"", b"\x10\x00", b"\xFF\x02ab", b"\x02\x00\x02\x00", b"\x05\xFF" + bytes(255),
+                    b"\x05\xFF" + bytes(254), b"\x05\xFF" + bytes(256), b"\xFF"):
         yield f"W204-2 W204-3 payload {payload[:2].hex()} of {len(payload)} bytes", simple(metadata(payload)), 10, 3
         yield f"W204-12 wrong checksum, {len(payload)} bytes", simple(metadata(payload, 1)), 10, 3
     yield "W204-11 5 before 12", simple(DraftBlock(METADATA, b"\x00", 0, 1)), 10, 3
@@ -70,36 +73,43 @@ def refusal_edges() -> Iterator[Image]:
 
 def asked_all(most: int) -> Asked:
     """Ask for every tag and n from 0, and for some that can't be (READINGS W204-15)."""
-    return [(tag, n) for tag in (0, 1, 2, 3, 4, 7, 0x0F) for n in range(most + 1)] + [(0x10, 1), (0xFF, 1), (2, 65_536), (2, 0xFFFFFFFF), (0, 257)]
+    return [(tag, n) for tag in (0, 1, 2, 3, 4, 7, 0x0F)
+            for n in range(most + 1)] + [(0x10, 1), (0xFF, 1), (2, 65_536), (2, 0xFFFFFFFF), (0, 257)]
 
 
 def names_edges() -> Iterator[tuple[str, bytes, bytes, Asked]]:
-    """Give images and labels at the readings' edges (READINGS W204-3, W204-4, W204-8 to W204-10, W204-14 to W204-18)."""
+    """Give images and labels at the readings' edges (READINGS W204-3, W204-4, W204-8 to W204-18)."""
     good, one, asked = spelt(SHORT), spelt([(2, b"Cy")]), asked_all(4)
     image = simple(metadata(good))
     yield "W204-16 no label", image, b"", asked
     yield "W204-16 a label with one author, an image with three", image, one, asked
     yield "W204-16 no metadata", simple(), one, asked
     yield "W204-16 neither", simple(), b"", asked
-    yield "W204-14 three blocks", Draft([metadata(one), tables_block(Tables()), metadata(good), metadata(b""), metadata(one)]).encoded(), b"", asked_all(6)
+    yield "W204-14 three blocks", Draft([metadata(one), tables_block(Tables()), metadata(good), metadata(b""),
+                                         metadata(one)]).encoded(), b"", asked_all(6)
     yield "W204-14 blocks after 0xFF", simple(metadata(one), tail=b"\xFF" + metadata(good).encoded()), b"", asked
-    yield "W204-3 unknown tags", simple(metadata(spelt([(0x10, b"x"), (0xFF, b"y"), (0x0F, b"z")]))), spelt([(0x10, b"w")]), asked
-    yield "W204-4 empty texts", simple(metadata(spelt([(2, b""), (2, b"a"), (2, b"")]))), spelt([(3, b""), (2, b"")]), asked
-    for twice in ([(0, b"a"), (0, b"a")], [(1, b"a"), (0, b"b"), (1, b"")], [(0, b""), (0, b""), (1, b""), (1, b"")], [(2, b"a"), (2, b"a")], [(7, b""), (7, b"")]):
+    unknown, empty = spelt([(0x10, b"x"), (0xFF, b"y"), (0x0F, b"z")]), spelt([(2, b""), (2, b"a"), (2, b"")])
+    yield "W204-3 unknown tags", simple(metadata(unknown)), spelt([(0x10, b"w")]), asked
+    yield "W204-4 empty texts", simple(metadata(empty)), spelt([(3, b""), (2, b"")]), asked
+    for twice in ([(0, b"a"), (0, b"a")], [(1, b"a"), (0, b"b"), (1, b"")], [(0, b""), (0, b""), (1, b""), (1, b"")],
+                  [(2, b"a"), (2, b"a")], [(7, b""), (7, b"")]):
         yield "W204-10 given twice in a block", simple(metadata(spelt(twice))), b"", asked
-        yield "W204-10 given twice in two blocks", simple(metadata(spelt(twice[:1])), metadata(spelt(twice[1:]))), b"", asked
+        two = simple(metadata(spelt(twice[:1])), metadata(spelt(twice[1:])))
+        yield "W204-10 given twice in two blocks", two, b"", asked
         yield "W204-10 given twice in the label", simple(), spelt(twice), asked
         yield "W204-10 once in each", simple(metadata(spelt(twice[:1]))), spelt(twice[:1]), asked
     for size in range(len(one) + 1):
         yield f"W204-17 a label's first {size} bytes", image, one[:size], asked_all(1)
     for size in (65_535, 65_536, 70_000):
-        yield f"W204-18 a label of {size} bytes and one text", image, label_of(size - 5) + spelt([(2, b"end")]), asked_all(1)
+        long = label_of(size - 5) + spelt([(2, b"end")])
+        yield f"W204-18 a label of {size} bytes", image, long, asked_all(1)
     yield "W204-15 a load's refusal before the label's", simple(metadata(b"\x00")), b"\x00", asked_all(1)
     yield "W204-15 1 before the label's", b"", b"\x00", asked_all(1)
     yield "W204-15 10 before the label's", simple(metadata(good), bits=1 << 32), b"\x00", asked_all(1)
     yield "W204-15 13 by the size", simple(metadata(good), bits=jlp_flags(2, 683)), one, asked_all(1)
     yield "W204-15 a size that 13 lets through", simple(metadata(good), bits=jlp_flags(2, 682)), one, asked_all(1)
-    yield "W204-15 the last word of the RAM", simple(hunk_block(0x7FFFF, hunk.block_16([1])), metadata(good)), one, asked_all(1)
+    last = hunk_block(0x7FFFF, hunk.block_16([1]))
+    yield "W204-15 the last word of the RAM", simple(last, metadata(good)), one, asked_all(1)
     yield "W204-15 past the RAM", simple(hunk_block(0x7FFFF, hunk.block_16([1, 2])), metadata(good)), one, asked_all(1)
 
 
@@ -119,7 +129,7 @@ def names_cases(g: Generator) -> Iterator[Case]:
 
 
 def dates_cases(g: Generator) -> Iterator[Case]:
-    """Give short, whole and long forms, and values outside 001's ranges (001, Date Released; READINGS W204-5 to W204-7)."""
+    """Give short, whole and long forms, and values outside 001's ranges (READINGS W204-5 to W204-7)."""
     whole = bytes([119, 7, 6, 23, 59, 60, 0xFE, 30])
     for size in range(9):
         yield (f"W204-5 {size} bytes", *dates_record(whole[:size]))
@@ -145,4 +155,5 @@ def label_cases(g: Generator) -> Iterator[Case]:
         yield (f"W204-2 the first {size} bytes", *label_record(good[:size], (g.pick([8 + size, 7 + size, 100]), 13)))
     for _ in range(60):
         data = random_records(g, 6)
-        yield ("random", *label_record(data[:-1] if g.one_in(5) else data, (max(8 + len(data) + g.pick([-1, 0, 1, -8]), 0), 13)))
+        yield ("random", *label_record(data[:-1] if g.one_in(5) else data,
+                                       (max(8 + len(data) + g.pick([-1, 0, 1, -8]), 0), 13)))

@@ -17,7 +17,8 @@ def bad_hunks() -> dict[str, DraftBlock]:
     """Give type 2 blocks that 6 or 9 would refuse (02, W-208)."""
     word = hunk.block_16([7])
     return {
-        "6": DraftBlock(2, bytes(3) + word, spoil_payload=1), "9 cut": DraftBlock(2, b"\x00"), "9 reserved": hunk_block(0, word + b"\xFE"),
+        "6": DraftBlock(2, bytes(3) + word, spoil_payload=1), "9 cut": DraftBlock(2, b"\x00"),
+        "9 reserved": hunk_block(0, word + b"\xFE"),
         "9 outside": hunk_block(0x7FFFF, hunk.block_16([1, 2])), "6 and 9": DraftBlock(2, b"", spoil_payload=9),
         "9 far": hunk_block(0xFFFFFF, word), "9 at 80000": hunk_block(0x80000, word),
     }
@@ -40,14 +41,19 @@ def edges() -> Iterator[tuple[str, bytes]]:
         yield f"W208-2 {label}, then 7", simple(bad, DraftBlock(0, b""))
         yield f"W208-2 {label}, then 12", simple(bad, metadata(b"\x00"))
         yield f"W208-5 {label}, then none of 8", Draft([bad]).encoded()
-    for label, stop in (("header cut", b"\x02"), ("7 bytes", word.encoded()[:7]), ("wrong header", DraftBlock(2, b"", 0, 1).encoded()),
-                        ("past the end", DraftBlock(2, b"", 1).encoded()), ("type 0 cut", b"\x00"), ("bad type 0", DraftBlock(0, b"", 0, 1).encoded())):
+    for label, stop in (("header cut", b"\x02"), ("7 bytes", word.encoded()[:7]),
+                        ("wrong header", DraftBlock(2, b"", 0, 1).encoded()),
+                        ("past the end", DraftBlock(2, b"", 1).encoded()), ("type 0 cut", b"\x00"),
+                        ("bad type 0", DraftBlock(0, b"", 0, 1).encoded())):
         yield f"W208-3 {label}", simple(word, tail=stop)
-        yield f"W208-3 {label}, then a refusal", simple(word, tail=stop + DraftBlock(0, b"").encoded() + metadata(b"\x00").encoded() + b"\xFF")
+        refusals = DraftBlock(0, b"").encoded() + metadata(b"\x00").encoded()
+        yield f"W208-3 {label}, then a refusal", simple(word, tail=stop + refusals + b"\xFF")
         yield f"W208-4 {label} before the tables", Draft([word], tail=stop + tables_block(Tables()).encoded()).encoded()
         yield f"W208-4 {label} at once", Draft([], tail=stop + tables_block(Tables()).encoded()).encoded()
-    for label, block in (("6", DraftBlock(1, bytes(1280), spoil_payload=1)), ("8 size", DraftBlock(1, bytes(1279))), ("8 second", tables_block(Tables())),
-                         ("6 second", DraftBlock(1, bytes(1280), spoil_payload=1)), ("7", DraftBlock(0, b"x", spoil_payload=1)),
+    for label, block in (("6", DraftBlock(1, bytes(1280), spoil_payload=1)), ("8 size", DraftBlock(1, bytes(1279))),
+                         ("8 second", tables_block(Tables())),
+                         ("6 second", DraftBlock(1, bytes(1280), spoil_payload=1)),
+                         ("7", DraftBlock(0, b"x", spoil_payload=1)),
                          ("12 cut", metadata(b"\x01")), ("12 sum", metadata(b"", 1))):
         yield f"W208-2 {label} refuses", simple(word, block, last)
         yield f"W208-2 {label} refuses, tables later", Draft([block, tables_block(Tables())]).encoded()
@@ -60,7 +66,8 @@ def edges() -> Iterator[tuple[str, bytes]]:
     yield "W208-5 none of 8 before 10 and 13", Draft([word], flags=b"\xFF" * 16).encoded()
     for length in range(0, 34):
         yield f"1 {length} bytes", simple()[:length]
-    for fault in (dict(magic=b"LTo"), dict(version=0), dict(spoil_header=1), dict(reserved=b"\x01\x02\x03"), dict(uid=b"12345678")):
+    for fault in (dict(magic=b"LTo"), dict(version=0), dict(spoil_header=1), dict(reserved=b"\x01\x02\x03"),
+                  dict(uid=b"12345678")):
         yield f"2 to 4, or kept: {fault}", Draft([tables_block(Tables()), word], **fault).encoded()
 
 
@@ -69,7 +76,8 @@ def limit_edges() -> Iterator[tuple[str, bytes]]:
     steps = [DraftBlock(0x42, bytes(65_535))] * 31
     for size in (63_989, 63_990, 63_991):
         for tail in (b"", b"\xFF"):
-            yield f"W208-6 {size} bytes in the last block, tail {tail.hex()}", simple(*steps, DraftBlock(0x70, bytes(size)), tail=tail)
+            image = simple(*steps, DraftBlock(0x70, bytes(size)), tail=tail)
+            yield f"W208-6 {size} bytes in the last block, tail {tail.hex()}", image
     small = simple(hunk_block(1, hunk.block_16([7])))
     for length in (24_575, 24_576, 24_577, IMAGE_LIMIT, IMAGE_LIMIT + 1):
         yield f"W208-9 {length} bytes", small + bytes(length - len(small))

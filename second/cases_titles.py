@@ -78,7 +78,8 @@ def form_edges(g: Generator) -> Iterator[tuple[str, Title]]:
             data[2 * place:2 * place + 2] = word.to_bytes(2, "big")
             yield f"W207-1 word {word:#06x} at {place}", Title(1024, 0, [], cfg, 0, bytes(data))
     for base in (0, 1, 3, 4, 0xFF):
-        yield f"W207-1 all words {base:02X}{base:02X}", Title(1024, 0, [], cfg + b"[memattr]\n$7000-$70FF=RAM 8\n", base)
+        with_ram = cfg + b"[memattr]\n$7000-$70FF=RAM 8\n"
+        yield f"W207-1 all words {base:02X}{base:02X}", Title(1024, 0, [], with_ram, base)
     for _ in range(40):
         words = random_forms(g, 0)[0][1] + random_forms(g, 0)[0][1]
         data = b"".join(word.to_bytes(2, "big") for word in words)

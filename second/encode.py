@@ -174,7 +174,8 @@ def spoil(g: Generator, draft: Draft, words_lent: int) -> None:
     elif fault == 9:
         draft.blocks.insert(g.between(0, len(draft.blocks)), bad_hunk(g, words_lent))
     elif fault == 12:
-        payload, wrong = g.pick([(b"\x00", 0), (b"\x02\x05abcd", 0), (b"\x02\x01a", 1), (b"\x00\x00\x0F", 0), (b"", 1), (b"\x01", 7)])
+        payload, wrong = g.pick([(b"\x00", 0), (b"\x02\x05abcd", 0), (b"\x02\x01a", 1), (b"\x00\x00\x0F", 0), (b"", 1),
+                                 (b"\x01", 7)])
         draft.blocks.insert(g.below(len(draft.blocks) + 1), DraftBlock(METADATA, payload, spoil_payload=wrong))
     else:
         ask_unsupported(g, draft)

@@ -94,7 +94,8 @@ def build_record(title: Title, buffer: Filled) -> Answered:
     """Build a title with its label (README.md, build)."""
     out = bytearray(fill_bytes(buffer[0], 0, buffer[1]))
     answer = build(title.bin_file(), title.cfg, out, title.label)
-    record = Record().fill(title.bin_file(), title.bin_base, title.bin_seed).fill(title.cfg, 0x20).fill(title.label).number(4, *buffer)
+    record = Record().fill(title.bin_file(), title.bin_base, title.bin_seed).fill(title.cfg, 0x20)
+    record.fill(title.label).number(4, *buffer)
     record.number(1, answer.number).number(4, answer.place, answer.length, answer.needed, digest(out))
     return answer.number, record.finished()
 
@@ -137,7 +138,8 @@ def salvage_record(image: bytes, buffer: Filled) -> Answered:
     answer, text = salvage(image, out), program(image)[0]
     stopped = 0 if answer.number else 0xFFFFFFFF if answer.stopped is None else answer.stopped
     record = Record().fill(image).number(4, *buffer).number(1, answer.number)
-    record.number(4, answer.place, answer.length, answer.kept, len(answer.dropped), stopped, *answer.dropped, digest(out))
+    record.number(4, answer.place, answer.length, answer.kept, len(answer.dropped), stopped, *answer.dropped,
+                  digest(out))
     return answer.number, record.number(2, len(text)).raw(text.encode()).finished()
 
 

@@ -1,4 +1,4 @@
-"""Metadata: sub-records of tag, length and text, in blocks of type 0x03 and in a label file (02, W-204; 001, Program Metadata)."""
+"""Names, credits and dates, in blocks of type 0x03 and in a label file (02, W-204; 001, Program Metadata)."""
 
 from dataclasses import dataclass
 from typing import Optional

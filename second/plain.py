@@ -38,7 +38,7 @@ class PlainCartridge:
     def write(self, address: int, value: int) -> int:
         """Take a page number, and store in RAM whatever is written there (01, The plain cartridge).
 
-        Give how many mapping entries the image's machine assigns: the flippable paragraphs of a chapter with PAGE lines (02, W-212)."""
+        Give how many mapping entries the built machine assigns: those of a chapter with PAGE lines (02, W-212)."""
         chapter, assigned = address >> 12, 0
         if f"{address:04X}"[1:] == "FFF" and f"{value:04X}"[:3] == f"{address >> 12:X}A5":
             self.pages[chapter] = value % 16

@@ -6,7 +6,8 @@ from pathlib import Path
 from typing import Optional
 
 from card import CARD_LIMIT
-from load import (BLOCK_HEADER, DATA_HUNK, ENDED, HEADER, IMAGE_LIMIT, LOCUTUS_WORDS, TABLES, blocks_of, check_features, check_header,
+from load import (BLOCK_HEADER, DATA_HUNK, ENDED, HEADER, IMAGE_LIMIT, LOCUTUS_WORDS, TABLES, blocks_of, check_features,
+                  check_header,
                   check_payload, decode_hunk)
 from refusal import Refused
 from tables import TABLES_SIZE, read_tables

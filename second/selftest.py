@@ -12,7 +12,7 @@ from bus import run_list
 from card import card
 from cases_back import random_image as image_to_undo
 from cases_bus import spelt as listed
-from cases_images import random_forms, simple
+from cases_images import EXAMPLE, random_forms, simple
 from cases_jlp import CORNERS, CRC_TABLE
 from cases_metadata import metadata
 from cases_salvage import random_damage
@@ -39,8 +39,6 @@ VECTORS = [
     (bytes(8), 0x00, 0x00000000, 0x6522DF69),
     (b"\xFF" * 8, 0x84, 0xC44FF94D, 0x2144DF1C),
 ]
-EXAMPLE = """46 92 40 00 40 40 60 01 B8 5F 7A 41 80 40 FF 7F 44 12 04 54 42 BC 40 80 41 80 B9 4F 1F
- 50 10 04 54 46 02 66 C0 40 2E 40 44 02 04 54 30 04 01 04 54 51 A8 56 45 1C 04 50 66 00 80 20 09 00"""
 EXAMPLE_WORDS = """0240 0100 0040 0240 0101 02B8 7A5F 0240 7FFF 0004 0154 0042 02BC 8040 02B9 1F4F 0004 0154
  0046 0002 01C0 0240 012E 0240 0102 0004 0154 0030 0001 0004 0154 0051 56A8 0004 0150 0366 0000 0220 0009"""
 
@@ -60,7 +58,7 @@ def check_sums() -> Iterator[Check]:
 
 def check_hunks() -> Iterator[Check]:
     """Decode and encode 001's example (001, Encoded Example; READINGS S1)."""
-    packed = bytes.fromhex(EXAMPLE)
+    packed = EXAMPLE
     words = [int(word, 16) for word in EXAMPLE_WORDS.split()]
     yield "example decoded", hunk.decode(b"\x01\x02\x03" + packed) == (0x030201, words)
     cuts = [7, 9, 14, 16, 33, 39]
@@ -157,8 +155,9 @@ def check_switches(g: Generator, rounds: int) -> Iterator[Check]:
                 yield "001's pseudo-code", (one.mapping, one.permissions) == (other.mapping, other.permissions)
                 yield "a write that acts stores nothing", not acted or ram == before
                 moved = [p for p in range(256) if (mapping[p], permissions[p]) != (one.mapping[p], one.permissions[p])]
-                inside = range(address >> 12 << 4, (address >> 12 << 4) + 16) if half_page is None else range(8 * half_page, 8 * half_page + 8)
-                yield "entries assigned", assigned == (len([p for p in inside if address >> 12 != 4 or p & 8]) if acted else 0)
+                first, size = (address >> 12 << 4, 16) if half_page is None else (8 * half_page, 8)
+                inside = [p for p in range(first, first + size) if address >> 12 != 4 or p & 8]
+                yield "entries assigned", assigned == (len(inside) if acted else 0)
                 yield "readable is the count", one.readable == len([p for p in one.permissions if p % 2 == 1])
                 yield "others stay", set(moved) <= set(inside if acted else [])
                 if acted and half_page is not None:
@@ -182,8 +181,9 @@ def check_jlp(g: Generator, rounds: int) -> Iterator[Check]:
     for _ in range(rounds):
         crc, word = g.below(65536), g.below(65536)
         yield "CRC by 000's assembly", crc_step(crc, word) == crc_by_000(crc, word)
-        jlp, a, b = Jlp(b"\x00\x00\x01" + bytes(13)), g.pick([g.below(65536), g.pick(CORNERS)]), g.pick([g.below(65536), g.pick(CORNERS)])
-        sa, sb = int.from_bytes(a.to_bytes(2, "big"), "big", signed=True), int.from_bytes(b.to_bytes(2, "big"), "big", signed=True)
+        jlp = Jlp(b"\x00\x00\x01" + bytes(13))
+        a, b = (g.pick([g.below(65536), g.pick(CORNERS)]) for _ in range(2))
+        sa, sb = (int.from_bytes(word.to_bytes(2, "big"), "big", signed=True) for word in (a, b))
         for function, (x, y) in enumerate(((sa, sb), (sa, b), (a, sb), (a, b), (sa, sb), (a, b))):
             jlp.low, jlp.high = 0x1234, 0x5678
             for address, value in g.shuffled([(0x9F80 + 2 * function, a), (0x9F81 + 2 * function, b)]):
@@ -231,7 +231,8 @@ def check_flash(g: Generator, rounds: int) -> Iterator[Check]:
         rows, console = PlainRows(sectors, list(flash)), {a: ram[a + 0x8000] for a in range(0x8040, 0x9F80)}
         machine = Machine(Tables(), (3 << 16 | sectors << 22).to_bytes(16, "little"))
         for _ in range(40):
-            addr, row, command = g.pick([0x803F, 0x8040, 0x9F20, 0x9F21, g.below(65536), 0x8040 + g.below(7000)]), g.below(8 * sectors + 2), g.pick(list(commands))
+            addr = g.pick([0x803F, 0x8040, 0x9F20, 0x9F21, g.below(65536), 0x8040 + g.below(7000)])
+            row, command = g.below(8 * sectors + 2), g.pick(list(commands))
             for address, value in ((0x8025, addr), (0x8026, row), commands[command]):
                 machine.write(ram, flash, address, value)
             rows.run(command, row, addr, console)
@@ -267,7 +268,8 @@ def check_forms(g: Generator, rounds: int) -> Iterator[Check]:
 def check_metadata(g: Generator, rounds: int) -> Iterator[Check]:
     """Write records and read them back, cut them anywhere, and look texts up in plain lists (02, W-204)."""
     for _ in range(rounds):
-        parts = [[(g.pick([0, 1, 2, 2, 16]), bytes(g.below(256) for _ in range(g.below(5)))) for _ in range(g.below(6))] for _ in range(3)]
+        parts = [[(g.pick([0, 1, 2, 2, 16]), bytes(g.below(256) for _ in range(g.below(5))))
+                  for _ in range(g.below(6))] for _ in range(3)]
         label, blocks = spelt(parts[0]), [metadata(spelt(part)) for part in parts[1:]]
         image = simple(*blocks)
         records = image_records(image)
@@ -283,7 +285,8 @@ def check_metadata(g: Generator, rounds: int) -> Iterator[Check]:
             n = g.below(5)
             found = lookup(image, label, tag, n)
             wanted = dict(enumerate(others, 1)) | dict(enumerate(mine, 1))
-            shown = (label if found.source == 1 else image)[found.start:found.start + found.length] if found.source else None
+            file = {0: None, 1: label, 2: image}[found.source]
+            shown = None if file is None else file[found.start:found.start + found.length]
             yield "n-th text", shown == wanted.get(n)
             yield "the label's first", (found.source == 1) == (1 <= n <= len(mine))
         out = bytearray(8 + len(label))
@@ -312,7 +315,8 @@ def check_salvage(g: Generator, rounds: int) -> Iterator[Check]:
         after, ram_after = loads_in_full(out)
         yield "loads after", (after.number, after.blocks) == (0, answer.kept)
         if before.number == 0:
-            yield "the same before and after", (before, ram_before) == (after, ram_after) and not answer.dropped and answer.stopped is None
+            yield "the same before and after", (before, ram_before) == (after, ram_after)
+            yield "nothing is left out", not answer.dropped and answer.stopped is None
         again = bytearray(100_000)
         yield "a second salvage changes nothing", (salvage(out, again).length, again) == (answer.length, buffer)
         for place in answer.dropped:
@@ -344,7 +348,8 @@ def check_runs(g: Generator, rounds: int) -> Iterator[Check]:
         place = g.below(len(text))
         spoilt = text[:place] + bytes([text[place] ^ 1 << g.below(8)]) + text[place + 1:]
         grammar = b"((op=x|op=r addr=[0-9a-fA-F]{4}|op=w addr=[0-9a-fA-F]{4} value=[0-9a-fA-F]{4})(\r?\n|(?!\n)\\Z))*"
-        yield "33", (run_list(Machine(tables), [], [], spoilt, 0, 30).number == 33) == (re.fullmatch(grammar, spoilt) is None)
+        refused = run_list(Machine(tables), [], [], spoilt, 0, 30).number == 33
+        yield "33", refused == (re.fullmatch(grammar, spoilt) is None)
 
 
 def plan_by_rows(tables: Tables, named: set[int]) -> tuple[dict[int, str], set[tuple[int, int]]]:
@@ -375,8 +380,8 @@ def check_back(g: Generator, rounds: int) -> Iterator[Check]:
         loaded = load(image, [0] * 524_288, None)
         bin_buffer, cfg_buffer = bytearray(600_000), bytearray(16_384)
         answer = back(image, bin_buffer, cfg_buffer)
-        yield "a load's refusals first", not loaded.number or (answer.number, answer.place) == (loaded.number, loaded.place)
         if loaded.number:
+            yield "a load's refusals first", (answer.number, answer.place) == (loaded.number, loaded.place)
             continue
         named = named_words(image)
         kinds, pages = plan_by_rows(loaded.tables, {word // 256 for word in named})
@@ -391,7 +396,8 @@ def check_back(g: Generator, rounds: int) -> Iterator[Check]:
         entries = checked_entries(bin_file, cfg)
         yield "as many lines", len(entries) == starts + len(pages)
         again = make_image(bin_file, cfg, entries)
-        yield "the same tables and words", (load(again, [0] * 524_288).tables, named_words(again)) == (loaded.tables, named)
+        yield "the same tables", load(again, [0] * 524_288).tables == loaded.tables
+        yield "the same words", named_words(again) == named
         twice = [bytearray(600_000), bytearray(16_384)]
         back(again, *twice)
         yield "back again", twice == [bin_buffer, cfg_buffer]
@@ -441,7 +447,8 @@ def check_pages() -> Iterator[Check]:
     for count in (1, 61, 113, 114, 115, 116, 124, 125):
         text = plain + "".join(f"$0-$FFF=${5 + n // 16:X}000 PAGE {n % 16:X}\n" for n in range(count))
         answer = built(98_304, text)[0]
-        yield "words needed", (answer.number, answer.needed) == ((0, 4096 * (14 + count)) if 14 + count <= 128 else (20, 0))
+        expected = (0, 4096 * (14 + count)) if 14 + count <= 128 else (20, 0)
+        yield "words needed", (answer.number, answer.needed) == expected
 
 
 def check_titles(g: Generator, rounds: int) -> Iterator[Check]:
@@ -481,7 +488,9 @@ def main() -> None:
     """Run every check, and say how many there were (01, Bench cases)."""
     g, ran = Generator(2019), 0
     for checks in (check_sums(), check_hunks(), check_cases_1_to_5(), check_cases_6_to_8(),
-                   check_faults(g, 1000), check_forms(g, 1000), check_pages(), check_fields(), check_rows(), check_switches(g, 300), check_jlp(g, 2000), check_flash(g, 60), check_metadata(g, 200), check_salvage(g, 200), check_runs(g, 300), check_back(g, 200),
+                   check_faults(g, 1000), check_forms(g, 1000), check_pages(), check_fields(), check_rows(),
+                   check_switches(g, 300), check_jlp(g, 2000), check_flash(g, 60), check_metadata(g, 200),
+                   check_salvage(g, 200), check_runs(g, 300), check_back(g, 200),
                    check_titles(g, 200),
                    check_round_trips(g, 500)):
         for name, passed in checks:

@@ -15,7 +15,7 @@ Access = tuple[int, int, int]
 
 @dataclass
 class Title:
-    """A BIN by length, seed and base, the lines of a CFG, its text once spelt, the BIN's bytes if they differ, and a label."""
+    """A BIN by length, seed and base or by its bytes, the lines of a CFG, its text once spelt, and a label."""
 
     bin_length: int
     bin_seed: int
