@@ -1147,34 +1147,71 @@ an_answer_that_is_cut() {
 }
 
 # ---- the vectors
-families=$(sed -n '$s/.*, \([0-9]*\) of .*/\1/p' "$here/crates/vectors/stdout")
+# Two programs have the families between them, and each says in its last line what it ran.
+families_of() { sed -n '$s/.*, \([0-9]*\) of .*/\1/p' "$here/crates/$1/stdout"; }
+families=$(families_of vectors)
+desk_families=$(families_of vectors_desk)
+ran_all() { # LINE WORDS
+    sed -n 's/^all: [0-9]* cases, //p' said | sed -n "$1p" | grep -q "^$2\$" || differs "the lines are '$(grep '^all: ' said)'"
+}
+all_files() { # The files of both, in the folder data.
+    mkdir data
+    cp "$here"/crates/vectors/data/*.vec "$here"/crates/vectors_desk/data/*.vec data
+}
 all_vectors() {
     run "$luigi" vectors
     status_is 0
-    [ "$(sed -n '$p' said)" = "$(sed -n '$p' "$here/crates/vectors/stdout")" ] || differs "the last line is '$(sed -n '$p' said)'"
-    says " $families of $families files run\$"
+    cat "$here/crates/vectors/stdout" "$here/crates/vectors_desk/stdout" | cmp -s - said || differs "the lines are not those of crates/vectors/stdout and crates/vectors_desk/stdout"
+    ran_all 1 "0 differ, $families of $families files run"
+    ran_all 2 "0 differ, $desk_families of $desk_families files run"
+}
+all_vectors_in_one_folder() {
+    all_files
+    run "$luigi" vectors data
+    status_is 0
+    ran_all 1 "0 differ, $families of $families files run"
+    ran_all 2 "0 differ, $desk_families of $desk_families files run"
 }
 vectors_with_a_file_missing_or_empty() {
-    cp -R "$here/crates/vectors/data" data
+    all_files
     rm data/bus.vec
     : >data/load.vec
     run "$luigi" vectors data
     status_is 2
     one_sentence
-    sed -n '$p' said | grep -q "$((families - 2)) of $families files run; a file is missing, cannot be read or is empty" || differs "the last line is '$(sed -n '$p' said)'"
+    ran_all 1 "0 differ, $((families - 2)) of $families files run; a file is missing, cannot be read or is empty"
+    ran_all 2 "0 differ, $desk_families of $desk_families files run"
+}
+vectors_with_a_file_of_the_desk_missing() {
+    all_files
+    rm data/runs.vec
+    run "$luigi" vectors data
+    status_is 2
+    one_sentence
+    ran_all 1 "0 differ, $families of $families files run"
+    ran_all 2 "0 differ, $((desk_families - 1)) of $desk_families files run; a file is missing, cannot be read or is empty"
 }
 vectors_that_cannot_be_read() {
-    cp -R "$here/crates/vectors/data" data
+    all_files
     run faulty read:2:5 "$luigi" vectors data
     status_is 2
-    sed -n '$p' said | grep -q "$((families - 1)) of $families files run" || differs "the last line is '$(sed -n '$p' said)'"
+    ran_all 1 "0 differ, $((families - 1)) of $families files run; .*"
 }
 vectors_that_differ() {
-    cp -R "$here/crates/vectors/data" data
+    all_files
     printf '\377' | dd of=data/sums.vec bs=1 seek=40 conv=notrunc 2>/dev/null
     run "$luigi" vectors data
     status_is 1
-    says " [1-9][0-9]* differ, $families of $families files run\$"
+    ran_all 1 "[1-9][0-9]* differ, $families of $families files run"
+    ran_all 2 "0 differ, $desk_families of $desk_families files run"
+}
+vectors_of_the_desk_that_differ() {
+    all_files
+    printf '\377' | dd of=data/dates.vec bs=1 seek=8 conv=notrunc 2>/dev/null
+    run "$luigi" vectors data
+    status_is 1
+    ran_all 1 "0 differ, $families of $families files run"
+    ran_all 2 "[1-9][0-9]* differ, $desk_families of $desk_families files run"
 }
 
 # ---- the images that the cases are held against

@@ -1,28 +1,16 @@
 // A case of the image card: what it answers for an input, as the lines that it prints (01, Bench cases).
-use crate::digest::digest;
-use crate::fill::Taken;
-use crate::fill::fill_words;
-use crate::fill::put;
-use crate::fill::take_bytes;
-use crate::record::after;
-use crate::record::ends;
-use crate::record::front;
-use crate::record::get16;
-use crate::record::rest;
-use basics::both;
 use basics::least;
+use cases::digest::text_ends;
+use cases::fill::Taken;
+use cases::fill::fill_words;
+use cases::fill::put;
+use cases::fill::put_line;
+use cases::fill::take_bytes;
+use cases::record::front;
 use report::Report;
 
 // The card's RAM.
 const CARD_WORDS: usize = 16384;
-
-fn put_line(out: &mut [u8], at: usize, name: &[u8], value: usize) -> usize {
-    let mut digits = [0u8; 20];
-    let k = io::decimal(value as u64, &mut digits);
-    let p = put(out, at, name);
-    let q = put(out, p, &digits[..k]);
-    put(out, q, b"\n")
-}
 
 // The card's text; answers its length.
 fn put_card(out: &mut [u8], r: Report) -> usize {
@@ -57,8 +45,5 @@ pub fn card_agrees(
     ram: &mut [u16],
 ) -> bool {
     let c = take_card(rec, input, text, ram);
-    let at = after(c.next, 2);
-    let same = digest(ieee, front(text, c.n)) == digest(ieee, rest(rec, at));
-    let count = c.n == get16(rec, c.next);
-    both(same, both(count, ends(rec, at, c.n)))
+    text_ends(rec, c.next, ieee, front(text, c.n))
 }

@@ -1,13 +1,13 @@
 // The three checksums: 001's own twelve vectors, and a case of the family sums.
-use crate::fill::take_bytes;
-use crate::record::ends;
-use crate::record::front;
-use crate::record::has8;
-use crate::record::has32;
-use crate::tally::Tally;
-use crate::tally::counted;
-use crate::tally::nothing;
 use basics::both;
+use cases::fill::take_bytes;
+use cases::record::ends;
+use cases::record::front;
+use cases::record::has8;
+use cases::record::has32;
+use cases::tally::Tally;
+use cases::tally::counted;
+use cases::tally::nothing;
 
 fn three(t: Tally, s: &[u8], dow: u8, c324: u32, ieee: u32) -> Tally {
     let a = counted(t, sums::dowcrc(s) == dow);

@@ -1,21 +1,22 @@
 // A case of the families load, machine and jlp: an image loaded, and accesses on what was loaded.
-use crate::digest::digest_tables;
-use crate::digest::digest_words;
-use crate::fill::take_bytes;
-use crate::fill::take_packed;
-use crate::fill::take_words;
 use crate::play::play_in;
-use crate::record::after;
-use crate::record::ends;
-use crate::record::front;
-use crate::record::front_words;
-use crate::record::get16;
-use crate::record::get32;
-use crate::record::has8;
-use crate::record::has32;
 use basics::both;
-use basics::least;
 use cart::Cartridge;
+use cases::digest::digest_tables;
+use cases::fill::take_bytes;
+use cases::fill::take_packed;
+use cases::fill::take_words;
+use cases::record::after;
+use cases::record::ends;
+use cases::record::front_words;
+use cases::record::get16;
+use cases::record::get32;
+use cases::record::has8;
+use cases::record::has32;
+use cases::state::load_in;
+use cases::state::same_active;
+use cases::state::same_end;
+use cases::state::same_words;
 use header::Compat;
 use load::Loading;
 
@@ -52,40 +53,12 @@ fn same_tables(want: usize, ieee: &[u32; 2048], c: Cartridge, scratch: &mut [u8]
     both(initial == want, same_active(want, ieee, c, scratch))
 }
 
-fn same_active(want: usize, ieee: &[u32; 2048], c: Cartridge, scratch: &mut [u8]) -> bool {
-    digest_tables(ieee, &c.mapping, &c.permissions, &c.flips, scratch) == want
-}
-
 // How many paragraphs can be read, k bytes on; with it the record ends.
 pub fn readable_ends(rec: &[u8], at: usize, k: usize, c: Cartridge) -> bool {
     both(
         get16(rec, after(at, k)) == c.readable as usize,
         ends(rec, after(at, k), 2),
     )
-}
-
-// The first n words of a RAM or a flash.
-pub fn same_words(
-    want: usize,
-    ieee: &[u32; 2048],
-    words: &[u16],
-    n: usize,
-    scratch: &mut [u8],
-) -> bool {
-    digest_words(ieee, front_words(words, n), scratch) == want
-}
-
-// A load from the first bytes of an image into the first words of a RAM, with the first k words of a flash.
-fn load_in(
-    image: &[u8],
-    n: usize,
-    ram: &mut [u16],
-    words: usize,
-    flash: &[u16],
-    k: usize,
-) -> Loading {
-    let w = least(words, ram.len());
-    load::load(front(image, n), &mut ram[0..w], front_words(flash, k))
 }
 
 // A load's answer, how many words of RAM it was lent, and the place of the record's next field.
@@ -230,31 +203,8 @@ fn run_machine(
     run_lent(rec, k, image, n, ram, flash)
 }
 
-// The readable paragraphs, and whether the accelerators are on; with these the record ends.
-fn state_ends(rec: &[u8], at: usize, k: usize, c: Cartridge) -> bool {
-    let j = c.jlp;
-    let on = has8(rec, at, after(k, 2), if j.on { 1 } else { 0 });
-    let readable = get16(rec, after(at, k)) == c.readable as usize;
-    both(both(readable, on), ends(rec, after(at, k), 3))
-}
-
-// All words of the RAM, and of the flash.
-fn same_stores(
-    rec: &[u8],
-    at: usize,
-    ieee: &[u32; 2048],
-    r: Ran,
-    ram: &[u16],
-    flash: &[u16],
-    scratch: &mut [u8],
-) -> bool {
-    let stored = same_words(get32(rec, at), ieee, ram, r.ram, scratch);
-    let kept = same_words(get32(rec, after(at, 4)), ieee, flash, r.flash, scratch);
-    both(stored, kept)
-}
-
-// What the accesses leave: the active tables, the RAM, the flash, the readable paragraphs, and the accelerators.
-fn same_end(
+// What the accesses leave.
+fn same_left(
     rec: &[u8],
     ieee: &[u32; 2048],
     r: Ran,
@@ -262,10 +212,15 @@ fn same_end(
     flash: &[u16],
     scratch: &mut [u8],
 ) -> bool {
-    let at = r.next;
-    let tables = same_active(get32(rec, at), ieee, r.cartridge, scratch);
-    let stored = same_stores(rec, after(at, 4), ieee, r, ram, flash, scratch);
-    both(tables, both(stored, state_ends(rec, at, 12, r.cartridge)))
+    same_end(
+        rec,
+        r.next,
+        ieee,
+        r.cartridge,
+        front_words(ram, r.ram),
+        front_words(flash, r.flash),
+        scratch,
+    )
 }
 
 // Accesses after a load: each answer, and what they leave.
@@ -279,5 +234,5 @@ pub fn machine_agrees(
 ) -> bool {
     let f = take_bytes(rec, 4, image);
     let r = run_machine(rec, f.next, image, f.n, scratch, ram, flash);
-    both(r.good, same_end(rec, ieee, r, ram, flash, scratch))
+    both(r.good, same_left(rec, ieee, r, ram, flash, scratch))
 }

@@ -1,20 +1,19 @@
 // Runs 001's vectors, and the vector files that the independent second program makes (second/README.md), and compares:
 // a line for each family, and the first case that differs; the last line says whether every file was there and had cases.
-ghost use Prim.Native.Nat.{_≤_, _<_};
 ghost use mathlib.Core.Path.{_≡_};
 ghost use lib.ListN.{length};
-use crate::record::front;
-use crate::tally::Tally;
+use cases::file;
+use cases::fill::put;
+use cases::record::end_of;
+use cases::record::front;
+use cases::rooms;
+use cases::tally;
+use cases::tally::Tally;
 
 mod card;
 mod checksums;
-mod digest;
-mod fill;
 mod loads;
-mod names;
 mod play;
-mod record;
-mod tally;
 mod titles;
 mod writes;
 
@@ -28,30 +27,15 @@ pub enum Family {
     Cfg,
     Build,
     Bus,
-    Names,
-    Dates,
-    Label,
 }
 
-const FAMILIES: usize = 12;
+const FAMILIES: usize = 9;
 
-// Room for any family's file, buffer or built image, for any image, any label, and any RAM or flash.
+// Room for any buffer or built image, and for any RAM or flash.
 fn buffer_room() -> [u8; 1200000]
     ensures { λ r. ⌜ 1200000 ≡ length r ⌝ }
 {
     [0; 1200000]
-}
-
-fn image_room() -> [u8; 2097176]
-    ensures { λ r. ⌜ 2097176 ≡ length r ⌝ }
-{
-    [0; 2097176]
-}
-
-fn label_room() -> [u8; 70016]
-    ensures { λ r. ⌜ 70016 ≡ length r ⌝ }
-{
-    [0; 70016]
 }
 
 fn word_room() -> [u16; 524545]
@@ -82,22 +66,7 @@ fn agrees(
         Family::Cfg => titles::build_agrees(rec, ieee, a, cfg, label, b),
         Family::Build => titles::build_agrees(rec, ieee, a, cfg, label, b),
         Family::Bus => titles::bus_agrees(rec, ieee, a, cfg, b, ram),
-        Family::Names => names::names_agree(rec, ieee, a, label),
-        Family::Dates => names::date_agrees(rec),
-        Family::Label => names::label_agrees(rec, ieee, label, b),
     }
-}
-
-// Where the record at `at` ends; the file's end, where it is cut.
-fn end_of(file: &[u8], at: usize) -> usize
-    requires { ⌜ at < length (now file) ⌝ }
-    ensures { λ r. ⌜ (at < r) × (r ≤ length (now (file .entry))) ⌝ }
-{
-    let n = 4 + record::get32(file, at);
-    if file.len() - at < n {
-        return file.len();
-    }
-    at + n
 }
 
 fn run(
@@ -127,18 +96,15 @@ fn run(
 // The family's name; answers its length.
 fn put_name(family: Family, out: &mut [u8]) -> usize {
     match family {
-        Family::Sums => fill::put(out, 0, b"sums"),
-        Family::Load => fill::put(out, 0, b"load"),
-        Family::Card => fill::put(out, 0, b"card"),
-        Family::Machine => fill::put(out, 0, b"machine"),
-        Family::Jlp => fill::put(out, 0, b"jlp"),
-        Family::Write => fill::put(out, 0, b"write"),
-        Family::Cfg => fill::put(out, 0, b"cfg"),
-        Family::Build => fill::put(out, 0, b"build"),
-        Family::Bus => fill::put(out, 0, b"bus"),
-        Family::Names => fill::put(out, 0, b"names"),
-        Family::Dates => fill::put(out, 0, b"dates"),
-        Family::Label => fill::put(out, 0, b"label"),
+        Family::Sums => put(out, 0, b"sums"),
+        Family::Load => put(out, 0, b"load"),
+        Family::Card => put(out, 0, b"card"),
+        Family::Machine => put(out, 0, b"machine"),
+        Family::Jlp => put(out, 0, b"jlp"),
+        Family::Write => put(out, 0, b"write"),
+        Family::Cfg => put(out, 0, b"cfg"),
+        Family::Build => put(out, 0, b"build"),
+        Family::Bus => put(out, 0, b"bus"),
     }
 }
 
@@ -174,17 +140,15 @@ fn run_file(
 ) -> Tally {
     let mut name = [0u8; 16];
     let k = put_name(family, &mut name);
-    let end = fill::put(&mut name, k, b".vec");
-    let r = files::read_file(front(&name, end), file);
-    let n = r.n;
-    if basics::either(files::stops(r.stop), n == file.len()) {
+    let r = file::read_family(&mut name, k, file);
+    if !r.whole {
         tally::not_run(front(&name, k));
         return tally::nothing();
     }
     run_records(
         family,
         front(&name, k),
-        front(file, n),
+        front(file, r.n),
         ieee,
         a,
         b,
@@ -205,10 +169,7 @@ fn family_of(k: usize) -> Family {
         5 => Family::Write,
         6 => Family::Cfg,
         7 => Family::Build,
-        8 => Family::Bus,
-        9 => Family::Names,
-        10 => Family::Dates,
-        _ => Family::Label,
+        _ => Family::Bus,
     }
 }
 
@@ -237,11 +198,11 @@ fn run_files(
 }
 
 fn main() {
-    let mut file = buffer_room();
-    let mut a = image_room();
+    let mut file = rooms::file_room();
+    let mut a = rooms::image_room();
     let mut b = buffer_room();
     let mut cfg = [0u8; 20480];
-    let mut label = label_room();
+    let mut label = rooms::label_room();
     let mut ram = word_room();
     let mut flash = word_room();
     let first = checksums::vectors();

@@ -1,18 +1,18 @@
 // A case of each family on titles: a BIN, a CFG and a label built, and a built image played beside the plain cartridge.
-use crate::digest::digest;
-use crate::fill::take_buffer;
-use crate::fill::take_bytes;
 use crate::loads::readable_ends;
 use crate::loads::run_title;
-use crate::loads::same_words;
-use crate::record::ends;
-use crate::record::front;
-use crate::record::get32;
-use crate::record::has8;
-use crate::record::has32;
 use basics::both;
 use basics::least;
 use build::Building;
+use cases::digest::digest;
+use cases::fill::take_buffer;
+use cases::fill::take_bytes;
+use cases::record::ends;
+use cases::record::front;
+use cases::record::get32;
+use cases::record::has8;
+use cases::record::has32;
+use cases::state::same_words;
 
 // How many bytes the BIN and the CFG have, and the place of the record's next field.
 struct Title {

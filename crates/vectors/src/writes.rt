@@ -1,18 +1,18 @@
 // A case of the family write: an image of marked paragraphs written into a buffer.
-use crate::digest::digest;
-use crate::fill::lay;
-use crate::fill::take_buffer;
-use crate::fill::take_bytes;
-use crate::fill::take_laid;
-use crate::record::ends;
-use crate::record::front;
-use crate::record::front_words;
-use crate::record::get8;
-use crate::record::has8;
-use crate::record::has32;
 use basics::both;
 use basics::least;
 use cart::Cartridge;
+use cases::digest::digest;
+use cases::fill::lay;
+use cases::fill::take_buffer;
+use cases::fill::take_bytes;
+use cases::fill::take_laid;
+use cases::record::ends;
+use cases::record::front;
+use cases::record::front_words;
+use cases::record::get8;
+use cases::record::has8;
+use cases::record::has32;
 use save::Writing;
 
 // Paragraph p is bit p mod 8 of byte p div 8.
