@@ -1214,6 +1214,61 @@ vectors_of_the_desk_that_differ() {
     ran_all 2 "[1-9][0-9]* differ, $desk_families of $desk_families files run"
 }
 
+# ---- lists of accesses
+a_list_of_accesses() {
+    run "$luigi" bus "$work/new" "$here/examples/four_in_one.bus"
+    status_is 0
+    cmp -s said "$here/examples/four_in_one.words" || differs "the words are not those of examples/four_in_one.words"
+}
+a_list_up_to_a_limit() {
+    run "$luigi" bus "$work/new" "$here/examples/four_in_one.bus" 4
+    status_is 0
+    sed 2q "$here/examples/four_in_one.words" >short
+    echo 'lines=4' >>short
+    cmp -s said short || differs "it says more or less than the first four lines"
+}
+a_list_with_a_malformed_line_past_the_limit() {
+    printf 'op=r addr=4800\nop=R addr=4800\n' >list
+    run "$luigi" bus "$work/new" list 1
+    status_is 1
+    says '^code=33$'
+    says '^at=2$'
+}
+a_list_that_is_empty() {
+    : >list
+    run "$luigi" bus "$work/new" list
+    status_is 0
+    says '^lines=0$'
+}
+a_list_as_long_as_may_be() {
+    yes 'op=r addr=0000' | head -c 4194300 >list
+    run "$luigi" bus "$work/new" list
+    status_is 0
+    says '^lines=279620$'
+    yes 'op=r addr=0000' | head -c 4194305 >list
+    run "$luigi" bus "$work/new" list
+    status_is 2
+    one_sentence
+    tells 'list is longer than 4,194,304 bytes'
+}
+a_list_that_is_missing() {
+    run "$luigi" bus "$work/new" nothing
+    status_is 2
+    one_sentence
+    tells 'nothing cannot be opened'
+}
+a_limit_that_is_no_number() {
+    run "$luigi" bus "$work/new" "$here/examples/four_in_one.bus" ten
+    status_is 2
+    one_sentence
+    tells 'ten is no limit on lines'
+}
+a_list_for_no_image() {
+    run "$luigi" bus title.cfg "$here/examples/four_in_one.bus"
+    status_is 1
+    says '^code=2$'
+}
+
 # ---- the images that the cases are held against
 cp examples/four_in_one.bin "$work/title.bin"
 cp examples/four_in_one.cfg "$work/title.cfg"

@@ -1,5 +1,5 @@
 // Runs the second program's vector files (second/README.md) of what the desk does with whole files, and compares: names, dates and
-// labels, salvage. It prints what `vectors` prints of the other families.
+// labels, salvage, lists of accesses. It prints what `vectors` prints of the other families.
 ghost use mathlib.Core.Path.{_≡_};
 ghost use lib.ListN.{length};
 use cases::file;
@@ -11,6 +11,7 @@ use cases::tally;
 use cases::tally::Tally;
 
 mod names;
+mod runs;
 mod salvages;
 
 pub enum Family {
@@ -18,9 +19,10 @@ pub enum Family {
     Dates,
     Label,
     Salvage,
+    Runs,
 }
 
-const FAMILIES: usize = 4;
+const FAMILIES: usize = 5;
 
 // Room for any buffer.
 fn buffer_room() -> [u8; 2097152]
@@ -43,6 +45,7 @@ fn agrees(
         Family::Dates => names::date_agrees(rec),
         Family::Label => names::label_agrees(rec, ieee, text, out),
         Family::Salvage => salvages::salvage_agrees(rec, ieee, image, out, text),
+        Family::Runs => runs::runs_agree(rec, ieee, image, out, text),
     }
 }
 
@@ -71,6 +74,7 @@ fn put_name(family: Family, out: &mut [u8]) -> usize {
         Family::Dates => put(out, 0, b"dates"),
         Family::Label => put(out, 0, b"label"),
         Family::Salvage => put(out, 0, b"salvage"),
+        Family::Runs => put(out, 0, b"runs"),
     }
 }
 
@@ -79,7 +83,8 @@ fn family_of(k: usize) -> Family {
         0 => Family::Names,
         1 => Family::Dates,
         2 => Family::Label,
-        _ => Family::Salvage,
+        3 => Family::Salvage,
+        _ => Family::Runs,
     }
 }
 
