@@ -24,7 +24,9 @@ pub use saying::say;
 pub use saying::stopped;
 pub use saying::stops;
 pub use sight::nobody;
+pub use writing::Stops;
 pub use writing::write_argument;
+pub use writing::write_arguments;
 pub use writing::write_file;
 
 // How many files a program may have read before it writes.

@@ -216,23 +216,35 @@ fn place(part: &[u8], name: &[u8]) -> Stop {
     s
 }
 
-// Writes a file whole. Whatever stops it, what stood there stays, whole.
-pub fn write_file(name: &[u8], bytes: &[u8], inputs: [Seen; INPUTS]) -> Stop {
+// Writes a part file whole, beside its target.
+fn write_part(name: &[u8], bytes: &[u8], inputs: [Seen; INPUTS], part: &mut [u8]) -> Made
+    ensures { λ r. ⌜ Counts (r .n) (now (part .exit)) ⌝ }
+{
     let old = sight::named_file(name);
     let s = forbidden(name, old, inputs);
     if stops(s) {
-        return s;
+        return unmade(s);
     }
-    let mut part = io::buffer();
-    let made = create_beside(name, &mut part);
+    let made = create_beside(name, part);
     let n = made.n;
     if stops(made.stop) {
-        return made.stop;
+        return made;
     }
     let filled = fill_and_close(made.fd, bytes, old);
     if stops(filled) {
         os::unlink(&part[..n]);
-        return filled;
+        return unmade(filled);
+    }
+    made
+}
+
+// Writes a file whole. Whatever stops it, what stood there stays, whole.
+pub fn write_file(name: &[u8], bytes: &[u8], inputs: [Seen; INPUTS]) -> Stop {
+    let mut part = io::buffer();
+    let made = write_part(name, bytes, inputs, &mut part);
+    let n = made.n;
+    if stops(made.stop) {
+        return made.stop;
     }
     place(&part[..n], name)
 }
@@ -245,4 +257,69 @@ pub fn write_argument(i: usize, bytes: &[u8], inputs: [Seen; INPUTS]) -> Stop {
         return stop(Why::Argument);
     }
     write_file(&name[..k], bytes, inputs)
+}
+
+// What stopped the first file of two, and the second.
+pub struct Stops {
+    pub first: Stop,
+    pub second: Stop,
+}
+
+fn stop_first(s: Stop) -> Stops {
+    Stops {
+        first: s,
+        second: go_on(),
+    }
+}
+
+fn stop_second(s: Stop) -> Stops {
+    Stops {
+        first: go_on(),
+        second: s,
+    }
+}
+
+// Moves two part files into place; where the first cannot be, the second is removed.
+fn place_both(a: &[u8], first: &[u8], b: &[u8], second: &[u8]) -> Stops {
+    let s = place(a, first);
+    if stops(s) {
+        os::unlink(b);
+        return stop_first(s);
+    }
+    stop_second(place(b, second))
+}
+
+// Two files, each moved into place when both are whole; the second may not be the first.
+fn write_files(first: &[u8], a: &[u8], second: &[u8], b: &[u8], input: Seen) -> Stops {
+    let mut part = io::buffer();
+    let mut other = io::buffer();
+    let none = sight::nobody();
+    let made = write_part(first, a, [input, none, none, none], &mut part);
+    let n = made.n;
+    if stops(made.stop) {
+        return stop_first(made.stop);
+    }
+    let old = sight::named_file(first);
+    let beside = write_part(second, b, [input, old, none, none], &mut other);
+    let m = beside.n;
+    if stops(beside.stop) {
+        os::unlink(&part[..n]);
+        return stop_second(beside.stop);
+    }
+    place_both(&part[..n], first, &other[..m], second)
+}
+
+// The files that arguments i and j name.
+pub fn write_arguments(i: usize, a: &[u8], j: usize, b: &[u8], input: Seen) -> Stops {
+    let mut first = io::buffer();
+    let mut second = io::buffer();
+    let k = os::arg(i, &mut first);
+    if os::errno() != 0 {
+        return stop_first(stop(Why::Argument));
+    }
+    let l = os::arg(j, &mut second);
+    if os::errno() != 0 {
+        return stop_second(stop(Why::Argument));
+    }
+    write_files(&first[..k], a, &second[..l], b, input)
 }

@@ -1,3 +1,4 @@
 -- Theorems over the definitions.
 pub mod Examples
 pub mod Grammar
+pub mod Print

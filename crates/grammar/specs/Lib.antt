@@ -1,4 +1,5 @@
 pub mod Words
 pub mod Grammar
+pub mod Print
 pub mod Code
 pub mod Laws

@@ -1,5 +1,5 @@
 // Runs the second program's vector files (second/README.md) of what the desk does with whole files, and compares: names, dates and
-// labels, salvage, lists of accesses. It prints what `vectors` prints of the other families.
+// labels, salvage, lists of accesses, back to BIN and CFG. It prints what `vectors` prints of the other families.
 ghost use mathlib.Core.Path.{_≡_};
 ghost use lib.ListN.{length};
 use cases::file;
@@ -10,6 +10,7 @@ use cases::rooms;
 use cases::tally;
 use cases::tally::Tally;
 
+mod back;
 mod names;
 mod runs;
 mod salvages;
@@ -20,9 +21,10 @@ pub enum Family {
     Label,
     Salvage,
     Runs,
+    Back,
 }
 
-const FAMILIES: usize = 5;
+const FAMILIES: usize = 6;
 
 // Room for any buffer.
 fn buffer_room() -> [u8; 2097152]
@@ -46,6 +48,7 @@ fn agrees(
         Family::Label => names::label_agrees(rec, ieee, text, out),
         Family::Salvage => salvages::salvage_agrees(rec, ieee, image, out, text),
         Family::Runs => runs::runs_agree(rec, ieee, image, out, text),
+        Family::Back => back::back_agrees(rec, ieee, image, out, text),
     }
 }
 
@@ -75,6 +78,7 @@ fn put_name(family: Family, out: &mut [u8]) -> usize {
         Family::Label => put(out, 0, b"label"),
         Family::Salvage => put(out, 0, b"salvage"),
         Family::Runs => put(out, 0, b"runs"),
+        Family::Back => put(out, 0, b"back"),
     }
 }
 
@@ -84,7 +88,8 @@ fn family_of(k: usize) -> Family {
         1 => Family::Dates,
         2 => Family::Label,
         3 => Family::Salvage,
-        _ => Family::Runs,
+        4 => Family::Runs,
+        _ => Family::Back,
     }
 }
 

@@ -12,7 +12,7 @@ pub record Starts (kind : ℕ → ℕ) (p : ℕ) : Type 0 where
   pub some : kind p ≡ 0 → ⊥
   pub edge : (p ≡ 0 → ⊥) → kind (p - 1) ≡ kind p → ⊥
 
-starts-is : (kind : ℕ → ℕ) (p : ℕ) → starts kind p ≡ true → Starts kind p
+pub starts-is : (kind : ℕ → ℕ) (p : ℕ) → starts kind p ≡ true → Starts kind p
 unfolding starts
 starts-is kind p e =
     record {

@@ -1,0 +1,1 @@
+// The plan behind an image: definitions and theorems; no code.

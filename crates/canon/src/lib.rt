@@ -1,0 +1,1 @@
+// The canonical lines of a plan, and their BIN: definitions and theorems; no code.

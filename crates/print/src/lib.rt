@@ -1,0 +1,252 @@
+// A CFG as it is written (02, W-213): the line of an entry.
+ghost use mathlib.Core.Path.{_≡_};
+ghost use Prim.Native.Nat.{_%_};
+ghost use Rattle.lines.specs.declared.Width.the-variants.{Sixteen, Eight};
+ghost use Rattle.grammar.specs.Grammar.{rom, paged, ram};
+ghost use Rattle.grammar.specs.Print.{upperDigit};
+ghost use Rattle.print.specs.Cfg.{entryLine};
+ghost use Rattle.print.specs.Code.Texts.{digitsOf, padded, textOf};
+use lines::Entry;
+use lines::Width;
+
+// The most bytes of a line, its end included, and one more.
+pub const TEXT_SIZE: usize = 32;
+
+// A line: so many bytes, and zeros behind them.
+pub struct Text {
+    pub bytes: [u8; TEXT_SIZE],
+    pub length: usize,
+}
+
+// The last five hex digits of a number, the highest first.
+pub struct Digits {
+    pub a: u8,
+    pub b: u8,
+    pub c: u8,
+    pub d: u8,
+    pub e: u8,
+}
+
+// Upper case.
+fn digit(n: u32) -> u8
+    ensures { λ r. ⌜ r ≡ upperDigit (n % 16) ⌝ }
+{
+    let d = (n % 16) as u8;
+    if d < 10 {
+        return b'0' + d;
+    }
+    b'A' + (d - 10)
+}
+
+fn hex_of(n: u32) -> Digits
+    ensures { λ r. ⌜ r ≡ digitsOf n ⌝ }
+{
+    Digits {
+        a: digit(n / 65536),
+        b: digit(n / 4096),
+        c: digit(n / 256),
+        d: digit(n / 16),
+        e: digit(n),
+    }
+}
+
+// `$lo - $hi = $addr`
+fn rom_text(lo: u32, hi: u32, at: u32) -> Text
+    ensures { λ r. ⌜ r ≡ padded (entryLine (rom lo hi at)) ⌝ }
+{
+    let l = hex_of(lo);
+    let h = hex_of(hi);
+    let a = hex_of(at);
+    let bytes = [
+        b'$',
+        l.a,
+        l.b,
+        l.c,
+        l.d,
+        l.e,
+        b' ',
+        b'-',
+        b' ',
+        b'$',
+        h.a,
+        h.b,
+        h.c,
+        h.d,
+        h.e,
+        b' ',
+        b'=',
+        b' ',
+        b'$',
+        a.b,
+        a.c,
+        a.d,
+        a.e,
+        b'\n',
+        0,
+        0,
+        0,
+        0,
+        0,
+        0,
+        0,
+        0,
+    ];
+    Text {
+        bytes: bytes,
+        length: 24,
+    }
+}
+
+// `$lo - $hi = $addr PAGE d`
+fn paged_text(lo: u32, hi: u32, at: u32, y: u32) -> Text
+    ensures { λ r. ⌜ r ≡ padded (entryLine (paged lo hi at (y % 16))) ⌝ }
+{
+    let l = hex_of(lo);
+    let h = hex_of(hi);
+    let a = hex_of(at);
+    let d = digit(y);
+    let bytes = [
+        b'$',
+        l.a,
+        l.b,
+        l.c,
+        l.d,
+        l.e,
+        b' ',
+        b'-',
+        b' ',
+        b'$',
+        h.a,
+        h.b,
+        h.c,
+        h.d,
+        h.e,
+        b' ',
+        b'=',
+        b' ',
+        b'$',
+        a.b,
+        a.c,
+        a.d,
+        a.e,
+        b' ',
+        b'P',
+        b'A',
+        b'G',
+        b'E',
+        b' ',
+        d,
+        b'\n',
+        0,
+    ];
+    Text {
+        bytes: bytes,
+        length: 31,
+    }
+}
+
+// `$lo - $hi = RAM 16`
+fn ram_16_text(lo: u32, hi: u32) -> Text
+    ensures { λ r. ⌜ r ≡ padded (entryLine (ram lo hi Sixteen)) ⌝ }
+{
+    let l = hex_of(lo);
+    let h = hex_of(hi);
+    let bytes = [
+        b'$',
+        l.b,
+        l.c,
+        l.d,
+        l.e,
+        b' ',
+        b'-',
+        b' ',
+        b'$',
+        h.b,
+        h.c,
+        h.d,
+        h.e,
+        b' ',
+        b'=',
+        b' ',
+        b'R',
+        b'A',
+        b'M',
+        b' ',
+        b'1',
+        b'6',
+        b'\n',
+        0,
+        0,
+        0,
+        0,
+        0,
+        0,
+        0,
+        0,
+        0,
+    ];
+    Text {
+        bytes: bytes,
+        length: 23,
+    }
+}
+
+// `$lo - $hi = RAM 8`
+fn ram_8_text(lo: u32, hi: u32) -> Text
+    ensures { λ r. ⌜ r ≡ padded (entryLine (ram lo hi Eight)) ⌝ }
+{
+    let l = hex_of(lo);
+    let h = hex_of(hi);
+    let bytes = [
+        b'$',
+        l.b,
+        l.c,
+        l.d,
+        l.e,
+        b' ',
+        b'-',
+        b' ',
+        b'$',
+        h.b,
+        h.c,
+        h.d,
+        h.e,
+        b' ',
+        b'=',
+        b' ',
+        b'R',
+        b'A',
+        b'M',
+        b' ',
+        b'8',
+        b'\n',
+        0,
+        0,
+        0,
+        0,
+        0,
+        0,
+        0,
+        0,
+        0,
+        0,
+    ];
+    Text {
+        bytes: bytes,
+        length: 22,
+    }
+}
+
+// The line of an entry; a page's number is one digit.
+pub fn text_of(e: Entry) -> Text
+    ensures { λ r. ⌜ r ≡ textOf e ⌝ }
+{
+    match e {
+        Entry::Rom(lo, hi, at) => rom_text(lo.0, hi.0, at.0 as u32),
+        Entry::Paged(lo, hi, at, y) => paged_text(lo.0, hi.0, at.0 as u32, y.0 as u32),
+        Entry::Ram(lo, hi, w) => match w {
+            Width::Sixteen => ram_16_text(lo.0 as u32, hi.0 as u32),
+            Width::Eight => ram_8_text(lo.0 as u32, hi.0 as u32),
+        },
+    }
+}

@@ -1,0 +1,42 @@
+-- `retrace::row::has_some` meets its contract. The loop's invariant: r says whether one of the first y entries is so.
+use borrow.Author.Needs.{needs}
+use Prim.Native.Nat.{_-_}
+use mathlib.Core.Bool.{not}
+use lib.Dec.{eqb}
+use Rattle.places.specs.Limits.{chapterPages}
+use Rattle.retrace.specs.Code.Shown.{rowIn}
+use Rattle.retrace.proofs.Rows.{Some, some-none, some-more, some-all}
+use Rattle.retrace.proofs.row.has_some.Statement.{statement}
+use Rattle.retrace.proofs.row.has_some.Tie as tie
+
+abbrev Inv-loop : tie.InvT-loop
+Inv-loop flips x r₀ y₀ r y = Some (λ i. not (eqb (rowIn flips x i) 0)) r y
+
+abbrev μ-loop : tie.MeasureT-loop
+μ-loop flips x r₀ y₀ r y = chapterPages - y
+
+loop-holds : tie.Need-loop-holds Inv-loop μ-loop
+loop-holds c = search (needs, some-none)
+
+loop-again : tie.Need-loop-again Inv-loop μ-loop
+loop-again c = search (needs, some-more)
+
+returns : tie.Need-returns Inv-loop μ-loop
+returns c = search (needs, some-all)
+
+pub has-some-spec : {M : Type 1} → statement M
+has-some-spec =
+    tie.close
+    (tie.spec
+    Inv-loop
+    μ-loop
+    loop-holds
+    (λ c. search needs)
+    (λ c. search needs)
+    (λ c. search needs)
+    (λ c. search needs)
+    (λ c κs. search needs)
+    (λ c. search needs)
+    (λ c. search needs)
+    loop-again
+    returns)

@@ -1,0 +1,3 @@
+-- The plan behind an image, in two arrays.
+pub mod Code
+pub mod Laws
