@@ -9,7 +9,7 @@ use lib.ListN.{length, drop}
 use borrow.Author.Tests.{lt-ltb}
 use Rattle.basics.specs.Lists.{part}
 use Rattle.basics.specs.Options.{isSome}
-use Rattle.text.specs.Lines.{linesOf, lineEnd, nextLine}
+use Rattle.text.specs.Lines.{linesOf, lineEnd, pastEnd, nextLine}
 use Rattle.text.specs.Laws.Lines.{line-at, no-lines, next-within}
 use Rattle.cart.specs.Run as Run
 use Rattle.accesses.specs.declared.Checked.the-variants.{Wrong, Good}
@@ -17,6 +17,7 @@ use Rattle.accesses.specs.declared.Says.{Says}
 use Rattle.accesses.specs.Line.{lineSays}
 use Rattle.accesses.specs.Accesses.{said, accessesIn, malformedFrom, malformedLine, readsIn, readsOf}
 use Rattle.accesses.specs.Laws.Accesses.{reads-append, malformed-here}
+use Rattle.accesses.proofs.Lines.{next-end}
 use Rattle.accesses.specs.Code.Steps.{says, isMalformed, readsSaid, checkedOf}
 
 -- a line, as the code answers it
@@ -69,9 +70,11 @@ module _ (list : List ℕ) (at lines reads : ℕ) (h : Checking list at lines re
         let z : lines + 1 ≡ malformedLine list = omega arith in
         rw (lt-ltb 0 (malformedLine list) (omega arith)) (ap Wrong z)
 
-    pub checking-more : (n next : ℕ) → b ≡ false → n ≡ readsSaid s → n ≤ 1 → next ≡ nextLine list at → Checking list next (lines + 1) (reads + n)
+    pub checking-more : (n end next : ℕ) → b ≡ false → n ≡ readsSaid s → n ≤ 1 → end ≡ lineEnd list at → next ≡ pastEnd list end
+        → Checking list next (lines + 1) (reads + n)
     unfolding malformedFrom accessesIn
-    checking-more n next t g k q =
+    checking-more n end next t g k i p =
+        let q = next-end list at end next i p in
         let line : List ℕ = part list at (lineEnd list at) in
         let rest : List (List ℕ) = linesOf (drop (nextLine list at) list) in
         let o : isSome (lineSays line) ≡ true = some-said (lineSays line) (ap isMalformed (sym e) ∙ sym f ∙ t) in
@@ -88,5 +91,5 @@ module _ (list : List ℕ) (at lines reads : ℕ) (h : Checking list at lines re
           fewer = omega (arith, h .fewer);
         })
 
-pub further : (s : List ℕ) (at next : ℕ) → at < length s → next ≡ nextLine s at → length s - next < length s - at
-further s at next l e = let w = next-within s at l in omega arith
+pub further : (s : List ℕ) (at end next : ℕ) → at < length s → end ≡ lineEnd s at → next ≡ pastEnd s end → length s - next < length s - at
+further s at end next l i p = let e = next-end s at end next i p in let w = next-within s at l in omega arith

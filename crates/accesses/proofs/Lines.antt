@@ -11,7 +11,7 @@ use Rattle.basics.specs.Lists.{part}
 use Rattle.basics.specs.Laws.Tests.{cases, not-true, not-false, true-is-not-false}
 use Rattle.places.specs.Places.{console}
 use Rattle.text.specs.Bytes.{text}
-use Rattle.text.specs.Lines.{lineEnd}
+use Rattle.text.specs.Lines.{lineEnd, pastEnd, nextLine}
 use Rattle.text.specs.Laws.Lines.{end-within}
 use Rattle.text.specs.Spelling.{same, digitOf}
 use Rattle.accesses.specs.declared.Number.{Number}
@@ -150,6 +150,9 @@ module _ (l : List ℕ) (n : length l ≡ 25) (b : Bool) (e : b ≡ same (part l
 -- the line that stands at a place
 pub said-at : (s : List ℕ) (at e : ℕ) (r : Says) → e ≡ lineEnd s at → r ≡ says (lineSays (part s at e)) → r ≡ says (lineSays (part s at (lineEnd s at)))
 said-at s at e r p q = q ∙ ap (λ (k : ℕ). says (lineSays (part s at k))) p
+
+pub next-end : (s : List ℕ) (at e n : ℕ) → e ≡ lineEnd s at → n ≡ pastEnd s e → n ≡ nextLine s at
+next-end s at e n p q = q ∙ ap (pastEnd s) p
 
 pub line-within : (s : List ℕ) (at e : ℕ) → e ≡ lineEnd s at → at ≤ length s → e ≤ length s
 line-within s at e p h = omega (arith, end-within s at h)

@@ -29,7 +29,8 @@ use Rattle.accesses.specs.declared.Says.{Says}
 use Rattle.accesses.specs.declared.Says.the-variants.{Malformed, Read, Write, Reset}
 use Rattle.accesses.specs.Line.{lineSays}
 use Rattle.accesses.specs.Accesses.{accessesIn, accessesOf, malformedFrom, readsIn, readsBy}
-use Rattle.accesses.specs.Runs.{heard, world}
+use Rattle.cart.specs.Reads.{heard}
+use Rattle.accesses.specs.Runs.{world}
 use Rattle.accesses.specs.Code.Steps.{says, tabled, stepped, answered, made, countOf, noted, Fits, Runnable, ranTo, answersTo}
 use Rattle.accesses.specs.Laws.Accesses.{accesses-one, malformed-one, first-good, some-of, reads-take}
 

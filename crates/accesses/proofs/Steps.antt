@@ -12,7 +12,7 @@ use Rattle.jlp.specs.Accelerators.{latches, writtenJlp, resetJlp}
 use Rattle.jlp.specs.Laws.Accelerators.{unlatched}
 use Rattle.cart.specs.declared.Answer.{Answer}
 use Rattle.cart.specs.Readable.{readableOf}
-use Rattle.cart.specs.Reads.{readBy}
+use Rattle.cart.specs.Reads.{heard, readBy}
 use Rattle.cart.specs.Writes.{leaves, leavesRam, leavesFlash, leavesReadable}
 use Rattle.cart.specs.Run.{World}
 use Rattle.accesses.specs.declared.Made.{Made}
@@ -20,7 +20,6 @@ use Rattle.accesses.specs.declared.Reply.{Reply}
 use Rattle.accesses.specs.declared.Reply.the-variants.{Nothing, Word}
 use Rattle.accesses.specs.declared.Says.{Says}
 use Rattle.accesses.specs.declared.Says.the-variants.{Malformed, Read, Write, Reset}
-use Rattle.accesses.specs.Runs.{heard}
 use Rattle.accesses.specs.Code.Steps.{tabled, stepped, made, countOf, noted, Fits}
 
 -- a write that goes to no register of the accelerators leaves them

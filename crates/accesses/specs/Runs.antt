@@ -9,20 +9,11 @@ use Rattle.basics.specs.declared.Refusal.{Refusal}
 use Rattle.basics.specs.Lists.{putFront}
 use Rattle.basics.specs.Rows.{Row}
 use Rattle.basics.specs.Refusals.{refuse, firstRefusal, passes}
-use Rattle.cart.specs.declared.Answer.{Answer}
-use Rattle.cart.specs.declared.Answer.the-variants.{Word, Silence}
 use Rattle.cart.specs.declared.Cartridge.{Cartridge}
+use Rattle.cart.specs.Reads.{heard}
 use Rattle.cart.specs.Run.{Access, World, after, answers}
 use Rattle.accesses.specs.declared.Ran.{Ran}
 use Rattle.accesses.specs.Accesses.{accessesOf, malformedLine, readsOf}
-
--- silence is marked by a number above every word
-abbrev pub silence : ℕ
-silence = 0x10000
-
-abbrev pub heard : Answer → ℕ
-heard (Word w) = w
-heard Silence = silence
 
 -- 33: a malformed line anywhere
 abbrev pub hasMalformed : List ℕ → Bool

@@ -11,18 +11,14 @@ ghost use Rattle.cart.specs.Run.{after};
 ghost use Rattle.text.specs.Lines.{lineEnd};
 ghost use Rattle.accesses.specs.Line.{digitAt, lineSays};
 ghost use Rattle.accesses.specs.Accesses.{accessesOf};
-ghost use Rattle.accesses.specs.Runs.{heard, world, left, ranOf, answersIn};
+ghost use Rattle.accesses.specs.Runs.{world, left, ranOf, answersIn};
 ghost use Rattle.accesses.specs.Code.Steps.{says, isMalformed, readsSaid, checkedOf, tabled, stepped, made, numberOf, writeBy, countOf, noted, Fits, Runnable, refusedWith, ranTo, answersTo};
 use basics::Refusal;
-use cart::Answer;
 use cart::Cartridge;
 use jlp::Jlp;
 use places::Console;
 use places::FLIP_ENTRIES;
 use places::PARAGRAPHS;
-
-// Silence among the answers: above every word.
-pub const SILENCE: u32 = 0x10000;
 
 // The lengths of the three lines, and the places of the address's digits, of ` value=` and of the value's digits.
 const RESET_LENGTH: usize = 4;
@@ -176,12 +172,11 @@ fn line_says(line: &[u8]) -> Says
     Says::Malformed
 }
 
-// What the line that stands at `at` says.
-fn says_at(list: &[u8], at: usize) -> Says
-    requires { ⌜ at ≤ length (now list) ⌝ }
+// What the line that stands at `at` and ends at `end` says.
+fn says_at(list: &[u8], at: usize, end: usize) -> Says
+    requires { ⌜ (at ≤ length (now list)) × (end ≡ lineEnd (now list) at) ⌝ }
     ensures { λ r. ⌜ r ≡ says (lineSays (part (now (list .entry)) at (lineEnd (now (list .entry)) at))) ⌝ }
 {
-    let end = text::line_end(list, at);
     line_says(&list[at..end])
 }
 
@@ -215,25 +210,16 @@ fn check_lines(list: &[u8]) -> Checked
     let mut lines = 0;
     let mut reads = 0;
     while at < list.len() {
-        let s = says_at(list, at);
+        let end = text::line_end(list, at);
+        let s = says_at(list, at, end);
         if is_malformed(s) {
             return Checked::Wrong(lines + 1);
         }
         reads += reads_said(s);
         lines += 1;
-        at = text::next_line(list, at);
+        at = text::past_end(list, end);
     }
     Checked::Good(lines, reads)
-}
-
-// An answer as one number.
-fn heard(a: Answer) -> u32
-    ensures { λ r. ⌜ r ≡ heard a ⌝ }
-{
-    match a {
-        Answer::Word(w) => w as u32,
-        Answer::Silence => SILENCE,
-    }
 }
 
 // What a write leaves of the accelerators; most go to no register of theirs.
@@ -275,7 +261,7 @@ fn make<'a>(
         },
         Says::Read(at) => Made {
             jlp: j,
-            reply: Reply::Word(heard(cart::read_by(mapping, permissions, j, ram, at))),
+            reply: Reply::Word(cart::heard(cart::read_by(mapping, permissions, j, ram, at))),
         },
         Says::Write(at, value) => {
             cart::write_by(
@@ -364,8 +350,9 @@ fn run_lines(
     let mut k = 0;
     while lines < n {
         lines += 1;
-        let s = says_at(list, at);
-        at = text::next_line(list, at);
+        let end = text::line_end(list, at);
+        let s = says_at(list, at, end);
+        at = text::past_end(list, end);
         let made = make(
             &c.initial_mapping,
             &c.initial_permissions,

@@ -117,7 +117,7 @@ fn glyph(n: u32) -> u8 {
 }
 
 fn show_answer(n: u32) {
-    if n == accesses::SILENCE {
+    if n == cart::SILENCE {
         files::say(b"word=silence\n");
         return;
     }

@@ -50,3 +50,11 @@ givenBy (Ram c) ram = fetched c ram
 
 unfoldable pub readBy : Jlp → Active → List ℕ → Console → Answer
 readBy j a ram at = givenBy (sourceOf j a at) ram
+
+-- an answer as one number: a word as it is, silence above every word
+abbrev pub silence : ℕ
+silence = 0x10000
+
+abbrev pub heard : Answer → ℕ
+heard (Word w) = w
+heard Silence = silence

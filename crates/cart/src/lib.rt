@@ -12,7 +12,7 @@ ghost use Rattle.cart.specs.declared.Taker.the-variants.{Ram};
 ghost use Rattle.cart.specs.Code.Takers.{bankedOnly, actingOnly};
 ghost use Rattle.cart.specs.Cells.{READ, locate, rightsOf, cellAt, windowCell};
 ghost use Rattle.cart.specs.Readable.{readableIn, readableOf, recounted};
-ghost use Rattle.cart.specs.Reads.{fetched, registerSource, windowSource, mappedSource, sourceOf, readBy};
+ghost use Rattle.cart.specs.Reads.{silent, heard, fetched, registerSource, windowSource, mappedSource, sourceOf, readBy};
 ghost use Rattle.cart.specs.Writes.{storedWord, stored, flipTaker, mappedTaker, windowTaker, takerOf, leftBy, assignedBy, readableBy, leaves, leavesRam, leavesFlash, assigned, leavesReadable};
 ghost use Rattle.cart.specs.Cartridges.{assembled, fresh, withActive, readOf, writtenOf, writeRamOf, writeFlashOf, resetOf};
 use flash::Heard;
@@ -116,7 +116,7 @@ pub fn location(entry: u16, at: Console) -> Locutus
 }
 
 // The word that an address reaches by the active tables.
-fn cell_at<'a>(
+pub fn cell_at<'a>(
     mapping: &'a [u16; PARAGRAPHS],
     permissions: &'a [u8; PARAGRAPHS],
     at: Console,
@@ -131,7 +131,7 @@ fn cell_at<'a>(
 }
 
 // The word of JLP RAM at an address of the accelerators' window.
-fn window_cell(at: Console) -> Cell
+pub fn window_cell(at: Console) -> Cell
     ensures { λ r. ⌜ r ≡ windowCell at ⌝ }
 {
     let location = jlp::location(at);
@@ -159,7 +159,21 @@ fn window_source(j: Jlp, at: Console) -> Source
     register_source(jlp::read(j, at))
 }
 
-// By the tables: nobody in the three silent ranges, else the word that the address reaches.
+// The three ranges where every read is silent.
+pub fn is_silent(at: Console) -> bool
+    ensures { λ r. ⌜ r ≡ silent at ⌝ }
+{
+    let a = at.0;
+    if a < 0x500 {
+        return true;
+    }
+    if a / 0x1000 == 1 {
+        return true;
+    }
+    a / 0x1000 == 3
+}
+
+// By the tables: nobody in the silent ranges, else the word that the address reaches.
 fn mapped_source<'a>(
     mapping: &'a [u16; PARAGRAPHS],
     permissions: &'a [u8; PARAGRAPHS],
@@ -167,14 +181,7 @@ fn mapped_source<'a>(
 ) -> Source
     ensures { λ r. ⌜ r ≡ mappedSource (active (now (mapping .entry)) (now (permissions .entry))) at ⌝ }
 {
-    let a = at.0;
-    if a < 0x500 {
-        return Source::Nobody;
-    }
-    if a / 0x1000 == 1 {
-        return Source::Nobody;
-    }
-    if a / 0x1000 == 3 {
+    if is_silent(at) {
         return Source::Nobody;
     }
     Source::Ram(cell_at(mapping, permissions, at))
@@ -199,7 +206,7 @@ fn source_of<'a>(
 }
 
 // The word of a cell that may be read and lies in the lent RAM.
-fn fetch(cell: Cell, ram: &[u16]) -> Answer
+pub fn fetch(cell: Cell, ram: &[u16]) -> Answer
     ensures { λ r. ⌜ r ≡ fetched cell (now (ram .entry)) ⌝ }
 {
     let i = cell.location.0 as usize;
@@ -210,6 +217,19 @@ fn fetch(cell: Cell, ram: &[u16]) -> Answer
         return Answer::Silence;
     }
     Answer::Word(ram[i])
+}
+
+// Silence as a number: above every word.
+pub const SILENCE: u32 = 0x10000;
+
+// An answer as one number.
+pub fn heard(a: Answer) -> u32
+    ensures { λ r. ⌜ r ≡ heard a ⌝ }
+{
+    match a {
+        Answer::Word(w) => w as u32,
+        Answer::Silence => SILENCE,
+    }
 }
 
 // A read by the active tables, lent, and the accelerators: no table of the cartridge is copied.
@@ -336,7 +356,7 @@ fn stored_word(narrow: bool, old: u16, value: u16) -> u16
 }
 
 // A store to a cell that may be written and lies in the lent RAM.
-fn store(cell: Cell, ram: &mut [u16], value: u16)
+pub fn store(cell: Cell, ram: &mut [u16], value: u16)
     ensures { λ _. ⌜ now (ram .exit) ≡ stored cell (now (ram .entry)) value ⌝ }
 {
     let i = cell.location.0 as usize;

@@ -7,6 +7,7 @@ use Rattle.text.proofs.first_foreign.Reads as first-foreign
 use Rattle.text.proofs.line_of.Reads as line-of
 use Rattle.text.proofs.is_end.Reads as is-end
 use Rattle.text.proofs.line_end.Reads as line-end
+use Rattle.text.proofs.past_end.Reads as past-end
 use Rattle.text.proofs.next_line.Reads as next-line
 use Rattle.text.proofs.same_text.Reads as same-text
 use Rattle.text.proofs.digit_of.Reads as digit-of
@@ -28,6 +29,9 @@ one-is-end κs a y z e f = same
 
 pub one-line-end : OneAnswer line-end.Learnt
 one-line-end κs a y z e f = same
+
+pub one-past-end : OneAnswer past-end.Learnt
+one-past-end κs a y z e f = same
 
 pub one-next-line : OneAnswer next-line.Learnt
 one-next-line κs a y z e f = same

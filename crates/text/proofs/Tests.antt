@@ -1,5 +1,5 @@
 -- What the code decides of a byte and the next: a law for each way out.
-use Prim.Native.Nat.{ℕ, _+_, _-_, _<_, _≤_}
+use Prim.Native.Nat.{ℕ, suc, _+_, _<_, _≤_}
 use mathlib.Core.Path.{_≡_, refl, ap, _∙_, sym}
 use mathlib.Core.Bool.{Bool, true, false, _&&_, _||_, not}
 use mathlib.Core.List.{List}
@@ -7,10 +7,10 @@ use native.Mathlib.Omega.{arith}
 use native.Mathlib.Numerals.{add-one}
 use lib.Dec.{eqb, leb}
 use lib.ListN.{length, getD, drop}
-use borrow.Author.Tests.{lt-leb, ne-eqb, le-leb}
+use borrow.Author.Tests.{ne-eqb, leb-true}
 use Rattle.basics.specs.Counts.{count}
 use Rattle.basics.specs.Laws.Counts.{count-below}
-use Rattle.basics.specs.Laws.Tests.{and-true, and-false}
+use Rattle.basics.specs.Laws.Tests.{cases, and-left, and-right}
 use Rattle.text.specs.Bytes.{tab, lf, crLf, allowed, foreign, until}
 use Rattle.text.specs.Lines.{ends, lineOf}
 use Rattle.text.specs.Spelling.{digitOf}
@@ -67,34 +67,30 @@ module _ (s : List ℕ) where
   pub line-all : (n i at : ℕ) → n ≡ lineOf s i → i ≤ at → at ≤ i → n ≡ lineOf s at
   line-all n i at e h k = let q : i ≡ at = omega arith in rw (← q) e
 
--- hex digits: a digit's value is below 16, and what is no digit has 16
-inside : (lo hi b : ℕ) → lo ≤ b → b ≤ hi → (leb lo b && leb b hi) ≡ true
-inside lo hi b h k = and-true (leb lo b) (leb b hi) (le-leb lo b h) (le-leb b hi k)
+-- hex digits: by the row that a byte chooses, and by the last where no other does
+pub digit-row : (b k v : ℕ) → b ≡ k → v ≡ digitOf k → v ≡ digitOf b
+digit-row b k v e f = rw e f
 
-below : (lo hi b : ℕ) → b < lo → (leb lo b && leb b hi) ≡ false
-below lo hi b h = rw (lt-leb lo b h)
+outside : (lo hi b : ℕ) → (lo ≤ b → b ≤ hi → ⊥) → (leb lo b && leb b hi) ≡ false
+outside lo hi b h =
+    cases (leb lo b && leb b hi)
+    (λ t. absurd (h (leb-true lo b (and-left (leb lo b) (leb b hi) t)) (leb-true b hi (and-right (leb lo b) (leb b hi) t))))
+    (λ t. t)
 
-above : (lo hi b : ℕ) → hi < b → (leb lo b && leb b hi) ≡ false
-above lo hi b h = and-false (leb lo b) (leb b hi) (lt-leb b hi h)
+past : (k b : ℕ) → k ≤ b → (b ≡ k → ⊥) → suc k ≤ b
+past k b h n = omega arith
 
-module _ (b : ℕ) where
-  pub decimal : 48 ≤ b → b < 58 → b - 48 ≡ digitOf b
-  decimal h k = simp (inside 48 57 b h (omega arith))
+over : (hi b : ℕ) → suc hi ≤ b → b ≤ hi → ⊥
+over hi b h k = omega arith
 
-  pub upper : 65 ≤ b → b < 71 → b - 65 + 10 ≡ digitOf b
-  upper h k = simp (above 48 57 b (omega arith), inside 65 70 b h (omega arith))
-
-  pub lower : 97 ≤ b → b < 103 → b - 97 + 10 ≡ digitOf b
-  lower h k = simp (above 48 57 b (omega arith), above 65 70 b (omega arith), inside 97 102 b h (omega arith))
-
-  pub before-decimal : b < 48 → 16 ≡ digitOf b
-  before-decimal h = simp (below 48 57 b h, below 65 70 b (omega arith), below 97 102 b (omega arith))
-
-  pub before-upper : 58 ≤ b → b < 65 → 16 ≡ digitOf b
-  before-upper h k = simp (above 48 57 b h, below 65 70 b k, below 97 102 b (omega arith))
-
-  pub before-lower : 71 ≤ b → b < 97 → 16 ≡ digitOf b
-  before-lower h k = simp (above 48 57 b (omega arith), above 65 70 b h, below 97 102 b k)
-
-  pub behind-lower : 103 ≤ b → 16 ≡ digitOf b
-  behind-lower h = simp (above 48 57 b (omega arith), above 65 70 b (omega arith), above 97 102 b h)
+pub no-digit : (b : ℕ)
+    → (b ≡ 48 → ⊥) → (b ≡ 49 → ⊥) → (b ≡ 50 → ⊥) → (b ≡ 51 → ⊥) → (b ≡ 52 → ⊥) → (b ≡ 53 → ⊥) → (b ≡ 54 → ⊥) → (b ≡ 55 → ⊥) → (b ≡ 56 → ⊥) → (b ≡ 57 → ⊥)
+    → (b ≡ 65 → ⊥) → (b ≡ 66 → ⊥) → (b ≡ 67 → ⊥) → (b ≡ 68 → ⊥) → (b ≡ 69 → ⊥) → (b ≡ 70 → ⊥)
+    → (b ≡ 97 → ⊥) → (b ≡ 98 → ⊥) → (b ≡ 99 → ⊥) → (b ≡ 100 → ⊥) → (b ≡ 101 → ⊥) → (b ≡ 102 → ⊥)
+    → 16 ≡ digitOf b
+no-digit b d₀ d₁ d₂ d₃ d₄ d₅ d₆ d₇ d₈ d₉ u₀ u₁ u₂ u₃ u₄ u₅ l₀ l₁ l₂ l₃ l₄ l₅ =
+    simp (
+      outside 48 57 b (λ h k. over 57 b (past 57 b (past 56 b (past 55 b (past 54 b (past 53 b (past 52 b (past 51 b (past 50 b (past 49 b (past 48 b h d₀) d₁) d₂) d₃) d₄) d₅) d₆) d₇) d₈) d₉) k),
+      outside 65 70 b (λ h k. over 70 b (past 70 b (past 69 b (past 68 b (past 67 b (past 66 b (past 65 b h u₀) u₁) u₂) u₃) u₄) u₅) k),
+      outside 97 102 b (λ h k. over 102 b (past 102 b (past 101 b (past 100 b (past 99 b (past 98 b (past 97 b h l₀) l₁) l₂) l₃) l₄) l₅) k),
+    )

@@ -34,6 +34,9 @@ abbrev pub endLength : List ℕ → ℕ
 endLength [] = 0
 endLength (b ∷ s) = cond (eqb b lf) 1 2
 
--- where the next line starts
+-- where the line after an end starts, and the one after the line that stands at a place
+abbrev pub pastEnd : List ℕ → ℕ → ℕ
+pastEnd s e = e + endLength (drop e s)
+
 abbrev pub nextLine : List ℕ → ℕ → ℕ
-nextLine s at = lineEnd s at + endLength (drop (lineEnd s at) s)
+nextLine s at = pastEnd s (lineEnd s at)

@@ -2,7 +2,7 @@
 ghost use Prim.Native.Nat.{_≤_};
 ghost use mathlib.Core.Path.{_≡_};
 ghost use Rattle.text.specs.Bytes.{crLf, allowed, firstForeign};
-ghost use Rattle.text.specs.Lines.{lineOf, ends, lineEnd, nextLine};
+ghost use Rattle.text.specs.Lines.{lineOf, ends, lineEnd, pastEnd, nextLine};
 ghost use Rattle.text.specs.Spelling.{same, digitOf};
 
 // A reader: a text, and the place in it where the next line starts. A loop that reads line by line holds one, tests it and
@@ -79,11 +79,10 @@ pub fn line_end(text: &[u8], at: usize) -> usize
     i
 }
 
-// Where the line after it starts.
-pub fn next_line(text: &[u8], at: usize) -> usize
-    ensures { λ r. ⌜ r ≡ nextLine (now (text .entry)) at ⌝ }
+// Where the line after one that ends at `end` starts.
+pub fn past_end(text: &[u8], end: usize) -> usize
+    ensures { λ r. ⌜ r ≡ pastEnd (now (text .entry)) end ⌝ }
 {
-    let end = line_end(text, at);
     if text.len() <= end {
         return end;
     }
@@ -91,6 +90,13 @@ pub fn next_line(text: &[u8], at: usize) -> usize
         return end + 1;
     }
     end + 2
+}
+
+// Where the line after the one that stands at `at` starts.
+pub fn next_line(text: &[u8], at: usize) -> usize
+    ensures { λ r. ⌜ r ≡ nextLine (now (text .entry)) at ⌝ }
+{
+    past_end(text, line_end(text, at))
 }
 
 // Whether two texts are the same.
@@ -110,14 +116,33 @@ pub fn same_text(s: &[u8], t: &[u8]) -> bool
     i == t.len()
 }
 
-// A hex digit's value, in either case; 16 for any other byte.
+// A hex digit's value, in either case; 16 for any other byte. A row for each digit is looked up in a table, and no test is guessed.
 pub fn digit_of(b: u8) -> u32
     ensures { λ r. ⌜ (r ≡ digitOf b) × (r ≤ 16) ⌝ }
 {
     match b {
-        b'0'..=b'9' => (b - b'0') as u32,
-        b'A'..=b'F' => (b - b'A') as u32 + 10,
-        b'a'..=b'f' => (b - b'a') as u32 + 10,
+        b'0' => 0,
+        b'1' => 1,
+        b'2' => 2,
+        b'3' => 3,
+        b'4' => 4,
+        b'5' => 5,
+        b'6' => 6,
+        b'7' => 7,
+        b'8' => 8,
+        b'9' => 9,
+        b'A' => 10,
+        b'B' => 11,
+        b'C' => 12,
+        b'D' => 13,
+        b'E' => 14,
+        b'F' => 15,
+        b'a' => 10,
+        b'b' => 11,
+        b'c' => 12,
+        b'd' => 13,
+        b'e' => 14,
+        b'f' => 15,
         _ => 16,
     }
 }

@@ -124,7 +124,7 @@ fn same_ran(rec: &[u8], at: usize, r: Ran) -> bool {
 // An answer as a record has it: a word and 1, or for silence 0 and 0.
 fn same_answer(rec: &[u8], at: usize, answer: u32) -> bool {
     let word = get16(rec, at);
-    if answer == accesses::SILENCE {
+    if answer == cart::SILENCE {
         return both(word == 0, has8(rec, at, 2, 0));
     }
     both(word == answer as usize, has8(rec, at, 2, 1))

@@ -36,6 +36,7 @@ check-lines-spec =
     loop-holds
     (λ c κs. search needs)
     (λ c κs. search needs)
+    (λ c κs. search needs)
     (λ c. search needs)
     returns
     (λ c κs. search needs)

@@ -14,6 +14,7 @@ use Rattle.accesses.specs.Accesses.{accessesOf}
 use Rattle.accesses.specs.Runs.{world}
 use Rattle.accesses.specs.Code.Steps.{tabled}
 use Rattle.accesses.proofs.Runs.{Running, running-none, running-at, reset-start, turn-fits, turn-more, ran-world, ran-out, ran-all}
+use Rattle.accesses.proofs.Lines.{next-end}
 use Rattle.accesses.proofs.run_lines.Statement.{statement}
 use Rattle.accesses.proofs.run_lines.Tie as tie
 
@@ -29,7 +30,7 @@ loop-holds : tie.Need-loop-holds Inv-loop μ-loop
 loop-holds c = search (needs, running-none, reset-start)
 
 says-at-requires : tie.Need-says-at-requires Inv-loop μ-loop
-says-at-requires c κs = running-at _ _ _ _ _ _ _ _ _ _ (c .before .loop .inv .5) (search needs)
+says-at-requires c κs = (running-at _ _ _ _ _ _ _ _ _ _ (c .before .before .loop .inv .5) (search needs), c .line-end .ensures)
 
 note-requires : tie.Need-note-requires Inv-loop μ-loop
 note-requires c κs =
@@ -37,9 +38,22 @@ note-requires c κs =
     let lent = made .before .before .before .before .before in
     let moved = lent .before .before .before .before .before in
     let said = moved .before in
-    let turn = said .before in
+    let ended = said .before in
+    let turn = ended .before in
     let inv = turn .before .loop .inv in
     turn-fits _ _ _ _ _ _ _ _ _ _ _ _ _ _ _ _ (inv .5) (search needs) _ (said .says-at .ensures) _ _ (made .make .ensures .0) (search needs)
+
+loop-less : tie.Need-loop-less Inv-loop μ-loop
+loop-less c =
+    let noted = c .before in
+    let back = noted .before .before .before .before .before in
+    let made = back .before .before in
+    let lent = made .before .before .before .before .before in
+    let moved = lent .before .before .before .before .before in
+    let said = moved .before in
+    let ended = said .before in
+    let turn = ended .before in
+    search needs
 
 loop-again : tie.Need-loop-again Inv-loop μ-loop
 loop-again c =
@@ -49,14 +63,15 @@ loop-again c =
     let lent = made .before .before .before .before .before in
     let moved = lent .before .before .before .before .before in
     let said = moved .before in
-    let turn = said .before in
+    let ended = said .before in
+    let turn = ended .before in
     let inv = turn .before .loop .inv in (
       (search needs),
       (let saved = noted .before .before .before .before in search needs),
       (search needs),
       (inv .3),
       (inv .4),
-      (turn-more _ _ _ _ _ _ _ _ _ _ _ _ _ _ _ _ (inv .5) (search needs) _ (said .says-at .ensures) _ _ _ _ _ _ _ _ _ (made .make .ensures) (noted .note .ensures) (moved .next-line .ensures)),
+      (turn-more _ _ _ _ _ _ _ _ _ _ _ _ _ _ _ _ (inv .5) (search needs) _ (said .says-at .ensures) _ _ _ _ _ _ _ _ _ (made .make .ensures) (noted .note .ensures) (next-end _ _ _ _ (ended .line-end .ensures) (moved .past-end .ensures))),
     )
 
 returns : tie.Need-returns Inv-loop μ-loop
@@ -79,11 +94,12 @@ run-lines-spec =
     (λ c κs. search needs)
     loop-holds
     (λ c. search needs)
+    (λ c κs. search needs)
     says-at-requires
     (λ c κs. search needs)
     (λ c κs. search needs)
     note-requires
-    (λ c. search needs)
+    loop-less
     loop-again
     (λ c κs. search needs)
     (λ c κs. search needs)

@@ -11,12 +11,4 @@ returns : tie.Need-returns
 returns c = search (needs, said-at)
 
 pub says-at-spec : {M : Type 1} → statement M
-says-at-spec =
-    tie.close
-    (tie.spec
-    (λ c κs. search needs)
-    (λ c. search needs)
-    (λ c. search needs)
-    part-line-says-end
-    (λ c κs. search needs)
-    returns)
+says-at-spec = tie.close (tie.spec (λ c. search needs) (λ c. search needs) part-line-says-end (λ c κs. search needs) returns)

@@ -29,7 +29,7 @@ use Rattle.accesses.specs.declared.Says.{Says}
 use Rattle.accesses.specs.declared.Says.the-variants.{Malformed, Read, Write, Reset}
 use Rattle.accesses.specs.Line.{digitsAt, wordAt}
 use Rattle.accesses.specs.Accesses.{malformedLine, readsOf}
-use Rattle.accesses.specs.Runs.{heard}
+use Rattle.cart.specs.Reads.{heard}
 
 -- what a line says
 abbrev pub says : Option Run.Access → Says

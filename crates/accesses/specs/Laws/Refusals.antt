@@ -22,7 +22,8 @@ use Rattle.cart.specs.Run.{World, Access, answers}
 use Rattle.text.specs.Lines.{linesOf}
 use Rattle.accesses.specs.Line.{lineSays}
 use Rattle.accesses.specs.Accesses.{accessesOf, malformedFrom, malformedLine, readsOf}
-use Rattle.accesses.specs.Runs.{heard, hasMalformed, tooFew, refusalRows, refusalOf, runOf, left, ranOf, answersIn}
+use Rattle.cart.specs.Reads.{heard}
+use Rattle.accesses.specs.Runs.{hasMalformed, tooFew, refusalRows, refusalOf, runOf, left, ranOf, answersIn}
 
 -- this line is the first malformed one; lines are counted from n
 pub record FirstMalformed (n : ℕ) (ls : List (List ℕ)) (line : ℕ) : Type 0 where

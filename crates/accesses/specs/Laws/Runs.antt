@@ -15,7 +15,8 @@ use Rattle.cart.specs.Cartridges.{readOf, writtenOf, writeFlashOf, writeRamOf, 
 use Rattle.cart.specs.Run.{World, Access, Read, Write, Reset, step, after, answers}
 use Rattle.text.specs.Lines.{linesOf}
 use Rattle.accesses.specs.Accesses.{accessesOf, malformedLine, readsIn}
-use Rattle.accesses.specs.Runs.{heard, refusalRows, refusalOf, runOf, world, left, wordsOf, ranOf}
+use Rattle.cart.specs.Reads.{heard}
+use Rattle.accesses.specs.Runs.{refusalRows, refusalOf, runOf, world, left, wordsOf, ranOf}
 use Rattle.accesses.specs.Laws.Accesses.{as-many}
 
 -- each read has one answer

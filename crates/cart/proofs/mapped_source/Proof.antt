@@ -1,25 +1,14 @@
--- `cart::mapped_source` meets its contract: each return has decided the tests of `silent`.
+-- `cart::mapped_source` meets its contract: a silent range, or the word that the address reaches.
 use borrow.Author.Needs.{needs}
-use Rattle.basics.specs.Laws.Tests.{tests}
-use Rattle.cart.specs.Reads.{silent}
+use Rattle.cart.specs.Laws.Reads.{mapped}
 use Rattle.cart.proofs.mapped_source.Statement.{statement}
 use Rattle.cart.proofs.mapped_source.Tie as tie
 
 returns : tie.Need-returns
-unfolding silent
-returns c = search tests
+returns c = search mapped
 
 returns-2 : tie.Need-returns-2
-unfolding silent
-returns-2 c = search tests
-
-returns-3 : tie.Need-returns-3
-unfolding silent
-returns-3 c = search tests
-
-returns-4 : tie.Need-returns-4
-unfolding silent
-returns-4 c = search (tests, c .cell-at .ensures)
+returns-2 c = search mapped
 
 pub mapped-source-spec : {M : Type 1} → statement M
-mapped-source-spec = tie.close (tie.spec returns returns-2 returns-3 (λ c κs. search needs) returns-4)
+mapped-source-spec = tie.close (tie.spec (λ c κs. search needs) returns (λ c κs. search needs) returns-2)

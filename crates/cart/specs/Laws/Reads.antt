@@ -18,11 +18,11 @@ use Rattle.jlp.specs.Accelerators.{heardAt}
 use Rattle.cart.specs.declared.Rights.{Rights}
 use Rattle.cart.specs.declared.Cell.{Cell}
 use Rattle.cart.specs.declared.Source.{Source}
-use Rattle.cart.specs.declared.Source.the-variants.{Latched, Ram}
+use Rattle.cart.specs.declared.Source.the-variants.{Nobody, Latched, Ram}
 use Rattle.cart.specs.declared.Answer.{Answer}
 use Rattle.cart.specs.declared.Answer.the-variants.{Word, Silence}
-use Rattle.cart.specs.Cells.{windowCell}
-use Rattle.cart.specs.Reads.{fetched, registerSource, windowSource, mappedSource, sourceOf, givenBy, readBy}
+use Rattle.cart.specs.Cells.{cellAt, windowCell}
+use Rattle.cart.specs.Reads.{silent, fetched, registerSource, windowSource, mappedSource, sourceOf, givenBy, readBy}
 
 -- shut by its rights; past the n words that are lent; open
 module _ (c : Cell) (ram : List ℕ) where
@@ -56,6 +56,16 @@ module _ (j : Jlp) (at : Console) (b : Bool) (e : b ≡ inRam at) where
 
   pub window-register : (h : Heard) (s : Source) → b ≡ false → h ≡ heardAt j at → s ≡ registerSource h → s ≡ windowSource j at
   window-register h s t f g = rw (← e, t, ← f) g
+
+-- by the tables: a silent range, and any other address
+module _ (a : Active) (at : Console) (b : Bool) (e : b ≡ silent at) where
+  pub mapped-silent : b ≡ true → Nobody ≡ mappedSource a at
+  mapped-silent t = rw (← e, t)
+
+  pub mapped-cell : (c : Cell) → b ≡ false → c ≡ cellAt a at → Ram c ≡ mappedSource a at
+  mapped-cell c t h = rw (← e, t, h)
+
+pub ruleset mapped = (mapped-silent, mapped-cell)
 
 -- off; on, and outside of the window; on, and in it
 module _ (j : Jlp) (a : Active) (at : Console) (s : Source) where

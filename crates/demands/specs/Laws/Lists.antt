@@ -4,7 +4,8 @@ use mathlib.Core.List.{List, map}
 use mathlib.Core.Path.{_≡_, ap}
 use Rattle.cfg.specs.File.{entriesOf}
 use Rattle.plays.specs.Plain.{plainAnswers, fresh}
-use Rattle.accesses.specs.Runs.{heard, runOf, wordsOf}
+use Rattle.cart.specs.Reads.{heard}
+use Rattle.accesses.specs.Runs.{runOf, wordsOf}
 use Rattle.demands.specs.Pressing.{Pressing, worldOf}
 use Rattle.demands.specs.Demand3.{Playable}
 use Rattle.demands.specs.Laws.Demand3.{demand-3}

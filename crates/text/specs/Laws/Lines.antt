@@ -12,7 +12,7 @@ use borrow.Author.Tests.{eq-eqb, ne-eqb, eqb-true, eqb-false, ltb-true, ltb-fals
 use Rattle.basics.specs.Lists.{part}
 use Rattle.basics.specs.Laws.Tests.{cases, and-left, and-right, true-is-not-false, or-false-left}
 use Rattle.text.specs.Bytes.{lf, cr, crLf, until}
-use Rattle.text.specs.Lines.{ends, lineEnd, endLength, nextLine, linesOf, onFirst}
+use Rattle.text.specs.Lines.{ends, lineEnd, endLength, pastEnd, nextLine, linesOf, onFirst}
 use Rattle.text.specs.Laws.Bytes.{until-most, until-passes}
 
 -- the first line of a text that has bytes, and the lines after it
@@ -79,18 +79,18 @@ end-cr s at l n =
     omega (arith, stands s (suc (lineEnd s at)) (and-right (eqb (getD s (lineEnd s at) 0) cr) (eqb (getD s (suc (lineEnd s at)) 0) lf) c))
 
 -- the end of a line, and what stands there
-module _ (s : List ℕ) (at e : ℕ) (so : e ≡ lineEnd s at) where
-  pub next-past : length s ≤ e → e ≡ nextLine s at
-  next-past h = let z : endLength (drop (lineEnd s at) s) ≡ 0 = rw (← so, drop-of-length-le s h) in omega arith
+module _ (s : List ℕ) (e : ℕ) where
+  pub past-none : length s ≤ e → e ≡ pastEnd s e
+  past-none h = let z : endLength (drop e s) ≡ 0 = rw (drop-of-length-le s h) in omega arith
 
-  length-at : e < length s → endLength (drop (lineEnd s at) s) ≡ cond (eqb (getD s e 0) lf) 1 2
-  length-at l = rw (← so, drop-cons s e 0 l)
+  length-at : e < length s → endLength (drop e s) ≡ cond (eqb (getD s e 0) lf) 1 2
+  length-at l = rw (drop-cons s e 0 l)
 
-  pub next-lf : e < length s → getD s e 0 ≡ lf → e + 1 ≡ nextLine s at
-  next-lf l h = omega (arith, rw (eq-eqb (getD s e 0) lf h) at (length-at l))
+  pub past-lf : e < length s → getD s e 0 ≡ lf → e + 1 ≡ pastEnd s e
+  past-lf l h = omega (arith, rw (eq-eqb (getD s e 0) lf h) at (length-at l))
 
-  pub next-cr : e < length s → (getD s e 0 ≡ lf → ⊥) → e + 2 ≡ nextLine s at
-  next-cr l h = omega (arith, rw (ne-eqb (getD s e 0) lf h) at (length-at l))
+  pub past-cr : e < length s → (getD s e 0 ≡ lf → ⊥) → e + 2 ≡ pastEnd s e
+  past-cr l h = omega (arith, rw (ne-eqb (getD s e 0) lf h) at (length-at l))
 
 pub next-within : (s : List ℕ) (at : ℕ) → at < length s → (at < nextLine s at) × (nextLine s at ≤ length s)
 next-within s at l =
@@ -99,14 +99,14 @@ next-within s at l =
     (λ e.
     let k : lineEnd s at < length s = ltb-true _ _ e in
     cases (eqb (getD s (lineEnd s at) 0) lf)
-    (λ f. let z = next-lf s at (lineEnd s at) refl k (eqb-true _ _ f) in (omega arith, omega arith))
+    (λ f. let z = past-lf s (lineEnd s at) k (eqb-true _ _ f) in (omega arith, omega arith))
     (λ f.
     let n : getD s (lineEnd s at) 0 ≡ lf → ⊥ = eqb-false _ _ f in
-    let z = next-cr s at (lineEnd s at) refl k n in
+    let z = past-cr s (lineEnd s at) k n in
     (omega arith, omega (arith, end-cr s at k n))))
     (λ e.
     let k : length s ≤ lineEnd s at = ltb-false _ _ e in
-    let z = next-past s at (lineEnd s at) refl k in
+    let z = past-none s (lineEnd s at) k in
     (omega arith, omega arith))
 
 -- a text has no more lines than bytes

@@ -1,0 +1,27 @@
+-- `direct::read_reach` meets its contract: the window, a silent range, and any other address.
+use borrow.Author.Needs.{needs}
+use Rattle.direct.proofs.Laws.{reads}
+use Rattle.direct.proofs.read_reach.Statement.{statement}
+use Rattle.direct.proofs.read_reach.Tie as tie
+
+returns : tie.Need-returns
+returns c = search reads
+
+returns-2 : tie.Need-returns-2
+returns-2 c = search reads
+
+returns-3 : tie.Need-returns-3
+returns-3 c = search reads
+
+pub read-reach-spec : {M : Type 1} → statement M
+read-reach-spec =
+    tie.close
+    (tie.spec
+    (λ c κs. search needs)
+    (λ c κs. search needs)
+    (λ c κs. search needs)
+    returns
+    (λ c κs. search needs)
+    returns-2
+    (λ c κs. search needs)
+    returns-3)

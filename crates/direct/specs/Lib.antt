@@ -1,0 +1,3 @@
+-- The short ways to the RAM.
+pub mod Direct
+pub mod Laws
