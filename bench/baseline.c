@@ -152,7 +152,10 @@ static uint32_t read_register(const Jlp *j, uint16_t at) {
     return at == 0x9F8E ? j->first : at == 0x9F8F ? j->second : at == 0x9FFD ? j->crc : SILENCE;
 }
 
-static uint32_t read_word(const Cartridge *c, const uint16_t *ram, size_t words, uint16_t at) {
+/* Reads and writes are set into the loops that make them, by force: three loops share them, and gcc would call them. */
+#define INTO_THE_LOOP static inline __attribute__((always_inline))
+
+INTO_THE_LOOP uint32_t read_word(const Cartridge *c, const uint16_t *ram, size_t words, uint16_t at) {
     if (c->jlp.on && in_window(at)) {
         if (!in_jlp_ram(at))
             return read_register(&c->jlp, at);
@@ -183,7 +186,7 @@ static uint8_t bankswitch(Cartridge *c, int h, uint8_t first) {
     return 8;
 }
 
-static uint8_t write_word(Cartridge *c, uint16_t *ram, size_t words, uint16_t *flash, size_t flash_words, uint16_t at, uint16_t value) {
+INTO_THE_LOOP uint8_t write_word(Cartridge *c, uint16_t *ram, size_t words, uint16_t *flash, size_t flash_words, uint16_t at, uint16_t value) {
     int x = at / 4096;
     Jlp *j = &c->jlp;
     if (at == 0x8033 && value == 0x4A5A && j->field) {
@@ -228,6 +231,85 @@ void c_writes(Cartridge *c, uint16_t *ram, size_t words, uint16_t *flash, size_t
         words = LENT_LIMIT;
     for (size_t i = 0; i < n; i++)
         assigned[i] = write_word(c, ram, words, flash, flash_words, at[i], value[i]);
+}
+
+/* ---- a list of accesses: a pass that checks every line, then one that makes the accesses ---- */
+
+typedef enum { MALFORMED, READS, WRITES, RESETS } Op;
+
+typedef struct {
+    Op op;
+    uint16_t at, value;
+} Access;
+
+static int hex(uint8_t b) {
+    return b >= '0' && b <= '9' ? b - '0' : b >= 'A' && b <= 'F' ? b - 'A' + 10 : b >= 'a' && b <= 'f' ? b - 'a' + 10 : -1;
+}
+
+static bool word_of(const uint8_t *s, uint16_t *w) {
+    int a = hex(s[0]), b = hex(s[1]), c = hex(s[2]), d = hex(s[3]);
+    *w = ((a * 16 + b) * 16 + c) * 16 + d;
+    return a >= 0 && b >= 0 && c >= 0 && d >= 0;
+}
+
+static Access says(const uint8_t *s, size_t n) {
+    Access x = {MALFORMED, 0, 0};
+    if (n == 14 && !memcmp(s, "op=r addr=", 10) && word_of(s + 10, &x.at))
+        x.op = READS;
+    else if (n == 25 && !memcmp(s, "op=w addr=", 10) && !memcmp(s + 14, " value=", 7) && word_of(s + 10, &x.at) && word_of(s + 21, &x.value))
+        x.op = WRITES;
+    else if (n == 4 && !memcmp(s, "op=x", 4))
+        x.op = RESETS;
+    return x;
+}
+
+/* The end of the line at `at`, and where the next one starts. */
+static size_t end_of(const uint8_t *s, size_t n, size_t at) {
+    while (at < n && s[at] != '\n' && !(s[at] == '\r' && at + 1 < n && s[at + 1] == '\n'))
+        at++;
+    return at;
+}
+
+static size_t behind(const uint8_t *s, size_t n, size_t end) {
+    return end == n ? n : s[end] == '\n' ? end + 1 : end + 2;
+}
+
+static void reset(Cartridge *c) {
+    memcpy(c->mapping, c->initial_mapping, sizeof c->mapping);
+    memcpy(c->permissions, c->initial_permissions, sizeof c->permissions);
+    c->readable = 0;
+    for (int p = 0; p < 256; p++)
+        c->readable += c->permissions[p] & READ;
+    c->jlp.on = c->jlp.field == 1 || c->jlp.field == 3;
+}
+
+Ran c_run(const uint8_t *list, size_t n, size_t limit, Cartridge *c, uint16_t *ram, size_t words, uint16_t *flash, size_t flash_words, uint32_t *out, size_t room) {
+    size_t lines = 0, reads = 0, k = 0;
+    for (size_t at = 0, end; at < n; at = behind(list, n, end)) {
+        end = end_of(list, n, at);
+        lines++;
+        Op op = says(list + at, end - at).op;
+        if (op == MALFORMED)
+            return (Ran){33, lines, 0, 0};
+        reads += op == READS;
+    }
+    if (room < reads)
+        return (Ran){29, 0, 0, reads};
+    if (words > LENT_LIMIT)
+        words = LENT_LIMIT;
+    if (limit < lines)
+        lines = limit;
+    for (size_t i = 0, at = 0, end; i < lines; i++, at = behind(list, n, end)) {
+        end = end_of(list, n, at);
+        Access x = says(list + at, end - at);
+        if (x.op == READS)
+            out[k++] = read_word(c, ram, words, x.at);
+        else if (x.op == WRITES)
+            write_word(c, ram, words, flash, flash_words, x.at, x.value);
+        else
+            reset(c);
+    }
+    return (Ran){0, 0, lines, k};
 }
 
 /* ---- the loader: a pass that checks, then one that stores ---- */

@@ -31,6 +31,14 @@ void c_reads(const Cartridge *c, const uint16_t *ram, size_t words, const uint16
 /* assigned[i]: how many mapping entries write i assigned. */
 void c_writes(Cartridge *c, uint16_t *ram, size_t words, uint16_t *flash, size_t flash_words, const uint16_t *at, const uint16_t *value, size_t n, uint8_t *assigned);
 
+/* What running a list answers; at 29 length is how many answers there would be. */
+typedef struct {
+    uint32_t number;
+    size_t place, lines, length;
+} Ran;
+
+Ran c_run(const uint8_t *list, size_t n, size_t limit, Cartridge *c, uint16_t *ram, size_t words, uint16_t *flash, size_t flash_words, uint32_t *out, size_t room);
+
 typedef struct {
     uint32_t number;
     size_t place, blocks, words;

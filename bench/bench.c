@@ -1,6 +1,9 @@
 /* Measures the proved functions beside the C baseline: the same inputs, the same answers, the best of runs that alternate. */
 #include "baseline.h"
-#include "luigi.h"
+#include "../include/luigi.h"
+typedef LuigiLoaded Loaded;
+typedef LuigiBuilt Built;
+typedef LuigiActive Active;
 #include <stdbool.h>
 #include <stdio.h>
 #include <stdlib.h>
@@ -9,6 +12,7 @@
 
 enum { MIB = 1048576, BIN_BYTES = 524288, ROOM = IMAGE_LIMIT, WORDS = LENT_LIMIT };
 enum { SECTORS = 8, FLASH = 768 * SECTORS }; /* the flash of the accelerated cartridge */
+enum { LINES = 1000000, LIST = 26 * LINES }; /* the lines of a list, and room for its text */
 enum { SCRIPT = 20000, TIMES = 500, SAVES = 50 }; /* 10 million accesses: 500 times a script of 20,000; of saves a million */
 
 /* ---- inputs, from one seed ---- */
@@ -67,6 +71,24 @@ static void make_scripts(void) {
     }
 }
 
+/* A list of accesses: by turns a read and a write anywhere, every sixteenth line a page request, every thousandth a reset. */
+static uint8_t list[LIST];
+static size_t list_length;
+
+static void make_list(void) {
+    char *s = (char *)list;
+    for (int i = 0; i < LINES; i++) {
+        int k = i % SCRIPT;
+        if (i % 1000 == 999)
+            s += sprintf(s, "op=x\n");
+        else if (i % 2)
+            s += sprintf(s, "op=r addr=%04X\n", read_at[k]);
+        else
+            s += sprintf(s, "op=w addr=%04X value=%04x\n", write_at[k], value[k]);
+    }
+    list_length = s - (char *)list;
+}
+
 static void put(uint8_t *s, uint32_t x, int n) {
     for (int i = 0; i < n; i++)
         s[i] = x >> 8 * i;
@@ -112,6 +134,7 @@ static bool make_inputs(void) {
     }
     make_cfg();
     make_scripts();
+    make_list();
     Building b = c_build(bin, BIN_BYTES, cfg, cfg_length, image, ROOM);
     image_length = b.length;
     make_packed();
@@ -265,6 +288,25 @@ static void proved_saves(void) { proved_jlp(flash_at, flash_value, SAVES); }
 static void plain_saves(void) { plain_jlp(flash_at, flash_value, SAVES); }
 static bool same_saves(void) { return same_accelerated() && !memcmp(flash[0], flash[1], sizeof flash[0]); }
 
+/* The list is run on copies of the cartridge, and of the same RAM: the state is C's struct, field by field. */
+static uint32_t words_read[2][LINES];
+_Static_assert(sizeof(LuigiState) == sizeof(Cartridge), "one layout");
+static LuigiState given;
+static LuigiRan proved_ran;
+static Cartridge run_on;
+static Ran plain_ran;
+
+static void proved_run(void) { luigi_run(&proved_ran, list, list_length, LINES, given, ram[0], WORDS, flash[0], FLASH, words_read[0], LINES); }
+static void plain_run(void) {
+    memcpy(&run_on, &given, sizeof run_on);
+    plain_ran = c_run(list, list_length, LINES, &run_on, ram[1], WORDS, flash[1], FLASH, words_read[1], LINES);
+}
+
+static bool same_run(void) {
+    return proved_ran.number == 0 && plain_ran.number == 0 && proved_ran.lines == LINES && plain_ran.lines == LINES && proved_ran.length == plain_ran.length
+        && !memcmp(&proved_ran.state, &run_on, sizeof run_on) && !memcmp(words_read[0], words_read[1], sizeof words_read[0]) && !memcmp(ram[0], ram[1], sizeof ram[0]);
+}
+
 /* ---- measuring ---- */
 
 typedef struct {
@@ -290,6 +332,7 @@ static const Row rows[] = {
     {"10 million writes to JLP RAM", 9, proved_jlp_writes, plain_jlp_writes, same_accelerated, 1e7},
     {"10 million multiplies by JLP", 9, proved_multiplies, plain_multiplies, same_accelerated, 1e7},
     {"a million writes to the flash's registers, every third a command", 9, proved_saves, plain_saves, same_saves, 1e6},
+    {"a list of a million lines, read and run", 9, proved_run, plain_run, same_run, 1e6},
     {"10 million bus reads, the cartridge by value", 3, proved_reads_by_value, plain_reads, same_heard, 1e7},
     {"10 million bus writes, the cartridge by value", 3, proved_writes_by_value, plain_writes, same_worlds, 1e7},
 };
@@ -333,6 +376,7 @@ int main(void) {
     Loading l = c_load(image, image_length, ram[1], WORDS, 0);
     memcpy(ram[0], ram[1], sizeof ram[0]);
     cartridge[0] = cartridge[1] = l.cartridge;
+    memcpy(&given, &l.cartridge, sizeof given);
     accelerated[0] = accelerated[1] = l.cartridge;
     accelerated[0].jlp = accelerated[1].jlp = (Jlp){.field = 3, .on = 1, .sectors = SECTORS};
     memset(flash, 0xFF, sizeof flash);

@@ -11,6 +11,20 @@ use Rattle.exports.proofs.luigi_reads.Reads as luigi-reads
 use Rattle.exports.proofs.luigi_reads_by_value.Reads as luigi-reads-by-value
 use Rattle.exports.proofs.luigi_writes.Reads as luigi-writes
 use Rattle.exports.proofs.luigi_writes_by_value.Reads as luigi-writes-by-value
+use Rattle.exports.proofs.lending.luigi_flash_words.Reads as luigi-flash-words
+use Rattle.exports.proofs.writer.luigi_write_image.Reads as luigi-write-image
+use Rattle.exports.proofs.lent.luigi_read.Reads as luigi-read
+use Rattle.exports.proofs.lent.luigi_write.Reads as luigi-write
+use Rattle.exports.proofs.lent.luigi_reset.Reads as luigi-reset
+use Rattle.exports.proofs.state.luigi_state.Reads as luigi-state
+use Rattle.exports.proofs.state.luigi_read_by_value.Reads as luigi-read-by-value
+use Rattle.exports.proofs.state.luigi_write_by_value.Reads as luigi-write-by-value
+use Rattle.exports.proofs.state.luigi_reset_by_value.Reads as luigi-reset-by-value
+use Rattle.exports.proofs.state.luigi_run.Reads as luigi-run
+use Rattle.exports.proofs.desk.luigi_find.Reads as luigi-find
+use Rattle.exports.proofs.desk.luigi_salvage.Reads as luigi-salvage
+use Rattle.exports.proofs.desk.luigi_drops.Reads as luigi-drops
+use Rattle.exports.proofs.desk.luigi_unbuild.Reads as luigi-unbuild
 
 pub one-dowcrc : OneAnswer luigi-dowcrc.Learnt
 one-dowcrc κs a y z e f = same
@@ -68,3 +82,102 @@ one-writes-by-value-ram κs a y z e f p q = same (p .1) (q .1)
 
 pub one-writes-by-value-flash : OneLent luigi-writes-by-value.Learnt (λ κs e. now (e .1 .1 .1 .1 .1 .0))
 one-writes-by-value-flash κs a y z e f p q = same (p .2) (q .2)
+
+pub one-flash-words : OneAnswer luigi-flash-words.Learnt
+one-flash-words κs a y z e f = same
+
+pub one-write-image : OneAnswer luigi-write-image.Learnt
+one-write-image κs a y z e f p q = same (p .0) (q .0)
+
+pub one-write-image-out : OneLent luigi-write-image.Learnt (λ κs e. now (e .1 .1 .1 .1 .1 .1 .1 .0))
+one-write-image-out κs a y z e f p q = same (p .1) (q .1)
+
+pub one-read : OneAnswer luigi-read.Learnt
+one-read κs a y z e f = same
+
+pub one-write : OneAnswer luigi-write.Learnt
+one-write κs a y z e f p q = same (p .0) (q .0)
+
+pub one-write-readable : OneLent luigi-write.Learnt (λ κs e. now (e .1 .1 .1 .0))
+one-write-readable κs a y z e f p q = same (p .1) (q .1)
+
+pub one-write-mapping : OneLent luigi-write.Learnt (λ κs e. now (e .0))
+one-write-mapping κs a y z e f p q = same (p .2) (q .2)
+
+pub one-write-permissions : OneLent luigi-write.Learnt (λ κs e. now (e .1 .0))
+one-write-permissions κs a y z e f p q = same (p .3) (q .3)
+
+pub one-write-accelerators : OneLent luigi-write.Learnt (λ κs e. now (e .1 .1 .1 .1 .0))
+one-write-accelerators κs a y z e f p q = same (p .4) (q .4)
+
+pub one-write-ram : OneLent luigi-write.Learnt (λ κs e. now (e .1 .1 .1 .1 .1 .0))
+one-write-ram κs a y z e f p q = same (p .5) (q .5)
+
+pub one-write-flash : OneLent luigi-write.Learnt (λ κs e. now (e .1 .1 .1 .1 .1 .1 .0))
+one-write-flash κs a y z e f p q = same (p .6) (q .6)
+
+pub one-reset-mapping : OneLent luigi-reset.Learnt (λ κs e. now (e .1 .1 .0))
+one-reset-mapping κs a y z e f p q = same (p .0) (q .0)
+
+pub one-reset-permissions : OneLent luigi-reset.Learnt (λ κs e. now (e .1 .1 .1 .0))
+one-reset-permissions κs a y z e f p q = same (p .1) (q .1)
+
+pub one-reset-readable : OneLent luigi-reset.Learnt (λ κs e. now (e .1 .1 .1 .1 .0))
+one-reset-readable κs a y z e f p q = same (p .2) (q .2)
+
+pub one-reset-accelerators : OneLent luigi-reset.Learnt (λ κs e. now (e .1 .1 .1 .1 .1 .0))
+one-reset-accelerators κs a y z e f p q = same (p .3) (q .3)
+
+pub one-state : OneAnswer luigi-state.Learnt
+one-state κs a y z e f = same
+
+pub one-read-by-value : OneAnswer luigi-read-by-value.Learnt
+one-read-by-value κs a y z e f = same
+
+pub one-write-by-value : OneAnswer luigi-write-by-value.Learnt
+one-write-by-value κs a y z e f p q = same (p .0) (q .0)
+
+pub one-write-by-value-ram : OneLent luigi-write-by-value.Learnt (λ κs e. now (e .1 .0))
+one-write-by-value-ram κs a y z e f p q = same (p .1) (q .1)
+
+pub one-write-by-value-flash : OneLent luigi-write-by-value.Learnt (λ κs e. now (e .1 .1 .0))
+one-write-by-value-flash κs a y z e f p q = same (p .2) (q .2)
+
+pub one-reset-by-value : OneAnswer luigi-reset-by-value.Learnt
+one-reset-by-value κs a y z e f = same
+
+pub one-run : OneAnswer luigi-run.Learnt
+one-run κs a y z e f p q = same (p .0) (q .0)
+
+pub one-run-ram : OneLent luigi-run.Learnt (λ κs e. now (e .1 .1 .1 .0))
+one-run-ram κs a y z e f p q = same (p .1) (q .1)
+
+pub one-run-flash : OneLent luigi-run.Learnt (λ κs e. now (e .1 .1 .1 .1 .0))
+one-run-flash κs a y z e f p q = same (p .2) (q .2)
+
+pub one-run-out : OneLent luigi-run.Learnt (λ κs e. now (e .1 .1 .1 .1 .1 .0))
+one-run-out κs a y z e f p q = same (p .3) (q .3)
+
+pub one-find : OneAnswer luigi-find.Learnt
+one-find κs a y z e f = same
+
+pub one-salvage : OneAnswer luigi-salvage.Learnt
+one-salvage κs a y z e f p q = same (p .0) (q .0)
+
+pub one-salvage-out : OneLent luigi-salvage.Learnt (λ κs e. now (e .1 .0))
+one-salvage-out κs a y z e f p q = same (p .1) (q .1)
+
+pub one-drops : OneAnswer luigi-drops.Learnt
+one-drops κs a y z e f p q = same (p .0) (q .0)
+
+pub one-drops-places : OneLent luigi-drops.Learnt (λ κs e. now (e .1 .0))
+one-drops-places κs a y z e f p q = same (p .1) (q .1)
+
+pub one-unbuild : OneAnswer luigi-unbuild.Learnt
+one-unbuild κs a y z e f p q = same (p .0) (q .0)
+
+pub one-unbuild-bin : OneLent luigi-unbuild.Learnt (λ κs e. now (e .1 .0))
+one-unbuild-bin κs a y z e f p q = same (p .1) (q .1)
+
+pub one-unbuild-cfg : OneLent luigi-unbuild.Learnt (λ κs e. now (e .1 .1 .0))
+one-unbuild-cfg κs a y z e f p q = same (p .2) (q .2)

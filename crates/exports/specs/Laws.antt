@@ -1,2 +1,4 @@
 -- Theorems over the definitions.
 pub mod Runs
+pub mod States
+pub mod Told

@@ -1,5 +1,10 @@
 pub mod Accelerators
 pub mod Loads
+pub mod Lending
 pub mod Builds
 pub mod Runs
+pub mod States
+pub mod Images
+pub mod Desk
+pub mod Code
 pub mod Laws

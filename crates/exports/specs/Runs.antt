@@ -8,9 +8,7 @@ use Rattle.places.specs.Places.{console}
 use Rattle.switches.specs.Flips.{active}
 use Rattle.jlp.specs.declared.Jlp.{Jlp}
 use Rattle.cart.specs.declared.Cartridge.{Cartridge}
-use Rattle.cart.specs.declared.Answer.{Answer}
-use Rattle.cart.specs.declared.Answer.the-variants.{Word, Silence}
-use Rattle.cart.specs.Reads.{readBy}
+use Rattle.cart.specs.Reads.{heard, readBy}
 use Rattle.cart.specs.Writes.{assigned}
 use Rattle.cart.specs.Cartridges.{assembled, activeOf}
 use Rattle.cart.specs.Run.{Access, Write, World, after}
@@ -24,11 +22,6 @@ activeAs c = record { mapping = c .mapping; permissions = c .permissions; readab
 -- a cartridge of lent tables, that keeps this number of readable paragraphs and these accelerators
 abbrev pub carried : List ℕ → List ℕ → List ℕ → ℕ → Jlp → Cartridge
 carried mapping permissions flips readable j = assembled (active mapping permissions) (active mapping permissions) flips readable j
-
--- an answer as one number: a word as it is, silence above every word
-abbrev pub heard : Answer → ℕ
-heard (Word w) = w
-heard Silence = 65536
 
 abbrev pub address : List ℕ → ℕ → Console
 address at i = console (getD at i 0)

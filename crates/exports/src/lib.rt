@@ -1,4 +1,11 @@
-// The proved crates as a C program calls them: a slice is a pointer and a length, a struct is laid out as C's.
+// The proved crates as a C program calls them: a slice is a pointer and a length, a struct is laid out as C's. Here the sums, load and build, and runs of reads
+// and writes; in the rooms one access at a time, all of a cartridge in one struct, the writer, and what else the desk does. include/luigi.h declares them all.
+mod desk;
+mod lending;
+mod lent;
+mod state;
+mod writer;
+
 ghost use Prim.Native.Nat.{min, _≤_};
 ghost use mathlib.Core.Path.{_≡_};
 ghost use lib.ListN.{length};
@@ -7,12 +14,14 @@ ghost use Rattle.sums.specs.Crc.{dowcrcOf, crc324Of, crc32Of};
 ghost use Rattle.cart.specs.Cartridges.{fresh};
 ghost use Rattle.load.specs.Load.{loadingOf, loadRamOf};
 ghost use Rattle.build.specs.Building.{buildingOf, builtOf};
+ghost use Rattle.switches.specs.Flips.{active};
+ghost use Rattle.cart.specs.Writes.{leaves, leavesRam, leavesFlash, leavesReadable};
+ghost use Rattle.exports.specs.Code.Told.{told, entriesOf};
 ghost use Rattle.exports.specs.Accelerators.{oneIf, wordsOf, jlpFrom};
 ghost use Rattle.exports.specs.Loads.{fieldsOf, loadedOf};
 ghost use Rattle.exports.specs.Builds.{builtAs};
-ghost use Rattle.exports.specs.Runs.{activeAs, heard, answersIn, carried, numbered, numberedWrites, activeAfter, ramAfter, flashAfter};
+ghost use Rattle.exports.specs.Runs.{activeAs, answersIn, carried, numbered, numberedWrites, activeAfter, ramAfter, flashAfter};
 use build::Building;
-use cart::Answer;
 use cart::Cartridge;
 use flash::Saves;
 use header::Compat;
@@ -257,16 +266,6 @@ fn active_as(c: Cartridge) -> Active
     }
 }
 
-// An answer as one number: a word as it is, silence above every word.
-fn heard_as(a: Answer) -> u32
-    ensures { λ r. ⌜ r ≡ heard a ⌝ }
-{
-    match a {
-        Answer::Word(w) => w as u32,
-        Answer::Silence => 65536,
-    }
-}
-
 // Reads at the addresses of `at`, one after the other, by these tables and accelerators; the answers go to the first words of `out`.
 #[no_mangle]
 pub extern "C" fn luigi_reads<'a>(
@@ -281,7 +280,12 @@ pub extern "C" fn luigi_reads<'a>(
 {
     let j = jlp_from(accelerators);
     for i in 0..basics::least(at.len(), out.len()) {
-        out[i] = heard_as(cart::read_by(mapping, permissions, j, ram, Console(at[i])));
+        let a = Console(at[i]);
+        let mut n = direct::read(mapping, permissions, j.on, ram, a);
+        if n == direct::ASKED {
+            n = cart::heard(cart::read_by(mapping, permissions, j, ram, a));
+        }
+        out[i] = n;
     }
 }
 
@@ -300,7 +304,7 @@ pub extern "C" fn luigi_reads_by_value<'a>(
 {
     let c = fresh(mapping, permissions, flips, accelerators);
     for i in 0..basics::least(at.len(), out.len()) {
-        out[i] = heard_as(cart::read(c, ram, Console(at[i])));
+        out[i] = cart::heard(cart::read(c, ram, Console(at[i])));
     }
 }
 
@@ -308,6 +312,58 @@ fn least_of(a: usize, b: usize, c: usize) -> usize
     ensures { λ r. ⌜ (r ≡ min (min a b) c) × (r ≤ a) × (r ≤ b) × (r ≤ c) ⌝ }
 {
     basics::least(basics::least(a, b), c)
+}
+
+// That a write went to a register of the accelerators, where it answers how many mapping entries it assigned: above all such numbers.
+const LATCHED: u8 = 255;
+
+// One write of a run, by the short way where there is one. What it leaves of the accelerators is told apart, so that a store copies nothing of them.
+fn write_one<'a>(
+    mapping: &'a mut [u16; PARAGRAPHS],
+    permissions: &'a mut [u8; PARAGRAPHS],
+    flips: &'a [u16; FLIP_ENTRIES],
+    readable: &'a mut u16,
+    j: Jlp,
+    ram: &mut [u16],
+    flash: &mut [u16],
+    at: Console,
+    value: u16,
+) -> u8
+    ensures { λ r. ⌜ (r ≡ told j (active (now (mapping .entry)) (now (permissions .entry))) (now (flips .entry)) at value)
+        × (now (readable .exit) ≡ leavesReadable j (active (now (mapping .entry)) (now (permissions .entry))) (now (flips .entry)) (now (readable .entry)) at value)
+        × (now (mapping .exit) ≡ leaves j (active (now (mapping .entry)) (now (permissions .entry))) (now (flips .entry)) at value .mapping)
+        × (now (permissions .exit) ≡ leaves j (active (now (mapping .entry)) (now (permissions .entry))) (now (flips .entry)) at value .permissions)
+        × (now (ram .exit) ≡ leavesRam j (active (now (mapping .entry)) (now (permissions .entry))) (now (flips .entry)) (now (flash .entry)) (now (ram .entry)) at value)
+        × (now (flash .exit) ≡ leavesFlash j (active (now (mapping .entry)) (now (permissions .entry))) (now (flips .entry)) (now (flash .entry)) (now (ram .entry)) at value) ⌝ }
+{
+    if direct::store(mapping, permissions, j.on, ram, at, value) {
+        return 0;
+    }
+    let n = cart::write_by(
+        mapping,
+        permissions,
+        flips,
+        readable,
+        j,
+        ram,
+        flash,
+        at,
+        value,
+    );
+    if jlp::latches(j, at, value) {
+        return LATCHED;
+    }
+    n
+}
+
+// How many mapping entries a write assigned, by what it told.
+fn entries_of(n: u8) -> u8
+    ensures { λ r. ⌜ r ≡ entriesOf n ⌝ }
+{
+    if n == LATCHED {
+        return 0;
+    }
+    n
 }
 
 // Writes of the words of `value` to the addresses of `at`, one after the other, by these tables, the number of paragraphs that can be read and the
@@ -337,8 +393,9 @@ pub extern "C" fn luigi_writes(
     for i in 0..least_of(at.len(), value.len(), assigned.len()) {
         let a = Console(at[i]);
         let v = value[i];
-        assigned[i] = cart::write_by(mapping, permissions, flips, readable, j, ram, flash, a, v);
-        if jlp::latches(j, a, v) {
+        let n = write_one(mapping, permissions, flips, readable, j, ram, flash, a, v);
+        assigned[i] = entries_of(n);
+        if n == LATCHED {
             j = jlp::write(j, a, v);
         }
     }

@@ -1,12 +1,14 @@
 -- `exports::luigi_reads` meets its contract. The invariant: the first i words of `out` are the answers to the first i reads.
 use Prim.Native.Nat.{_≤_, _-_}
-use mathlib.Core.Path.{_≡_}
+use mathlib.Core.Path.{_≡_, ap, _∙_}
+use mathlib.Core.Logic.{⊎-elim}
 use native.Mathlib.Nat.{min-le-left, min-le-right}
 use native.Mathlib.Omega.{arith}
 use lib.ListN.{length}
 use borrow.Author.Needs.{needs}
 use Rattle.exports.specs.Runs.{answered}
-use Rattle.exports.specs.Laws.Runs.{answered-none, answered-one}
+use Rattle.cart.specs.Reads.{heard}
+use Rattle.exports.specs.Laws.Runs.{answered-none, answered-heard, answered-direct}
 use Rattle.exports.proofs.luigi_reads.Statement.{statement}
 use Rattle.exports.proofs.luigi_reads.Tie as tie
 
@@ -20,8 +22,18 @@ abbrev μ-loop : tie.MeasureT-loop
 loop-holds : tie.Need-loop-holds Inv-loop μ-loop
 loop-holds c = search (needs, c .least .ensures, min-le-left, min-le-right, answered-none)
 
+-- what is laid is what was heard, by the short way or by the long one
 loop-again : tie.Need-loop-again Inv-loop μ-loop
-loop-again c = search (needs, answered-one)
+loop-again c = (
+  (search needs),
+  (search needs),
+  (search needs),
+  (search needs),
+  (⊎-elim
+      (λ w. search (answered-heard, w .3 ∙ w .2 .ensures ∙ ap heard (w .1 .ensures)))
+      (λ w. search (answered-direct, w .1, w .0 .left, c .before .read .ensures))
+      (c .if1 .came)),
+)
 
 returns : tie.Need-returns Inv-loop μ-loop
 returns c =
@@ -39,6 +51,7 @@ luigi-reads-spec =
     loop-holds
     (λ c. search needs)
     (λ c. search needs)
+    (λ c κs. search needs)
     (λ c κs. search needs)
     (λ c κs. search needs)
     (λ c. search needs)

@@ -26,7 +26,7 @@ loop-again c = (
   (search needs),
   (search needs),
   (search needs),
-  (search (answered-one, c .heard-as .ensures, c .before .read .ensures)),
+  (search (answered-one, c .heard .ensures, c .before .read .ensures)),
 )
 
 returns : tie.Need-returns Inv-loop μ-loop

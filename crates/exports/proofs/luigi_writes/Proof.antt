@@ -7,7 +7,8 @@ use native.Mathlib.Omega.{arith}
 use lib.ListN.{length}
 use borrow.Author.Needs.{needs}
 use Rattle.exports.specs.Accelerators.{jlpFrom}
-use Rattle.exports.specs.Laws.Runs.{Ran, passed-by, ran-none, ran-one, ran-last}
+use Rattle.exports.specs.Laws.Runs.{Ran, ran-none, ran-one, ran-last}
+use Rattle.exports.specs.Laws.Told.{passed-by}
 use Rattle.exports.specs.Runs.{carried}
 use Rattle.exports.proofs.luigi_writes.Statement.{statement}
 use Rattle.exports.proofs.luigi_writes.Tie as tie
@@ -42,8 +43,8 @@ loop-again c = (
   (search needs),
   (search needs),
   (⊎-elim
-      (λ w. search (ran-one, w .2 ∙ w .1 .ensures, c .before .before .before .before .before .before .write-by .ensures))
-      (λ w. search (ran-one, w .1 ∙ passed-by _ _ _ _ (c .before .latches .ensures) (w .0 .left), c .before .before .before .before .before .before .write-by .ensures))
+      (λ w. search (ran-one, w .2 ∙ w .1 .ensures, c .before .before .before .before .before .before .write-one .ensures, c .before .entries-of .ensures))
+      (λ w. search (ran-one, w .1 ∙ passed-by _ _ _ _ _ _ (c .before .before .before .before .before .before .write-one .ensures .0) (w .0 .left), c .before .before .before .before .before .before .write-one .ensures, c .before .entries-of .ensures))
       (c .if1 .came)),
 )
 
@@ -66,8 +67,8 @@ luigi-writes-spec =
     (λ c. search needs)
     (λ c. search needs)
     (λ c κs. search needs)
-    (λ c. search needs)
     (λ c κs. search needs)
+    (λ c. search needs)
     (λ c κs. search needs)
     (λ c. search needs)
     (λ c. search needs)

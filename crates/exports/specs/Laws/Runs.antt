@@ -1,33 +1,44 @@
 -- One access more, after a run of them.
 use Prim.Native.Nat.{ℕ, _+_}
 use mathlib.Core.List.{List, _∷_, []}
-use mathlib.Core.Bool.{Bool, false}
-use mathlib.Core.Path.{_≡_, refl, sym, ap, _∙_}
+use mathlib.Core.Path.{_≡_, refl, ap, _∙_}
 use native.Mathlib.Omega.{arith}
 use native.Mathlib.Numerals.{add-one}
 use lib.ListN.{set, getD}
 use Rattle.basics.specs.Lists.{laid}
 use Rattle.basics.specs.Laws.Lists.{laid-more}
-use Rattle.places.specs.declared.Console.{Console}
 use Rattle.switches.specs.Flips.{active}
 use Rattle.jlp.specs.declared.Jlp.{Jlp}
-use Rattle.jlp.specs.Accelerators.{latches, writtenJlp}
-use Rattle.jlp.specs.Laws.Accelerators.{unlatched}
+use Rattle.jlp.specs.Accelerators.{writtenJlp}
 use Rattle.cart.specs.declared.Answer.{Answer}
 use Rattle.cart.specs.declared.Cartridge.{Cartridge}
-use Rattle.cart.specs.Reads.{readBy}
+use Rattle.cart.specs.Reads.{heard, readBy}
 use Rattle.cart.specs.Writes.{leaves, leavesRam, leavesFlash, assigned, leavesReadable}
 use Rattle.cart.specs.declared.Written.{Written}
 use Rattle.cart.specs.Cartridges.{writtenOf, writeRamOf, writeFlashOf}
 use Rattle.cart.specs.Run.{World, step, Write}
 use Rattle.cart.specs.Laws.Run.{after-append}
+use Rattle.direct.specs.Direct.{asked, hears, readReach}
+use Rattle.direct.specs.Laws.Direct.{read-direct}
 use Rattle.exports.specs.Accelerators.{wordsOf}
-use Rattle.exports.specs.Runs.{answered, address, heard, carried, written, writes, assignedAt, numbered}
+use Rattle.exports.specs.Code.Told.{told, entriesOf}
+use Rattle.exports.specs.Laws.Told.{entries-told}
+use Rattle.exports.specs.Runs.{answered, address, carried, written, writes, assignedAt, numbered}
 
 module _ (j : Jlp) (mapping permissions ram at out : List ℕ) where
   pub answered-none : out ≡ answered j mapping permissions ram at 0 out
   unfolding answered laid
   answered-none = refl
+
+  pub answered-heard :
+      (t : List ℕ) (i x : ℕ)
+      → t ≡ answered j mapping permissions ram at i out
+      → x ≡ heard (readBy j (active mapping permissions) ram (address at i))
+      → set t i x ≡ answered j mapping permissions ram at (i + 1) out
+  unfolding answered
+  answered-heard t i x e f =
+      let z : 0 + i ≡ i = omega arith in
+      rw z at (laid-more 0 (λ n. heard (readBy j (active mapping permissions) ram (address at n))) out i t x e f)
 
   pub answered-one :
       (t : List ℕ) (i : ℕ) (a : Answer) (x : ℕ)
@@ -35,14 +46,16 @@ module _ (j : Jlp) (mapping permissions ram at out : List ℕ) where
       → a ≡ readBy j (active mapping permissions) ram (address at i)
       → x ≡ heard a
       → set t i x ≡ answered j mapping permissions ram at (i + 1) out
-  unfolding answered
-  answered-one t i a x e f g =
-      let z : 0 + i ≡ i = omega arith in
-      rw z at (laid-more 0 (λ n. heard (readBy j (active mapping permissions) ram (address at n))) out i t x e (rw (g, f)))
+  answered-one t i a x e f g = answered-heard t i x e (g ∙ ap heard f)
 
--- a write that goes to no register of the accelerators leaves them
-pub passed-by : (j : Jlp) (at : Console) (v : ℕ) (b : Bool) → b ≡ latches j at v → b ≡ false → j ≡ writtenJlp j at v
-passed-by j at v b e f = sym (unlatched j at v (sym e ∙ f))
+  pub answered-direct :
+      (t : List ℕ) (i x n : ℕ)
+      → t ≡ answered j mapping permissions ram at i out
+      → n ≡ hears (readReach (j .on) (active mapping permissions) (address at i)) ram
+      → (n ≡ asked → ⊥)
+      → x ≡ n
+      → set t i x ≡ answered j mapping permissions ram at (i + 1) out
+  answered-direct t i x n e f g h = answered-heard t i x e (h ∙ read-direct j (active mapping permissions) (address at i) ram n f g)
 
 -- lent tables, the number that goes with them, accelerators, RAM and flash that are a world's
 pub record Lent (w : World) (mapping permissions flips : List ℕ) (readable : ℕ) (j : Jlp) (ram flash : List ℕ) : Type 0 where
@@ -137,20 +150,21 @@ pub record Ran (c : Cartridge) (ram flash at v out : List ℕ) (n : ℕ) (mappin
 
 module _ (c : Cartridge) (ram flash at v out : List ℕ) where
   pub ran-one :
-      (n : ℕ) (m p f : List ℕ) (r : ℕ) (j : Jlp) (k s t x y : List ℕ) (q : ℕ) (l : Jlp) (z w : List ℕ) (u : ℕ)
+      (n : ℕ) (m p f : List ℕ) (r : ℕ) (j : Jlp) (k s t x y : List ℕ) (q : ℕ) (l : Jlp) (z w : List ℕ) (g u : ℕ)
       → Ran c ram flash at v out n m p f r j k s t
-      → (u ≡ assigned j (active m p) f (address at n) (getD v n 0))
+      → (g ≡ told j (active m p) f (address at n) (getD v n 0))
       × (q ≡ leavesReadable j (active m p) f r (address at n) (getD v n 0))
       × (x ≡ leaves j (active m p) f (address at n) (getD v n 0) .mapping)
       × (y ≡ leaves j (active m p) f (address at n) (getD v n 0) .permissions)
       × (z ≡ leavesRam j (active m p) f s k (address at n) (getD v n 0))
       × (w ≡ leavesFlash j (active m p) f s k (address at n) (getD v n 0))
+      → u ≡ entriesOf g
       → l ≡ writtenJlp j (address at n) (getD v n 0)
       → Ran c ram flash at v out (n + 1) x y f q l z w (set t n u)
-  ran-one n m p f r j k s t x y q l z w u a h e =
+  ran-one n m p f r j k s t x y q l z w g u a h b e =
       record {
         lent = lent-one c ram flash at v n m p f r j k s x y q l z w (a .lent) (h .1) (h .2) (h .3) (h .4) (h .5) e;
-        reported = numbered-one c ram flash at v out n m p f r j k s t u (a .lent) (a .reported) (h .0);
+        reported = numbered-one c ram flash at v out n m p f r j k s t u (a .lent) (a .reported) (entries-told j (active m p) f (address at n) (getD v n 0) g u (h .0) b);
       }
 
   pub ran-last :
