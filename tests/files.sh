@@ -1309,6 +1309,54 @@ a_list_for_no_image() {
     says '^code=2$'
 }
 
+# ---- maps
+a_map() {
+    run "$luigi" map "$work/new"
+    status_is 0
+    cmp -s said "$here/examples/four_in_one.map" || differs "the map is not that of examples/four_in_one.map"
+}
+a_map_of_a_title_without_pages() {
+    printf '[mapping]\n$0000 - $00FF = $5000\n' >plain.cfg
+    "$luigi" press other.bin plain.cfg plain >log 2>&1 || differs "the title cannot be pressed"
+    run "$luigi" map plain
+    status_is 0
+    says '^\$5   #\( \.\)\{15\}$'
+    says '^words=256$'
+    says '^flash=0$'
+    if grep -q '^pages' said; then differs "it speaks of pages"; fi
+}
+a_map_of_a_damaged_image() {
+    head -c 2000 "$work/new" >cut
+    run "$luigi" map cut
+    status_is 1
+    says '^code=5$'
+    says '^cut, byte [0-9]*: '
+}
+a_map_of_no_image() {
+    run "$luigi" map title.cfg
+    status_is 1
+    says '^code=2$'
+}
+a_map_of_a_file_that_is_missing() {
+    run "$luigi" map nothing
+    status_is 2
+    one_sentence
+    tells 'nothing cannot be opened'
+}
+a_map_of_a_folder() {
+    mkdir folder
+    run "$luigi" map folder
+    status_is 2
+    one_sentence
+    tells 'folder is a folder'
+}
+a_map_that_cannot_be_read() {
+    run faulty read:2:5 "$luigi" map "$work/new"
+    status_is 2
+    one_sentence
+    tells 'cannot be read to its end'
+}
+
 # ---- the images that the cases are held against
 cp examples/four_in_one.bin "$work/title.bin"
 cp examples/four_in_one.cfg "$work/title.cfg"

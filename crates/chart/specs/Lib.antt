@@ -1,0 +1,3 @@
+-- What shows at each paragraph.
+pub mod Chart
+pub mod Laws
