@@ -3,16 +3,16 @@
 from dataclasses import dataclass, replace
 from typing import Iterator, Sequence
 
-import hunk
-from builder import BIN_LIMIT, PERMISSIONS, flippable, lay_out, make_tables, paragraphs_of, plain_kinds
+from builder import BIN_LIMIT, PAGED, PERMISSIONS, lay_out, locutus_paragraphs, make_tables, page_range, plain_kinds
 from cfg import MOST_ENTRIES, Entry
-from load import DATA_HUNK, LOCUTUS_WORDS, blocks_of, jlp_field, load
-from machine import silent
+from load import DATA_HUNK, LOCUTUS_WORDS, accept_in_full, blocks_of, decode_hunk, jlp_field
+from machine import flippable, silent
 from refusal import Refused
 from tables import Tables
-from titles import PAGED
+from words import be16
 
 KINDS = {permissions: kind for kind, permissions in PERMISSIONS.items()}
+RAM_KINDS = ("ram16", "ram8")
 Named = dict[int, int]
 Plan = tuple[Entry, ...]
 
@@ -32,7 +32,7 @@ def named_words(image: bytes) -> Named:
     named: Named = {}
     for block in blocks_of(image):
         if block.kind == DATA_HUNK:
-            address, words = hunk.decode(block.payload) or (0, [])
+            address, words = decode_hunk(block, LOCUTUS_WORDS)
             named.update(enumerate(words, address))
     return named
 
@@ -45,8 +45,8 @@ def paragraph_entry(paragraph: int, kind: str) -> Entry:
 
 def page_entry(chapter: int, page: int) -> Entry:
     """Give a PAGE line; its BIN words come later (01, What a CFG may say)."""
-    first = 256 * flippable(chapter)[0]
-    return Entry(0, "rom", 0, 256 * len(flippable(chapter)) - 1, first, page)
+    whole = page_range(chapter)
+    return Entry(0, "rom", 0, len(whole) - 1, whole[0], page)
 
 
 def plain_entries(tables: Tables, paragraphs: Sequence[int]) -> list[Entry]:
@@ -88,20 +88,19 @@ def plans(tables: Tables, chapter: int = 0, so_far: Plan = ()) -> Iterator[Plan]
             yield from plans(tables, chapter + 1, plan)
 
 
-def locutus(entry: Entry, layout: dict) -> list[int]:
-    """Give the Locutus paragraphs of a line (01, How an image is laid out)."""
-    return [16 * layout[(p >> 4, entry.page)] + p % 16 for p in paragraphs_of(entry)]
+def locutus_words(lines: Sequence[Entry], kinds: Sequence[str]) -> list[int]:
+    """Give the Locutus addresses of all words of the lines of some kinds (01, How an image is laid out)."""
+    layout = lay_out(lines)
+    return [256 * p + word for line in lines if line.kind in kinds for p in locutus_paragraphs(line, layout)
+            for word in range(256)]
 
 
 def holds_words(plan: Plan, named: Named) -> bool:
     """Tell whether the plan covers just the named words, RAM's being 0 (READINGS W213-12, W213-13)."""
-    layout = lay_out(plan)
-    covered = [256 * p + word for entry in plan for p in locutus(entry, layout) for word in range(256)]
+    covered = locutus_words(plan, ("rom", *RAM_KINDS))
     if len(covered) != len(named) or any(word not in named for word in covered):
         return False
-    ram = [256 * p + word for entry in plan if entry.kind != "rom" for p in locutus(entry, layout)
-           for word in range(256)]
-    return all(named[word] == 0 for word in ram)
+    return all(named[word] == 0 for word in locutus_words(plan, RAM_KINDS))
 
 
 def joined(plan: Plan) -> list[Entry]:
@@ -128,7 +127,7 @@ def placed(lines: list[Entry]) -> list[Entry]:
     return found
 
 
-def spelt_line(line: Entry) -> str:
+def spell_line(line: Entry) -> str:
     """Spell a line in 01's form (02, W-213; READINGS W213-1 to W213-3)."""
     if line.kind != "rom":
         return f"${line.lo:04X} - ${line.hi:04X} = RAM {line.kind[3:]}"
@@ -136,19 +135,16 @@ def spelt_line(line: Entry) -> str:
     return f"${line.lo:05X} - ${line.hi:05X} = ${line.address:04X}{page}"
 
 
-def spelt_cfg(lines: list[Entry]) -> bytes:
+def spell_cfg(lines: list[Entry]) -> bytes:
     """Spell a CFG, each section named once if used (02, W-213)."""
-    rom, ram = ([spelt_line(line) for line in lines if (line.kind == "rom") == wanted] for wanted in (True, False))
+    rom, ram = ([spell_line(line) for line in lines if (line.kind == "rom") == wanted] for wanted in (True, False))
     text = (["[mapping]"] + rom if rom else []) + (["[memattr]"] + ram if ram else [])
     return "".join(line + "\n" for line in text).encode()
 
 
 def bin_of(lines: list[Entry], named: Named) -> bytes:
     """Write the words of the lines, high byte first; one zero word if there are none (READINGS W213-8, W213-9)."""
-    layout = lay_out(lines)
-    words = [named[256 * p + word] for line in lines if line.kind == "rom" for p in locutus(line, layout)
-             for word in range(256)]
-    return b"".join(word.to_bytes(2, "big") for word in words or [0])
+    return be16([named[word] for word in locutus_words(lines, ("rom",))] or [0])
 
 
 def chosen(image: bytes, tables: Tables, flags: bytes) -> list[Entry]:
@@ -164,14 +160,12 @@ def chosen(image: bytes, tables: Tables, flags: bytes) -> list[Entry]:
 
 def sources_of(image: bytes) -> tuple[bytes, bytes]:
     """Give BIN and CFG, or a load's refusal, 31 or 32 (02, W-213)."""
-    loaded = load(image, [0] * LOCUTUS_WORDS, None)
-    if loaded.number:
-        raise Refused(loaded.number, loaded.place)
+    loaded = accept_in_full(image)
     lines = chosen(image, loaded.tables, loaded.flags)
     bin_file = bin_of(lines, named_words(image))
     if len(bin_file) > BIN_LIMIT:
         raise Refused(32, 0)
-    return bin_file, spelt_cfg(lines)
+    return bin_file, spell_cfg(lines)
 
 
 def back(image: bytes, bin_buffer: bytearray, cfg_buffer: bytearray) -> Sources:

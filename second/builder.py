@@ -2,20 +2,21 @@
 
 from dataclasses import dataclass
 from functools import lru_cache
-from struct import unpack
-from typing import Optional, Sequence
+from typing import Iterator, Optional, Sequence
 
 from cfg import Entry, read_cfg
 from checksums import crc32
 from load import LOCUTUS_WORDS
-from machine import SILENT
+from machine import SILENT, flippable, flipped
 from refusal import Refused
-from tables import PFE, READ, Tables
+from tables import NARROW, PFE, READ, WRITE, Tables
+from words import bin_words
 from writer import check_label, compose, put
 
 BIN_LIMIT = 524_288
 FLAGS = b"\x55\x05" + bytes(14)
-PERMISSIONS = {"rom": 1, "ram16": 3, "ram8": 7}
+PERMISSIONS = {"rom": READ, "ram16": READ | WRITE, "ram8": READ | WRITE | NARROW}
+PAGED = [2, *range(4, 16)]
 Layout = dict[tuple[int, Optional[int]], int]
 
 
@@ -44,14 +45,17 @@ def check_range(entry: Entry, bin_words: int) -> None:
         raise Refused(25, entry.line)
 
 
+def page_range(chapter: int) -> range:
+    """Give the addresses of a chapter's PAGE lines: all of it, or $4800-$4FFF (01, What a CFG may say)."""
+    return range(256 * flippable(chapter)[0], 4096 * chapter + 4096)
+
+
 def shape_allowed(entry: Entry) -> bool:
     """Tell whether a line's start and length are of its kind (01, What a CFG may say)."""
     if entry.page is None:
         return entry.address % 256 == 0 and entry.count % 256 == 0
-    if entry.address == 0x4800:
-        return entry.count == 2048
-    usual = entry.chapter == 2 or entry.chapter >= 5
-    return usual and entry.address % 4096 == 0 and entry.count == 4096
+    whole = page_range(entry.chapter)
+    return entry.chapter in PAGED and (entry.address, entry.count) == (whole[0], len(whole))
 
 
 def check_shape(entry: Entry) -> None:
@@ -70,11 +74,17 @@ def shares(entry: Entry, earlier: Entry) -> bool:
     return paged and entry.chapter == earlier.chapter
 
 
-def check_shared(entries: Sequence[Entry]) -> None:
-    """Ask 27 of the lines in order (01, refusal 27; READINGS C16)."""
+def lines_sharing(entries: Sequence[Entry]) -> Iterator[int]:
+    """Give the lines that share with an earlier one, in order (01, refusal 27; READINGS C16)."""
     for which, entry in enumerate(entries):
         if any(shares(entry, earlier) for earlier in entries[:which]):
-            raise Refused(27, entry.line)
+            yield entry.line
+
+
+def check_shared(entries: Sequence[Entry]) -> None:
+    """Ask 27 (01, refusal 27)."""
+    for line in lines_sharing(entries):
+        raise Refused(27, line)
 
 
 def paragraphs_of(entry: Entry) -> range:
@@ -92,18 +102,19 @@ def paged_chapters(entries: Sequence[Entry]) -> list[int]:
     return sorted({entry.chapter for entry in entries if entry.page is not None})
 
 
-def flippable(chapter: int) -> range:
-    """Give the paragraphs of a chapter's flippable range (01, What a CFG may say)."""
-    return range(16 * chapter + (8 if chapter == 4 else 0), 16 * chapter + 16)
-
-
-def check_paged_chapters(entries: Sequence[Entry]) -> None:
-    """Ask 28 of the chapters in order (01, refusal 28; READINGS C17)."""
+def chapters_broken(entries: Sequence[Entry]) -> Iterator[int]:
+    """Give the paged chapters whose plain lines break the rule, rising (01, refusal 28; READINGS C17)."""
     kinds = plain_kinds(entries)
     for chapter in paged_chapters(entries):
         here = {kinds.get(paragraph) for paragraph in flippable(chapter)}
         if here != {"rom"} and here != {None}:
-            raise Refused(28, chapter)
+            yield chapter
+
+
+def check_paged_chapters(entries: Sequence[Entry]) -> None:
+    """Ask 28 (01, refusal 28)."""
+    for chapter in chapters_broken(entries):
+        raise Refused(28, chapter)
 
 
 def lay_out(entries: Sequence[Entry]) -> Layout:
@@ -118,6 +129,12 @@ def lay_out(entries: Sequence[Entry]) -> Layout:
 def words_needed(entries: Sequence[Entry]) -> int:
     """Count 4,096 words for each Locutus page (01, How an image is laid out; 02, W-210)."""
     return 4096 * len(lay_out(entries))
+
+
+def check_pages(entries: Sequence[Entry]) -> None:
+    """Ask 20 (02, W-210)."""
+    if words_needed(entries) > LOCUTUS_WORDS:
+        raise Refused(20, 0)
 
 
 def flip_entry(chapter: int, page: int, layout: Layout, kinds: dict[int, str]) -> int:
@@ -139,26 +156,19 @@ def make_tables(entries: Sequence[Entry], layout: Layout) -> Tables:
         row = [flip_entry(chapter, page, layout, kinds) for page in range(16)]
         tables.flips[16 * chapter:16 * chapter + 16] = row
         for paragraph in flippable(chapter):
-            tables.mapping[paragraph] = (row[0] & 0xFFF0) + paragraph % 16
-            tables.permissions[paragraph] = row[0] & 7
+            tables.mapping[paragraph], tables.permissions[paragraph] = flipped(row[0], paragraph % 16)
     return tables
 
 
-def bin_words(bin_file: bytes, first: int, count: int) -> list[int]:
-    """Read BIN words, high byte first (01, File layout)."""
-    return list(unpack(f">{count}H", bin_file[2 * first:2 * (first + count)]))
+def locutus_paragraphs(entry: Entry, layout: Layout) -> list[int]:
+    """Give the Locutus paragraphs of a line (01, How an image is laid out)."""
+    return [16 * layout[(p >> 4, entry.page)] + p % 16 for p in paragraphs_of(entry)]
 
 
 def entry_hunks(entry: Entry, layout: Layout, bin_file: bytes) -> list[tuple[int, list[int]]]:
     """Give Locutus paragraph and words of each paragraph of a line (01, How an image is laid out)."""
-    hunks = []
-    for which, paragraph in enumerate(paragraphs_of(entry)):
-        first = entry.lo + 256 * which
-        words = [0] * 256
-        if entry.kind == "rom":
-            words = bin_words(bin_file, first, 256)
-        hunks.append((16 * layout[(paragraph >> 4, entry.page)] + paragraph % 16, words))
-    return hunks
+    words = [0] * entry.count if entry.kind != "rom" else bin_words(bin_file[2 * entry.lo:2 * entry.hi + 2])
+    return [(p, words[256 * n:256 * n + 256]) for n, p in enumerate(locutus_paragraphs(entry, layout))]
 
 
 def checked_entries(bin_file: bytes, cfg: bytes) -> tuple[Entry, ...]:
@@ -170,8 +180,7 @@ def checked_entries(bin_file: bytes, cfg: bytes) -> tuple[Entry, ...]:
         check_shape(entry)
     check_shared(entries)
     check_paged_chapters(entries)
-    if words_needed(entries) > LOCUTUS_WORDS:
-        raise Refused(20, 0)
+    check_pages(entries)
     return tuple(entries)
 
 
@@ -186,13 +195,10 @@ def make_image(bin_file: bytes, cfg: bytes, entries: tuple[Entry, ...], label: b
 
 def build(bin_file: bytes, cfg: bytes, buffer: bytearray, label: bytes = b"") -> Built:
     """Build a title into the buffer, or answer number and place (01, Build order; 02, W-204, W-210)."""
-    length = 0
     try:
         entries = checked_entries(bin_file, cfg)
         check_label(label)
         image = make_image(bin_file, cfg, entries, label)
-        length = len(image)
-        put(image, buffer)
-        return Built(0, 0, length, words_needed(entries))
+        return Built(0, 0, put(image, buffer), words_needed(entries))
     except Refused as refused:
-        return Built(refused.number, refused.place, length)
+        return Built(refused.number, refused.place, refused.length)

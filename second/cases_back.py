@@ -1,24 +1,23 @@
-"""Cases on the way back to BIN and CFG (02, W-213; README.md, back)."""
+"""Cases on the way back to BIN and CFG: the family back (02, W-213; RECORDS.md, Families)."""
 
 from dataclasses import dataclass, field
 from typing import Iterator
 
 import hunk
 from back import back
-from builder import checked_entries, entry_hunks, lay_out, make_tables
-from cases_images import Case, jlp_flags
-from cases_metadata import metadata
-from encode import Draft, DraftBlock, hunk_block, tables_block
-from families import back_record
+from builder import checked_entries, entry_hunks, lay_out, make_tables, page_range
+from drafts import Draft, DraftBlock, flag_bytes, hunk_block, jlp_bits, metadata_block, tables_block
+from families import Case, back_record
 from generator import Generator
 from tables import PFE, Tables
-from titles import Title, random_title
+from titles import Title, ram_line, random_title
+from words import be16
 
 COMPATIBLE = 0x0555
 
 
 @dataclass
-class Built:
+class TitleImage:
     """The tables of a title, its named paragraphs and its flag bits, to be spoilt and written (02, W-213)."""
 
     tables: Tables
@@ -27,12 +26,12 @@ class Built:
     blocks: list[DraftBlock] = field(default_factory=list)
 
 
-def laid_out(title: Title) -> Built:
+def laid_out(title: Title) -> TitleImage:
     """Lay a title out as the builder does (01, How an image is laid out)."""
     entries = checked_entries(title.bin_file(), title.cfg)
     layout = lay_out(entries)
     words = dict(each for entry in entries for each in entry_hunks(entry, layout, title.bin_file()))
-    return Built(make_tables(entries, layout), words)
+    return TitleImage(make_tables(entries, layout), words)
 
 
 def packed(words: list[int]) -> bytes:
@@ -58,27 +57,32 @@ def hunks_of(words: dict[int, list[int]], most: int) -> list[DraftBlock]:
     return [hunk_block(256 * first, packed(run)) for first, run in runs]
 
 
-def image_of(built: Built, most: int = 120) -> bytes:
+def image_of(built: TitleImage, most: int = 120) -> bytes:
     """Write an image of tables and named paragraphs (01, File layout)."""
     blocks = [tables_block(built.tables), *built.blocks, *hunks_of(built.words, most)]
-    return Draft(blocks, flags=built.bits.to_bytes(16, "little"), uid=b"any UID ").encoded()
+    return Draft(blocks, flags=flag_bytes(built.bits), uid=b"any UID ").encoded()
 
 
-def titled(text: str, words: int = 4096) -> Built:
+def titled(text: str, words: int = 4096) -> TitleImage:
     """Lay out CFG text over a BIN of zeros with some words in it (01, What a CFG may say)."""
     data = bytearray(2 * words)
     for place in range(0, words, 1009):
-        data[2 * place:2 * place + 2] = (place * 7 % 1024).to_bytes(2, "big")
-    return laid_out(Title(2 * words, 0, [], text.replace("|", "\n").encode(), 0, bytes(data)))
+        data[2 * place:2 * place + 2] = be16([place * 7 % 1024])
+    return laid_out(Title(2 * words, 0, text.replace("|", "\n").encode(), 0, bytes(data)))
+
+
+def under(chapter: int) -> str:
+    """Spell plain ROM over a chapter's flippable range (01, What a CFG may say)."""
+    whole = page_range(chapter)
+    return f"$0-${len(whole) - 1:X}=${whole[0]:X}"
 
 
 def pages(chapter: int, which: range) -> str:
     """Spell PAGE lines of a chapter (01, What a CFG may say)."""
-    start, last = ("4800", "7FF") if chapter == 4 else (f"{chapter:X}000", "FFF")
-    return "".join(f"$0-${last}=${start} PAGE {page:X}|" for page in which)
+    return "".join(f"{under(chapter)} PAGE {page:X}|" for page in which)
 
 
-def good_edges() -> Iterator[tuple[str, Built]]:
+def good_edges() -> Iterator[tuple[str, TitleImage]]:
     """Give titles at the readings' edges that come back (READINGS W213-4 to W213-9, W213-15)."""
     every, m, r = range(16), "[mapping]|", "[memattr]|"
     yield "W213-9 RAM alone", titled(r + "$5000-$50FF=RAM 8")
@@ -90,23 +94,22 @@ def good_edges() -> Iterator[tuple[str, Built]]:
     yield "W213-5 up to the silent ranges", titled(m + "$0-$AFF=$0500|$0-$FFF=$2000|$0-$FF=$4000|$0-$FF=$FF00|")
     yield "W213-3 last address", titled(r + "$FF00-$FFFF=RAM 16|$0500-$05FF=RAM 8|")
     for chapter in (2, 4, 5, 15):
-        top = "$4800" if chapter == 4 else f"${chapter:X}000"
-        under = f"$0-${'7FF' if chapter == 4 else 'FFF'}={top}|"
+        plain = under(chapter) + "|"
         yield f"W213-4 chapter {chapter}, pages 2 and A", titled(m + pages(chapter, range(2, 11, 8)))
         yield f"W213-4 chapter {chapter}, page 0 alone", titled(m + pages(chapter, range(1)))
-        yield f"W213-4 chapter {chapter}, pages over plain words", titled(m + under + pages(chapter, range(1, 3)))
-        yield f"W213-4 chapter {chapter}, page 0 over plain words", titled(m + under + pages(chapter, range(1)))
+        yield f"W213-4 chapter {chapter}, pages over plain words", titled(m + plain + pages(chapter, range(1, 3)))
+        yield f"W213-4 chapter {chapter}, page 0 over plain words", titled(m + plain + pages(chapter, range(1)))
         if chapter not in (4, 5):
             continue
         yield f"W213-7 chapter {chapter}, sixteen pages", titled(m + pages(chapter, every))
-        yield f"W213-7 chapter {chapter}, plain and pages 1 to F", titled(m + under + pages(chapter, range(1, 16)))
-        yield f"W213-6 chapter {chapter}, hidden", titled(m + under + pages(chapter, every))
+        yield f"W213-7 chapter {chapter}, plain and pages 1 to F", titled(m + plain + pages(chapter, range(1, 16)))
+        yield f"W213-6 chapter {chapter}, hidden", titled(m + plain + pages(chapter, every))
         yield f"W213-4 chapter {chapter}, fifteen pages, 0 to E", titled(m + pages(chapter, range(15)))
     for below in ("$0-$7FF=$4000|", "$0-$FF=$4300|", r + "$4000-$40FF=RAM 16|" + m):
-        for under in ("", "$0-$7FF=$4800|"):
+        for plain in ("", under(4) + "|"):
             for which in (every, range(1, 16), range(3)):
-                label = f"W213-6 chapter 4, {below[:9]} below, {bool(under)} under, {len(which)} pages"
-                yield label, titled(m + below + under + pages(4, which))
+                name = f"W213-6 chapter 4, {below[:9]} below, {bool(plain)} under, {len(which)} pages"
+                yield name, titled(m + below + plain + pages(4, which))
     yield "W213-7 sixteen pages beside plain words", titled(m + "$0-$1FF=$4E00|$0-$FF=$6000|" + pages(5, every))
     yield "W213-7 two chapters of sixteen pages", titled(m + pages(5, every) + pages(6, every))
     yield "W213-8 the same words twice", titled(m + "$0-$FF=$5000|$0-$FF=$7000|$0-$FFF=$C000 PAGE 1|")
@@ -114,11 +117,10 @@ def good_edges() -> Iterator[tuple[str, Built]]:
 
 def many_ram(count: int, first: int) -> str:
     """Spell so many RAM lines that can't be joined (READINGS W213-15)."""
-    return "[memattr]|" + "".join(f"${256 * p:X}-${256 * p + 255:X}=RAM {16 if p % 2 else 8}|"
-                                  for p in range(first, first + count))
+    return "[memattr]|" + "".join(ram_line(p, 16 if p % 2 else 8) + "|" for p in range(first, first + count))
 
 
-def limit_edges() -> Iterator[tuple[str, Built]]:
+def limit_edges() -> Iterator[tuple[str, TitleImage]]:
     """Give images at 128 lines and at the BIN's limit (READINGS W213-10, W213-15, W213-18)."""
     yield "W213-15 128 lines", titled(many_ram(128, 0x70))
     more = titled(many_ram(128, 0x70))
@@ -130,8 +132,8 @@ def limit_edges() -> Iterator[tuple[str, Built]]:
     yield "W213-15 64 pages, the largest BIN", titled(full + pages(11, range(16)))
     yield "W213-10 64 pages and a paragraph: 32", titled(full + pages(11, range(16)) + "$0-$FF=$F000|")
     yield "W213-10 64 pages and RAM", titled(full + pages(11, range(16)) + "[memattr]|$F000-$FFFF=RAM 8|")
-    yield "W213-15 no line", Built(Tables(), {})
-    yield "W213-15 no line, but a word", Built(Tables(), {0: [0] * 256})
+    yield "W213-15 no line", TitleImage(Tables(), {})
+    yield "W213-15 no line, but a word", TitleImage(Tables(), {0: [0] * 256})
 
 
 def spoilt_tables(g: Generator, tables: Tables) -> None:
@@ -156,7 +158,7 @@ def spoilt_tables(g: Generator, tables: Tables) -> None:
         tables.flips[page] &= ~PFE
 
 
-def spoilt_words(g: Generator, built: Built) -> None:
+def spoilt_words(g: Generator, built: TitleImage) -> None:
     """Change which words are named, or a word of RAM (READINGS W213-12, W213-13)."""
     paragraph = g.pick(sorted(built.words) or [0])
     choice = g.below(5)
@@ -173,33 +175,33 @@ def spoilt_words(g: Generator, built: Built) -> None:
         built.words[paragraph] = built.words[paragraph][:256]
 
 
-def dressed(g: Generator, built: Built) -> bytes:
+def dressed(g: Generator, built: TitleImage) -> bytes:
     """Write an image with other blocks, cuts and order, and words named twice (READINGS W213-12, W213-14)."""
-    built.bits = g.pick([COMPATIBLE, 0, 0xFFFF, jlp_flags(0, 1023, 5), COMPATIBLE | 0xFFFF << 48])
+    built.bits = g.pick([COMPATIBLE, 0, 0xFFFF, jlp_bits(0, 1023, 5), COMPATIBLE | 0xFFFF << 48])
     hunks = hunks_of(built.words, g.pick([1, 7, 16, 120]))
     if hunks and g.one_in(2):
         hunks = [hunk_block(hunk.address_of(g.pick(hunks).payload), hunk.block_16([0xABCD]))] + hunks
     else:
         hunks = g.shuffled(hunks)
-    others = [metadata(b"\x00\x01A"), DraftBlock(0x42, b"x", spoil_payload=1), hunk_block(0x7FFFF, b"")]
+    others = [metadata_block(b"\x00\x01A"), DraftBlock(0x42, b"x", spoil_payload=1), hunk_block(0x7FFFF, b"")]
     blocks = [tables_block(built.tables)] + hunks + built.blocks
     for other in g.shuffled(others)[:g.below(4)]:
         blocks.insert(g.below(len(blocks) + 1), other)
-    return Draft(blocks, flags=built.bits.to_bytes(16, "little"), tail=g.pick([b"", b"\xFF", b"\xFF\x00"])).encoded()
+    return Draft(blocks, flags=flag_bytes(built.bits), tail=g.pick([b"", b"\xFF", b"\xFF\x00"])).encoded()
 
 
-def small_title(g: Generator) -> Built:
+def small_title(g: Generator) -> TitleImage:
     """Lay out a random title with few nonzero words (02, W-213)."""
     title = random_title(g, g.pick([1, 2, 3]))
     data = bytearray(title.bin_length)
     for _ in range(6):
         place = 2 * g.below(title.bin_length // 2)
-        data[place:place + 2] = g.pick([g.below(1024), g.below(65536)]).to_bytes(2, "big")
+        data[place:place + 2] = be16([g.pick([g.below(1024), g.below(65536)])])
     title.data = bytes(data)
     return laid_out(title)
 
 
-def random_image(g: Generator) -> tuple[str, bytes]:
+def random_built(g: Generator) -> tuple[str, bytes]:
     """Make an image of a title, whole or spoilt (02, W-213)."""
     built, faults = small_title(g), g.pick([0, 0, 1, 1, 1, 2])
     while len(built.words) > 120:
@@ -216,11 +218,11 @@ def refused_edges() -> Iterator[tuple[str, bytes]]:
     """Give a load's refusals before 31, and JLP (READINGS W213-14, W213-19)."""
     built = titled("[mapping]|$0-$FF=$5000|")
     for jlp, size in ((0, 0), (0, 683), (1, 0), (1, 683), (2, 0), (2, 682), (2, 683), (3, 1), (3, 1023)):
-        built.bits = jlp_flags(jlp, size)
+        built.bits = jlp_bits(jlp, size)
         yield f"W213-14 W213-19 field {jlp}, size {size}", image_of(built)
     built.bits = COMPATIBLE | 1 << 32
     yield "W213-19 10", image_of(built)
-    built.bits, built.blocks = COMPATIBLE, [metadata(b"\x00")]
+    built.bits, built.blocks = COMPATIBLE, [metadata_block(b"\x00")]
     yield "W213-19 12", image_of(built)
     built.blocks = [hunk_block(0x80000, hunk.block_16([0]))]
     yield "W213-19 9", image_of(built)
@@ -245,12 +247,12 @@ def short_buffers(image: bytes) -> Iterator[Case]:
 
 def back_cases(g: Generator) -> Iterator[Case]:
     """Give the edges, short buffers, then random images (02, W-213)."""
-    images = [(label, image_of(built)) for edges in (good_edges(), limit_edges()) for label, built in edges]
-    images += list(refused_edges()) + [random_image(g) for _ in range(120)]
-    for label, image in images:
+    images = [(name, image_of(built)) for edges in (good_edges(), limit_edges()) for name, built in edges]
+    images += list(refused_edges()) + [random_built(g) for _ in range(120)]
+    for name, image in images:
         answer = back(image, bytearray(), bytearray())
         spare = g.pick([(0, 0), (0, 0), (3, 5)])
-        yield (label, *back_record(image, (answer.bin_length + spare[0], 13), (answer.cfg_length + spare[1], 13)))
+        yield (name, *back_record(image, (answer.bin_length + spare[0], 13), (answer.cfg_length + spare[1], 13)))
     for text in ("[mapping]|$0-$FF=$5000|", "[memattr]|$5000-$50FF=RAM 8|",
                  "[mapping]|$0-$FFF=$C000 PAGE 2|[memattr]|$5000-$50FF=RAM 8|"):
         yield from short_buffers(image_of(titled(text)))

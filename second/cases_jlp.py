@@ -1,22 +1,23 @@
-"""Cases on JLP's RAM, arithmetic and CRC (02, W-206; README.md, jlp)."""
+"""Cases on JLP's RAM, arithmetic and CRC: the family jlp, first part (02, W-206; RECORDS.md, Families)."""
 
 from pathlib import Path
 from typing import Iterator
 
-from cases_images import Case, jlp_flags
-from encode import random_tables
-from families import Kept, machine_record
+from access_lists import random_access
+from accesses import READ_IT, RESET, Access, read, write
+from drafts import jlp_bits, random_tables, simple
+from families import Case, machine_record
+from flash import JLP_RAM
 from generator import Generator
-from jlp import CRC, CRC_DATA, HIGH, LOW, OPERANDS, RAM, TURN_OFF, TURN_ON
-from tables import BANKSW, READ, WRITE, Tables
-from titles import Access, random_access
-from writer import compose
+from jlp import CRC, CRC_DATA, HIGH, LOW, OPERANDS, TURN_OFF, TURN_ON
+from load import JLP_WORDS
+from records import FlashFill
+from tables import BANKSW, NARROW, READ, WRITE, Tables
 
-JLP_RAM = 73_600
 CORNERS = [0x0000, 0x0001, 0x0002, 0x7FFF, 0x8000, 0x8001, 0xFFFE, 0xFFFF]
 CRC_TABLE = [int(word, 16) for word in (Path(__file__).parent / "crc16_table.txt").read_text().split()]
-ON, OFF, RESET = (1, *TURN_ON), (1, *TURN_OFF), (2, 0, 0)
-RESULTS = [(0, LOW, 0), (0, HIGH, 0)]
+ON, OFF = write(*TURN_ON), write(*TURN_OFF)
+RESULTS = [read(LOW), read(HIGH)]
 Edge = tuple[str, int, Tables, list[Access]]
 
 
@@ -34,9 +35,9 @@ def over(permissions: int) -> Tables:
 
 def switch_edges() -> Iterator[Edge]:
     """Give the two switch writes and near misses, on and off, stores beneath included (READINGS W206-1 to W206-4)."""
-    look = [(0, a, 0) for a in (0x8033, 0x8034, 0x8040, 0x5033, 0x5034, 0x5040, 0x9F8E, 0x9FFD)]
-    misses = [(1, 0x8033, 0x6A7A), (1, 0x8034, 0x4A5A), (1, 0x8033, 0x4A5B), (1, 0x8034, 0x6A7B), (1, 0x8133, 0x4A5A),
-              (1, 0x9034, 0x6A7A)]
+    look = [read(a) for a in (0x8033, 0x8034, 0x8040, 0x5033, 0x5034, 0x5040, 0x9F8E, 0x9FFD)]
+    misses = [write(0x8033, 0x6A7A), write(0x8034, 0x4A5A), write(0x8033, 0x4A5B), write(0x8034, 0x6A7B),
+              write(0x8133, 0x4A5A), write(0x9034, 0x6A7A)]
     for jlp in range(4):
         for permissions in (READ, READ | WRITE):
             tables = over(permissions)
@@ -55,15 +56,15 @@ def window_edges() -> Iterator[Edge]:
              0x8034, 0x803F, 0x8040, 0x8041, 0x80FF, 0x8FFE, 0x8FFF, 0x9000, 0x9F7E, 0x9F7F, 0x9F80, 0x9F8B,
              0x9F8C, 0x9F8D, 0x9F8E, 0x9F8F, 0x9F90, 0x9FFB, 0x9FFC, 0x9FFD, 0x9FFE, 0x9FFF, 0xA000]
     for jlp in range(4):
-        for permissions in (READ, READ | WRITE | 4):
+        for permissions in (READ, READ | WRITE | NARROW):
             tables = over(permissions)
-            accesses = [(1, a, 0x1111 + a) for a in edges] + [(0, a, 0) for a in edges]
-            beneath = [(0, a - 0x3000, 0) for a in edges if 0x8000 <= a <= 0x9FFF]
+            accesses = [write(a, 0x1111 + a) for a in edges] + [read(a) for a in edges]
+            beneath = [read(a - 0x3000) for a in edges if 0x8000 <= a <= 0x9FFF]
             yield f"W206-15 field {jlp}, as loaded", jlp, tables, accesses + beneath
             yield f"W206-4 field {jlp}, switched first", jlp, tables, [OFF if jlp & 1 else ON] + accesses + beneath
-    aliases = [(1, 0x8040, 0xABCD), (0, 0xC040, 0), (1, 0xC041, 0x1234), (0, 0x8041, 0), (1, 0xDF7F, 5), (0, 0x9F7F, 0),
-               (1, 0xDF80, 6), (0, 0x9F80, 0)]
-    for jlp in (1, 2, 3):
+    aliases = [write(0x8040, 0xABCD), read(0xC040), write(0xC041, 0x1234), read(0x8041), write(0xDF7F, 5), read(0x9F7F),
+               write(0xDF80, 6), read(0x9F80)]
+    for jlp in write(2, 3):
         yield f"W206-5 field {jlp}, other paragraphs map to it", jlp, over(READ), aliases + [ON] + aliases
 
 
@@ -71,10 +72,10 @@ def request_edges() -> Iterator[Edge]:
     """Ask for pages in chapters 8 and 9 and bankswitch there, on and off (READINGS W206-6, W202-9)."""
     for jlp in range(4):
         for chapter in (8, 9):
-            ask = (1, 4096 * chapter + 0xFFF, 4096 * chapter + 0xA53)
-            look = [(0, a, 0) for a in (4096 * chapter + 0xFFF, 4096 * chapter + 0x800, 0x5FFF, 0x6FFF, 0xCFFF, 0xDFFF)]
+            ask = write(4096 * chapter + 0xFFF, 4096 * chapter + 0xA53)
+            look = [read(a) for a in (4096 * chapter + 0xFFF, 4096 * chapter + 0x800, 0x5FFF, 0x6FFF, 0xCFFF, 0xDFFF)]
             tables = over(READ | WRITE | BANKSW)
-            banks = [(1, 0x40 + chapter, 0xFD), (1, 0x50 + chapter, 0x7702)]
+            banks = [write(0x40 + chapter, 0xFD), write(0x50 + chapter, 0x7702)]
             asks = [ask, *look, OFF, *look, ask, *look, ON, *look]
             switches = [*banks, *look, OFF, *look, ON, *banks, OFF, *look]
             yield f"W206-6 field {jlp}, chapter {chapter}, ask", jlp, tables, asks
@@ -86,18 +87,18 @@ def arithmetic_edges() -> Iterator[Edge]:
     for function in range(6):
         first, second = OPERANDS[2 * function], OPERANDS[2 * function + 1]
         for half in (CORNERS[:4], CORNERS[4:]):
-            accesses = [access for a in half for b in CORNERS for access in ((1, first, a), (1, second, b), *RESULTS)]
+            accesses = [access for a in half for b in CORNERS
+                        for access in (write(first, a), write(second, b), *RESULTS)]
             yield f"W206-8 function {function}, first of {half[0]:04X}..", 1, Tables(), accesses
-        again = [(1, second, 7), *RESULTS, (1, first, 0xFFF0), *RESULTS, (1, OPERANDS[6], 3), (1, OPERANDS[7], 9),
-                 *RESULTS,
-                 (1, first, 0xFFF0), *RESULTS, (1, second, 0), *RESULTS, (1, first, 5), *RESULTS, (1, LOW, 1),
-                 (1, HIGH, 2), *RESULTS,
-                 RESET, *RESULTS, (1, second, 2), *RESULTS, OFF, *RESULTS, (1, second, 9), ON, *RESULTS, (1, first, 77),
-                 *RESULTS]
+        again = [write(second, 7), *RESULTS, write(first, 0xFFF0), *RESULTS,
+                 write(OPERANDS[6], 3), write(OPERANDS[7], 9), *RESULTS,
+                 write(first, 0xFFF0), *RESULTS, write(second, 0), *RESULTS, write(first, 5), *RESULTS,
+                 write(LOW, 1), write(HIGH, 2), *RESULTS, RESET, *RESULTS, write(second, 2), *RESULTS,
+                 OFF, *RESULTS, write(second, 9), ON, *RESULTS, write(first, 77), *RESULTS]
         yield f"W206-9 W206-11 W206-16 function {function}", 3, Tables(), again
-    score, digits = 12_345, [(1, OPERANDS[11], 10)]
+    score, digits = 12_345, [write(OPERANDS[11], 10)]
     for _ in range(5):
-        digits += [(1, OPERANDS[10], score), *RESULTS]
+        digits += [write(OPERANDS[10], score), *RESULTS]
         score //= 10
     yield "W206-7 000's program: a number to decimal", 1, Tables(), digits
 
@@ -106,12 +107,12 @@ def crc_edges() -> Iterator[Edge]:
     """Give 000's printed table byte by byte, its short cycle, and words one after the other (READINGS W206-13)."""
     for first in range(0, 256, 32):
         accesses = [access for byte in range(first, first + 32)
-                    for access in ((1, CRC, 0), (1, CRC_DATA, byte << 8), (0, CRC, 0))]
+                    for access in (write(CRC, 0), write(CRC_DATA, byte << 8), read(CRC))]
         yield f"W206-13 000's table from {first:#04x}", 1, Tables(), accesses
-    cycle = [(1, CRC_DATA, 0x5AA4), (0, CRC, 0)] * 8
-    yield "W206-13 $5AA4 written again", 1, Tables(), [(1, CRC, 1), *cycle, (0, CRC_DATA, 0)]
-    words = [access for n in range(60) for access in ((1, CRC_DATA, n * 4001 % 65536), (0, CRC, 0))]
-    words += [RESET, (0, CRC, 0), OFF, (0, CRC, 0), (1, CRC_DATA, 5), ON, (0, CRC, 0)]
+    cycle = [write(CRC_DATA, 0x5AA4), read(CRC)] * 8
+    yield "W206-13 $5AA4 written again", 1, Tables(), [write(CRC, 1), *cycle, read(CRC_DATA)]
+    words = [access for n in range(60) for access in (write(CRC_DATA, n * 4001 % 65536), read(CRC))]
+    words += [RESET, read(CRC), OFF, read(CRC), write(CRC_DATA, 5), ON, read(CRC)]
     yield "W206-13 words from load on, then reset, off and on", 3, Tables(), words
 
 
@@ -119,25 +120,22 @@ def random_jlp_access(g: Generator) -> Access:
     """Choose an access in or near the window, or any (02, W-206)."""
     choice, word = g.below(12), g.pick([g.below(65536), g.pick(CORNERS)])
     if choice == 0:
-        return g.pick([ON, OFF, ON, OFF, (1, TURN_ON[0], word), (1, TURN_OFF[0], word)])
+        return g.pick([ON, OFF, ON, OFF, write(TURN_ON[0], word), write(TURN_OFF[0], word)])
     if choice == 1:
-        return g.pick([(1, 0x8FFF, 0x8A50 + g.below(16)), (1, 0x9FFF, 0x9A50 + g.below(16)),
-                       (1, 0x48 + g.below(2) + 16 * g.below(2), word)])
+        return g.pick([write(0x8FFF, 0x8A50 + g.below(16)), write(0x9FFF, 0x9A50 + g.below(16)),
+                       write(0x48 + g.below(2) + 16 * g.below(2), word)])
     if choice < 5:
-        return 1, g.pick(OPERANDS), word
+        return write(g.pick(OPERANDS), word)
     if choice == 5:
-        return 1, g.pick([CRC_DATA, CRC_DATA, CRC]), word
+        return write(g.pick([CRC_DATA, CRC_DATA, CRC]), word)
     if choice < 8:
-        return 0, g.pick([LOW, HIGH, CRC, 0x9F80 + g.below(128)]), 0
+        return read(g.pick([LOW, HIGH, CRC, 0x9F80 + g.below(128)]))
     if choice < 11:
-        return g.below(2), g.pick([g.pick(RAM), RAM[0] - 2 + g.below(4), RAM[-1] - 2 + g.below(4),
-                                   0x8000 + g.below(0x2000)]), word
+        operation = g.below(2)
+        address = g.pick([g.pick(JLP_RAM), JLP_RAM[0] - 2 + g.below(4), JLP_RAM[-1] - 2 + g.below(4),
+                          0x8000 + g.below(0x2000)])
+        return read(address) if operation == READ_IT else write(address, word)
     return random_access(g, [8, 9])
-
-
-def paired(accesses: list[Access]) -> list[Access]:
-    """Give reads the value 0, as a record has them (README.md, Fills)."""
-    return [(operation, address, value if operation == 1 else 0) for operation, address, value in accesses]
 
 
 def jlp_case(g: Generator) -> Case:
@@ -145,18 +143,18 @@ def jlp_case(g: Generator) -> Case:
     tables, jlp = random_tables(g, g.pick([20, 200])), g.below(4)
     for paragraph in range(0x80, 0xA0):
         tables.mapping[paragraph], tables.permissions[paragraph] = g.below(0x120), g.below(16)
-    ram = (g.pick([JLP_RAM, JLP_RAM, 80_000]), g.between(1, 9))
-    lent = g.pick([ram[0], ram[0], ram[0], JLP_RAM - 1, 0x10040, 0x10041, 0x11000, 100])
-    image = compose(jlp_flags(jlp).to_bytes(16, "little"), bytes(8), tables, [])
-    accesses = paired([random_jlp_access(g) for _ in range(120)])
-    return (f"JLP field {jlp}, {lent} words lent", *machine_record(image, ram, lent, Kept(), accesses))
+    ram = (g.pick([JLP_WORDS, JLP_WORDS, 80_000]), g.between(1, 9))
+    lent = g.pick([ram[0], ram[0], ram[0], JLP_WORDS - 1, 0x10040, 0x10041, 0x11000, 100])
+    image = simple(bits=jlp_bits(jlp), tables=tables)
+    accesses = [random_jlp_access(g) for _ in range(120)]
+    return (f"JLP field {jlp}, {lent} words lent", *machine_record(image, ram, lent, FlashFill(), accesses))
 
 
 def jlp_cases(g: Generator) -> Iterator[Case]:
     """Give the edges, then random accesses (02, W-206)."""
     for edges in (switch_edges(), window_edges(), request_edges(), arithmetic_edges(), crc_edges()):
-        for label, jlp, tables, accesses in edges:
-            image = compose(jlp_flags(jlp).to_bytes(16, "little"), bytes(8), tables, [])
-            yield (label, *machine_record(image, (JLP_RAM, 3), JLP_RAM, Kept(), accesses))
+        for name, jlp, tables, accesses in edges:
+            image = simple(bits=jlp_bits(jlp), tables=tables)
+            yield (name, *machine_record(image, (JLP_WORDS, 3), JLP_WORDS, FlashFill(), accesses))
     for _ in range(70):
         yield jlp_case(g)

@@ -2,7 +2,7 @@
 
 import re
 from dataclasses import dataclass
-from typing import Optional
+from typing import Iterator, Optional
 
 from refusal import Refused
 
@@ -52,10 +52,14 @@ def allowed(cfg: bytes, place: int) -> bool:
     return 0x20 <= byte <= 0x7E or byte in (0x09, 0x0A)
 
 
-def check_bytes(cfg: bytes) -> None:
-    """Ask 22: the length, then each byte (01, refusal 22; READINGS C1, C4)."""
+def check_length(cfg: bytes) -> None:
+    """Ask 22 of the length (01, refusal 22; READINGS C1)."""
     if len(cfg) > CFG_LIMIT:
         raise Refused(22, 0)
+
+
+def check_bytes(cfg: bytes) -> None:
+    """Ask 22 of each byte (01, refusal 22; READINGS C3, C4)."""
     for place in range(len(cfg)):
         if not allowed(cfg, place):
             raise Refused(22, 1 + cfg[:place].count(b"\n"))
@@ -63,7 +67,7 @@ def check_bytes(cfg: bytes) -> None:
 
 def bare_lines(cfg: bytes) -> list[tuple[int, str]]:
     """Number the lines from 1 and drop comments and blanks (01, What a CFG may say)."""
-    lines = cfg.decode("ascii").replace("\r\n", "\n").split("\n")
+    lines = cfg.decode("latin-1").replace("\r\n", "\n").split("\n")
     bare = [(number, line.split(";")[0].strip(" \t")) for number, line in enumerate(lines, 1)]
     return [(number, line) for number, line in bare if line]
 
@@ -81,19 +85,29 @@ def read_entry(number: int, line: str, section: str) -> Entry:
     return Entry(number, "rom", lo, hi, int(match[3], 16), page)
 
 
-def read_cfg(cfg: bytes) -> list[Entry]:
-    """Read all entries, asking 22, 23 and 24 each of the whole file (01; READINGS C2)."""
-    check_bytes(cfg)
-    entries: list[Entry] = []
+def lines_in_sections(cfg: bytes) -> Iterator[tuple[int, str, str]]:
+    """Give number and text of each line that names no section, and the section it stands in (01)."""
     section = ""
     for number, line in bare_lines(cfg):
         named = SECTION.fullmatch(line)
         if named:
             section = named[1]
         else:
-            entries.append(read_entry(number, line, section))
+            yield number, line, section
+
+
+def check_count(entries: list[Entry]) -> None:
+    """Ask 24: no entry, or more than 128 (01, refusal 24; 02, W-210; READINGS C12)."""
     if not entries:
         raise Refused(24, 0)
     if len(entries) > MOST_ENTRIES:
         raise Refused(24, entries[MOST_ENTRIES].line)
+
+
+def read_cfg(cfg: bytes) -> list[Entry]:
+    """Read all entries, asking 22, 23 and 24 each of the whole file (01; READINGS C2)."""
+    check_length(cfg)
+    check_bytes(cfg)
+    entries = [read_entry(*line) for line in lines_in_sections(cfg)]
+    check_count(entries)
     return entries

@@ -2,13 +2,13 @@
 
 from typing import MutableSequence, Optional
 
-from load import flash_size, jlp_field, lent
+from load import SECTOR_WORDS, flash_size, jlp_field, lent
 
 ROW, ROWS = 96, 8
 EMPTY = 0xFFFF
-RAM, TO_LOCUTUS = range(0x8040, 0x9F80), 0x8000
+JLP_RAM, TO_LOCUTUS = range(0x8040, 0x9F80), 0x8000
 FIRST, LAST, ADDR, AT_ROW = 0x8023, 0x8024, 0x8025, 0x8026
-WRITE, READ, ERASE = (0x802D, 0xC0DE), (0x802E, 0xDEC0), (0x802F, 0xBEEF)
+WRITE_ROW, READ_ROW, ERASE_SECTOR = (0x802D, 0xC0DE), (0x802E, 0xDEC0), (0x802F, 0xBEEF)
 
 
 class Flash:
@@ -32,11 +32,11 @@ class Flash:
             self.addr = value
         elif address == AT_ROW:
             self.row = value
-        elif (address, value) == READ and self.row_lent(flash) and self.ram_lent(ram):
+        elif (address, value) == READ_ROW and self.row_lent(flash) and self.ram_lent(ram):
             self.copy(ram, flash)
-        elif (address, value) == WRITE and self.row_lent(flash) and self.ram_lent(ram):
+        elif (address, value) == WRITE_ROW and self.row_lent(flash) and self.ram_lent(ram):
             self.keep(ram, flash)
-        elif (address, value) == ERASE:
+        elif (address, value) == ERASE_SECTOR:
             self.erase(flash)
 
     def row_lent(self, flash: MutableSequence[int]) -> bool:
@@ -45,7 +45,7 @@ class Flash:
 
     def ram_lent(self, ram: MutableSequence[int]) -> bool:
         """Tell whether all 96 words lie in JLP's RAM and in the lent RAM (02, W-209; READINGS W209-2)."""
-        return all(word in RAM and word + TO_LOCUTUS < lent(ram) for word in (self.addr, self.addr + ROW - 1))
+        return all(word in JLP_RAM and word + TO_LOCUTUS < lent(ram) for word in (self.addr, self.addr + ROW - 1))
 
     def copy(self, ram: MutableSequence[int], flash: MutableSequence[int]) -> None:
         """Read a row into RAM (02, W-209)."""
@@ -61,6 +61,6 @@ class Flash:
 
     def erase(self, flash: MutableSequence[int]) -> None:
         """Make the row's sector empty if it is in range and wholly lent (02, W-209; READINGS W209-7)."""
-        first = ROW * ROWS * (self.row // ROWS)
-        if self.row < ROWS * self.sectors and first + ROW * ROWS <= len(flash):
-            flash[first:first + ROW * ROWS] = [EMPTY] * (ROW * ROWS)
+        first = SECTOR_WORDS * (self.row // ROWS)
+        if self.row < ROWS * self.sectors and first + SECTOR_WORDS <= len(flash):
+            flash[first:first + SECTOR_WORDS] = [EMPTY] * SECTOR_WORDS

@@ -1,13 +1,20 @@
-"""The one generator behind every fill and every choice: 32-bit xorshift (README.md, Fills)."""
+"""The one generator behind every fill and every choice: 32-bit xorshift (RECORDS.md, Fills)."""
 
 from array import array
 from functools import lru_cache
 from typing import Sequence, TypeVar
 
-from hunk import le16
+from words import le16
 
 ONES = 0xFFFFFFFF
 T = TypeVar("T")
+
+
+def stepped(state: int) -> int:
+    """Give the state after this one: left 13, right 17, left 5."""
+    state ^= state << 13 & ONES
+    state ^= state >> 17
+    return state ^ state << 5 & ONES
 
 
 class Generator:
@@ -17,13 +24,9 @@ class Generator:
         self.state = seed
 
     def step(self) -> int:
-        """Move to the next state and give it: left 13, right 17, left 5."""
-        state = self.state
-        state ^= state << 13 & ONES
-        state ^= state >> 17
-        state ^= state << 5 & ONES
-        self.state = state
-        return state
+        """Move to the next state and give it."""
+        self.state = stepped(self.state)
+        return self.state
 
     def below(self, bound: int) -> int:
         """Choose a number below the bound."""
@@ -53,19 +56,15 @@ class Stream:
     """The low 16 bits of a seed's states, as far as they were asked for; kept, for speed alone."""
 
     def __init__(self, seed: int) -> None:
-        self.generator = Generator(seed)
+        self.state = seed
         self.words = array("H")
 
     def first(self, count: int) -> array:
         """Give the first so many words."""
-        state, words = self.generator.state, self.words
-        for _ in range(count - len(words)):
-            state ^= state << 13 & ONES
-            state ^= state >> 17
-            state ^= state << 5 & ONES
-            words.append(state & 0xFFFF)
-        self.generator.state = state
-        return words[:count]
+        for _ in range(count - len(self.words)):
+            self.state = stepped(self.state)
+            self.words.append(self.state & 0xFFFF)
+        return self.words[:count]
 
 
 @lru_cache(maxsize=64)

@@ -1,14 +1,10 @@
 """Data hunks: a 24-bit word address and packed data blocks (001, Block Type 0x02)."""
 
-from struct import pack, unpack
-from typing import Iterator, Optional, Sequence
+from typing import Iterator, Optional
+
+from words import le16, word_at, words_of
 
 MOST_8, MOST_10, MOST_16 = 0x3F, 0xBF - 0x3F, 0xFD - 0xBF
-
-
-def word_at(data: bytes, place: int) -> int:
-    """Read a 16-bit word, low byte first (01, File layout)."""
-    return data[place] | data[place + 1] << 8
 
 
 def block_size(start: int) -> Optional[int]:
@@ -37,7 +33,7 @@ def decode_block(block: bytes) -> list[int]:
     """Give the words of one whole data block (001, Data Hunk)."""
     start, body = block[0], block[1:]
     if start >= 0xC0:
-        return list(unpack(f"<{len(body) // 2}H", body))
+        return words_of(body)
     narrow = body[:-2]
     words = list(narrow) if start < 0x40 else decles(narrow)
     return words + [word_at(body, len(body) - 2)]
@@ -82,11 +78,6 @@ def fault(payload: bytes, words_lent: int) -> Optional[int]:
             return place
         end += len(words)
     return None
-
-
-def le16(words: Sequence[int]) -> bytes:
-    """Write words low byte first (01, File layout)."""
-    return pack(f"<{len(words)}H", *words)
 
 
 def block_8(words: list[int]) -> bytes:

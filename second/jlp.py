@@ -2,11 +2,10 @@
 
 from typing import MutableSequence, Optional
 
-from flash import Flash
+from flash import JLP_RAM, TO_LOCUTUS, Flash
 from load import jlp_field, lent
 
-WINDOW, RAM = range(0x8000, 0xA000), range(0x8040, 0x9F80)
-TO_LOCUTUS = 0x8000
+WINDOW = range(0x8000, 0xA000)
 OPERANDS, LOW, HIGH = range(0x9F80, 0x9F8C), 0x9F8E, 0x9F8F
 CRC_DATA, CRC = 0x9FFC, 0x9FFD
 POLYNOMIAL = 0xAD52
@@ -72,13 +71,13 @@ class Jlp:
 
     def read(self, ram: MutableSequence[int], address: int) -> Optional[int]:
         """Read RAM, results, CRC or flash's rows; all else is silent (02, W-206; READINGS W206-15)."""
-        if address in RAM:
+        if address in JLP_RAM:
             return ram[address + TO_LOCUTUS] if address + TO_LOCUTUS < lent(ram) else None
         return {LOW: self.low, HIGH: self.high, CRC: self.crc}.get(address, self.flash.read(address))
 
     def write(self, ram: MutableSequence[int], flash: MutableSequence[int], address: int, value: int) -> None:
         """Write RAM, an operand, the CRC or flash's registers; all else stores nothing (02, W-206, W-209)."""
-        if address in RAM and address + TO_LOCUTUS < lent(ram):
+        if address in JLP_RAM and address + TO_LOCUTUS < lent(ram):
             ram[address + TO_LOCUTUS] = value
         elif address in OPERANDS:
             self.operands[address - OPERANDS[0]] = value

@@ -8,6 +8,7 @@ from checksums import crc32_4, dowcrc
 from refusal import Refused
 from subrecords import sub_records
 from tables import PFE, TABLES_SIZE, Tables, read_tables
+from words import word_at
 
 HEADER, BLOCK_HEADER = 32, 8
 IMAGE_LIMIT = 2_097_152
@@ -47,16 +48,21 @@ def lent(ram: MutableSequence[int]) -> int:
     return min(len(ram), LOCUTUS_WORDS)
 
 
+def header_faults(image: bytes) -> list[int]:
+    """Give which of 1 to 4 hold, in their order; what is cut off can't be wrong (01, Load order; READINGS L2)."""
+    faults = {
+        1: len(image) < HEADER or len(image) > IMAGE_LIMIT,
+        2: len(image) >= 3 and image[0:3] != MAGIC,
+        3: len(image) >= 4 and image[3] != 1,
+        4: len(image) >= HEADER and dowcrc(image[0:31]) != image[31],
+    }
+    return [number for number, holds in faults.items() if holds]
+
+
 def check_header(image: bytes) -> None:
     """Ask 1 to 4, in this order (01, Load order)."""
-    if len(image) < HEADER or len(image) > IMAGE_LIMIT:
-        raise Refused(1, 0)
-    if image[0:3] != MAGIC:
-        raise Refused(2, 0)
-    if image[3] != 1:
-        raise Refused(3, 0)
-    if dowcrc(image[0:31]) != image[31]:
-        raise Refused(4, 0)
+    for number in header_faults(image):
+        raise Refused(number, 0)
 
 
 def blocks_of(image: bytes) -> Iterator[Block]:
@@ -65,7 +71,7 @@ def blocks_of(image: bytes) -> Iterator[Block]:
     while start < len(image) and image[start] != ENDED:
         if len(image) - start < BLOCK_HEADER or dowcrc(image[start:start + 3]) != image[start + 3]:
             raise Refused(5, start)
-        end = start + BLOCK_HEADER + hunk.word_at(image, start + 1)
+        end = start + BLOCK_HEADER + word_at(image, start + 1)
         if end > len(image):
             raise Refused(5, start)
         checksum = int.from_bytes(image[start + 4:start + 8], "little")
@@ -82,6 +88,20 @@ def check_payload(block: Block) -> None:
         raise Refused(6, block.start)
     if block.kind == METADATA and (wrong or sub_records(block.payload) is None):
         raise Refused(12, block.start)
+
+
+def take_tables(block: Block, before: Optional[Tables]) -> Tables:
+    """Read a tables block, or 8 by its size or if one came before (01, refusal 8)."""
+    if len(block.payload) != TABLES_SIZE or before is not None:
+        raise Refused(8, block.start)
+    return read_tables(block.payload)
+
+
+def check_tables_found(tables: Optional[Tables], image: bytes) -> Tables:
+    """Give the tables found, or "none" of 8 (01, refusal 8; READINGS L5)."""
+    if tables is None:
+        raise Refused(8, len(image))
+    return tables
 
 
 def decode_hunk(block: Block, words_lent: int) -> tuple[int, list[int]]:
@@ -109,16 +129,30 @@ def flash_size(flags: bytes) -> int:
     return int.from_bytes(flags[:4], "little") >> 22
 
 
-def check_features(flags: bytes, tables: Tables, words_lent: int, flash_lent: Optional[int] = None) -> None:
-    """Ask 10, 11, 13; with no flash given, 13 by the size alone (02, W-206, W-209; READINGS LW-1 to LW-5)."""
-    chapter_1 = any(tables.flips[16 + page] & PFE for page in range(16))
-    if chapter_1 or flags[4] & 1:
+def check_supported(flags: bytes, tables: Tables) -> None:
+    """Ask 10: flag 32, or PFE in chapter 1 (01, refusal 10; 02, W-202, W-206; READINGS W206-18)."""
+    if flags[4] & 1 or any(entry & PFE for entry in tables.flips[16:32]):
         raise Refused(10, 0)
+
+
+def check_jlp_ram(flags: bytes, words_lent: int) -> None:
+    """Ask 11 (02, W-206; READINGS LW-3)."""
     if jlp_field(flags) and words_lent < JLP_WORDS:
         raise Refused(11, 0)
+
+
+def check_flash(flags: bytes, flash_lent: Optional[int]) -> None:
+    """Ask 13; with no flash given, by the size alone (02, W-209; READINGS LW-4, LW-5)."""
     size = flash_size(flags)
     if jlp_field(flags) >= 2 and (size > MOST_SECTORS or flash_lent not in (None, SECTOR_WORDS * size)):
         raise Refused(13, 0)
+
+
+def check_features(flags: bytes, tables: Tables, words_lent: int, flash_lent: Optional[int] = None) -> None:
+    """Ask 10, 11, 13, in this order (02, W-206, W-209; READINGS LW-1, LW-2)."""
+    check_supported(flags, tables)
+    check_jlp_ram(flags, words_lent)
+    check_flash(flags, flash_lent)
 
 
 def accept(image: bytes, ram: MutableSequence[int], flash_lent: Optional[int]) -> Loaded:
@@ -128,21 +162,22 @@ def accept(image: bytes, ram: MutableSequence[int], flash_lent: Optional[int]) -
     for block in blocks_of(image):
         check_payload(block)
         if block.kind == TABLES:
-            if len(block.payload) != TABLES_SIZE or found is not None:
-                raise Refused(8, block.start)
-            found = read_tables(block.payload)
+            found = take_tables(block, found)
         if block.kind == DATA_HUNK:
             hunks.append(decode_hunk(block, lent(ram)))
         blocks += 1
-    if found is None:
-        raise Refused(8, len(image))
-    flags = image[4:20]
-    check_features(flags, found, lent(ram), flash_lent)
+    tables, flags = check_tables_found(found, image), image[4:20]
+    check_features(flags, tables, lent(ram), flash_lent)
     for address, words in hunks:
         for place, word in enumerate(words):
             ram[address + place] = word
     stored = sum(len(words) for _, words in hunks)
-    return Loaded(0, 0, blocks, stored, compatibility(flags), found, flags)
+    return Loaded(0, 0, blocks, stored, compatibility(flags), tables, flags)
+
+
+def accept_in_full(image: bytes) -> Loaded:
+    """Ask everything for a RAM of 524,288 words, and 13 by the size alone (02, W-204, W-209, W-213)."""
+    return accept(image, [0] * LOCUTUS_WORDS, None)
 
 
 def load(image: bytes, ram: MutableSequence[int], flash_lent: Optional[int] = 0) -> Loaded:

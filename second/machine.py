@@ -27,6 +27,11 @@ def flipped(entry: int, k: int) -> tuple[int, int]:
     return (entry & 0xFFF0) + k, entry & 7
 
 
+def flippable(chapter: int) -> range:
+    """Give the paragraphs that a flip of the chapter changes (01, The machine; What a CFG may say)."""
+    return range(16 * chapter + (8 if chapter == 4 else 0), 16 * chapter + 16)
+
+
 def half_page_of(register: int) -> Optional[int]:
     """Give the half-page, 0 to 31, that a write to the address switches, if any (02, W-202)."""
     if 0x0040 <= register <= 0x004F:
@@ -70,9 +75,9 @@ class Machine:
             return ram[location]
         return None
 
-    def acts(self, entry: Optional[int]) -> bool:
-        """Tell whether a page request acts (01, The machine)."""
-        return entry is not None and entry >= 32 and self.initial.flips[entry] & PFE != 0
+    def acts(self, entry: int) -> bool:
+        """Tell whether a request for a flip entry acts (01, The machine)."""
+        return entry >= 32 and self.initial.flips[entry] & PFE != 0
 
     def write(self, ram: MutableSequence[int], flash: MutableSequence[int], address: int, value: int) -> int:
         """Give the write to its one taker, and count the mapping entries assigned (READINGS ALL-1; 02, W-212)."""
@@ -103,10 +108,8 @@ class Machine:
 
     def flip(self, entry: int) -> int:
         """Give the chapter's paragraphs their new mapping and permissions (01, The machine)."""
-        chapter = entry // 16
-        for k in range(8 if chapter == 4 else 0, 16):
-            mapping, permissions = flipped(self.initial.flips[entry], k)
-            self.readable += (permissions & READ) - (self.permissions[16 * chapter + k] & READ)
-            self.mapping[16 * chapter + k] = mapping
-            self.permissions[16 * chapter + k] = permissions
-        return 8 if chapter == 4 else 16
+        for paragraph in flippable(entry // 16):
+            mapping, permissions = flipped(self.initial.flips[entry], paragraph % 16)
+            self.readable += (permissions & READ) - (self.permissions[paragraph] & READ)
+            self.mapping[paragraph], self.permissions[paragraph] = mapping, permissions
+        return len(flippable(entry // 16))

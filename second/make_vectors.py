@@ -1,47 +1,43 @@
-"""Makes the vector files, all or those named: python3 make_vectors.py DIRECTORY [FAMILY..] (README.md, Records)."""
+"""Makes the vector files, all or those named: python3 make_vectors.py DIRECTORY [FAMILY..] (RECORDS.md)."""
 
 import sys
 from collections import Counter
+from itertools import chain
 from pathlib import Path
 
-import cases_back
-import cases_bus
-import cases_flash
-import cases_images
-import cases_load
-import cases_machine
-import cases_metadata
-import cases_salvage
-import cases_titles
+from cases_back import back_cases
+from cases_flash import flash_cases
+from cases_jlp import jlp_cases
+from cases_load import card_cases, load_cases
+from cases_machine import machine_cases
+from cases_metadata import dates_cases, label_cases, names_cases
+from cases_order import (back_order_cases, build_order_cases, card_order_cases, label_order_cases, load_order_cases,
+                         names_order_cases, runs_order_cases, salvage_order_cases, write_order_cases)
+from cases_runs import runs_cases
+from cases_salvage import salvage_cases
+from cases_sums import sums_cases
+from cases_titles import build_cases, bus_cases, cfg_cases
+from cases_write import write_cases
 from generator import Generator
 
 SEED = 20190706
 FILE_LIMIT = 1_000_000
 FAMILIES = {
-    "sums": cases_images.sums_cases,
-    "load": cases_load.load_cases,
-    "card": cases_images.card_cases,
-    "machine": cases_machine.machine_cases,
-    "jlp": cases_flash.cases,
-    "write": cases_images.write_cases,
-    "cfg": cases_titles.cfg_cases,
-    "build": cases_titles.build_cases,
-    "bus": cases_titles.bus_cases,
-    "names": cases_metadata.names_cases,
-    "dates": cases_metadata.dates_cases,
-    "label": cases_metadata.label_cases,
-    "salvage": cases_salvage.salvage_cases,
-    "runs": cases_bus.runs_cases,
-    "back": cases_back.back_cases,
+    "sums": [sums_cases], "load": [load_cases, load_order_cases], "card": [card_cases, card_order_cases],
+    "machine": [machine_cases], "jlp": [jlp_cases, flash_cases], "write": [write_cases, write_order_cases],
+    "cfg": [cfg_cases], "build": [build_cases, build_order_cases], "bus": [bus_cases],
+    "names": [names_cases, names_order_cases], "dates": [dates_cases], "label": [label_cases, label_order_cases],
+    "salvage": [salvage_cases, salvage_order_cases], "runs": [runs_cases, runs_order_cases],
+    "back": [back_cases, back_order_cases],
 }
 
 
 def make_family(name: str, directory: Path) -> list[str]:
     """Write one family's file, print its counts, and give its lines of the index."""
-    records, index, codes = [], [], Counter()
-    for number, (label, code, record) in enumerate(FAMILIES[name](Generator(SEED))):
+    g, records, index, codes = Generator(SEED), [], [], Counter()
+    for number, (case, code, record) in enumerate(chain(*(cases(g) for cases in FAMILIES[name]))):
         records.append(record)
-        index.append(f"{name} {number} code={code} {label}")
+        index.append(f"{name} {number} code={code} {case}")
         codes[code] += 1
     data = b"".join(records)
     if len(data) > FILE_LIMIT:
@@ -60,7 +56,7 @@ def kept_index(directory: Path, families: list[str]) -> list[str]:
 
 
 def main() -> None:
-    """Write the families and the index of labels into the directory."""
+    """Write the families and the index of names into the directory."""
     directory, families = Path(sys.argv[1]), sys.argv[2:] or list(FAMILIES)
     directory.mkdir(parents=True, exist_ok=True)
     index = kept_index(directory, families) if sys.argv[2:] else []

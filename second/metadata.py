@@ -3,7 +3,7 @@
 from dataclasses import dataclass
 from typing import Optional
 
-from load import BLOCK_HEADER, LOCUTUS_WORDS, METADATA, blocks_of, load
+from load import BLOCK_HEADER, METADATA, accept_in_full, blocks_of
 from refusal import Refused
 from subrecords import SubRecord, sub_records
 
@@ -59,9 +59,7 @@ def nth(records: list[SubRecord], tag: int, n: int) -> Optional[SubRecord]:
 
 def readable_label(image: bytes, label: bytes) -> list[SubRecord]:
     """Ask a load's refusals, then 12 of the label; give the label's records (02, W-204; READINGS W204-15)."""
-    loaded = load(image, [0] * LOCUTUS_WORDS, None)
-    if loaded.number:
-        raise Refused(loaded.number, loaded.place)
+    accept_in_full(image)
     records = sub_records(label)
     if records is None:
         raise Refused(12, 0)

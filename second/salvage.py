@@ -6,11 +6,10 @@ from pathlib import Path
 from typing import Optional
 
 from card import CARD_LIMIT
-from load import (BLOCK_HEADER, DATA_HUNK, ENDED, HEADER, IMAGE_LIMIT, LOCUTUS_WORDS, TABLES, blocks_of, check_features,
-                  check_header,
-                  check_payload, decode_hunk)
-from refusal import Refused
-from tables import TABLES_SIZE, read_tables
+from load import (BLOCK_HEADER, DATA_HUNK, ENDED, HEADER, IMAGE_LIMIT, LOCUTUS_WORDS, TABLES, Block, blocks_of,
+                  check_features, check_header, check_payload, check_tables_found, decode_hunk, take_tables)
+from refusal import Refused, refusal_text
+from writer import put
 
 
 @dataclass
@@ -25,53 +24,55 @@ class Salvaged:
     dropped: list[int] = field(default_factory=list)
 
 
-def walk(image: bytes) -> tuple[Salvaged, bytes]:
+def blocks_before_stop(image: bytes) -> tuple[list[Block], Optional[int]]:
+    """Give the blocks before the first that would give 5, and its place (READINGS W208-3)."""
+    blocks = []
+    try:
+        for block in blocks_of(image):
+            blocks.append(block)
+    except Refused as five:
+        return blocks, five.place
+    return blocks, None
+
+
+def is_left_out(block: Block) -> bool:
+    """Tell whether a hunk gives 6 or 9 in a RAM of 524,288 words (02, W-208; READINGS W208-1)."""
+    if block.kind != DATA_HUNK:
+        return False
+    try:
+        check_payload(block)
+        decode_hunk(block, LOCUTUS_WORDS)
+    except Refused:
+        return True
+    return False
+
+
+def salvaged(image: bytes) -> tuple[Salvaged, bytes]:
     """Judge the blocks in order, and give what is kept of the file (02, W-208; READINGS W208-1 to W208-6)."""
     check_header(image)
-    answer, kept, tables = Salvaged(), image[:HEADER], None
-    blocks = blocks_of(image)
-    while True:
-        try:
-            block = next(blocks)
-        except StopIteration:
-            break
-        except Refused as five:
-            answer.stopped = five.place
-            break
-        try:
-            check_payload(block)
-            if block.kind == DATA_HUNK:
-                decode_hunk(block, LOCUTUS_WORDS)
-        except Refused as refused:
-            if block.kind != DATA_HUNK:
-                raise
+    answer, out, tables = Salvaged(), image[:HEADER], None
+    blocks, answer.stopped = blocks_before_stop(image)
+    for block in blocks:
+        if is_left_out(block):
             answer.dropped.append(block.start)
             continue
+        check_payload(block)
         if block.kind == TABLES:
-            if len(block.payload) != TABLES_SIZE or tables is not None:
-                raise Refused(8, block.start)
-            tables = read_tables(block.payload)
+            tables = take_tables(block, tables)
         answer.kept += 1
-        kept += image[block.start:block.start + BLOCK_HEADER + len(block.payload)]
-    if tables is None:
-        raise Refused(8, len(image))
-    check_features(image[4:20], tables, LOCUTUS_WORDS)
-    return answer, kept + (bytes([ENDED]) if len(kept) < IMAGE_LIMIT else b"")
+        out += image[block.start:block.start + BLOCK_HEADER + len(block.payload)]
+    check_features(image[4:20], check_tables_found(tables, image), LOCUTUS_WORDS)
+    return answer, out + (bytes([ENDED]) if len(out) < IMAGE_LIMIT else b"")
 
 
 def salvage(image: bytes, buffer: bytearray) -> Salvaged:
     """Copy what is good into the buffer, or answer number and place (02, W-208; READINGS W208-11)."""
-    length = 0
     try:
-        answer, out = walk(image)
-        length = len(out)
-        if len(buffer) < length:
-            raise Refused(29, 0)
-        buffer[:length] = out
-        answer.length = length
+        answer, out = salvaged(image)
+        answer.length = put(out, buffer)
         return answer
     except Refused as refused:
-        return Salvaged(refused.number, refused.place, length)
+        return Salvaged(refused.number, refused.place, refused.length)
 
 
 def program(image: bytes) -> tuple[str, bytes]:
@@ -79,7 +80,7 @@ def program(image: bytes) -> tuple[str, bytes]:
     buffer = bytearray(CARD_LIMIT + 1)
     answer = salvage(image, buffer) if len(image) <= CARD_LIMIT else Salvaged(30)
     if answer.number:
-        return f"result=refused\ncode={answer.number}\nat={answer.place}\n", b""
+        return refusal_text(answer.number, answer.place), b""
     stopped = "none" if answer.stopped is None else answer.stopped
     lines = [f"kept={answer.kept}", f"dropped={len(answer.dropped)}", f"stopped={stopped}"]
     lines += [f"drop={place}" for place in answer.dropped]

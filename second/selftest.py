@@ -1,4 +1,4 @@
-"""The self-test: 001's vectors, 01's bench cases, and random titles and images against each other."""
+"""The self-test: the papers' own vectors and cases, and every part a second way (01, Bench cases; 001; 000; 02)."""
 
 import re
 import struct
@@ -6,30 +6,31 @@ import zlib
 from typing import Callable, Iterator
 
 import hunk
+from access_lists import random_accesses
+from accesses import READ_IT, RESET, RESET_IT, WRITE_IT, play_machine, play_plain, read, write
 from back import back, holds_words, named_words, page_entry, paragraph_entry
-from builder import build, checked_entries, lay_out, make_image, make_tables
-from bus import run_list
+from builder import PAGED, build, checked_entries, lay_out, make_image, make_tables
 from card import card
-from cases_back import random_image as image_to_undo
-from cases_bus import spelt as listed
-from cases_images import EXAMPLE, random_forms, simple
+from cases_back import random_built
 from cases_jlp import CORNERS, CRC_TABLE
-from cases_metadata import metadata
+from cases_load import EXAMPLE
+from cases_runs import spell_list
 from cases_salvage import random_damage
+from cases_write import random_paragraph
 from checksums import CRC32, CRC32_4, DOWCRC, ONES, bit_by_bit, crc32, crc32_4, dowcrc, run
-from encode import bad_hunk, random_draft, random_hunk, random_tables
+from drafts import bad_hunk, flag_bytes, jlp_bits, metadata_block, random_draft, random_hunk, random_tables, simple
 from generator import Generator, fill_bytes, fill_words
 from jlp import Jlp, crc_step, signed
-from load import NOT_STATED, Loaded, compatibility, jlp_field, load
+from load import LOCUTUS_WORDS, NOT_STATED, Loaded, compatibility, jlp_field, load
 from machine import Machine, asked_entry, flipped, half_page_of, stored
 from metadata import Date, date_of, image_records, lookup
 from plain import PlainCartridge
-from play import play_machine, play_plain
+from runs import run_list
 from salvage import salvage
-from subrecords import spelt, sub_records
+from subrecords import spell, sub_records
 from tables import Tables
-from titles import PAGED, random_accesses, random_title
-from writer import write, write_metadata
+from titles import ram_line, random_title
+from writer import write_image, write_metadata
 
 Check = tuple[str, bool]
 RISING, FOUR = bytes(range(16)), bytes.fromhex("4A5A6A7A")
@@ -58,12 +59,11 @@ def check_sums() -> Iterator[Check]:
 
 def check_hunks() -> Iterator[Check]:
     """Decode and encode 001's example (001, Encoded Example; READINGS S1)."""
-    packed = EXAMPLE
     words = [int(word, 16) for word in EXAMPLE_WORDS.split()]
-    yield "example decoded", hunk.decode(b"\x01\x02\x03" + packed) == (0x030201, words)
+    yield "example decoded", hunk.decode(b"\x01\x02\x03" + EXAMPLE) == (0x030201, words)
     cuts = [7, 9, 14, 16, 33, 39]
     parts = [words[first:last] for first, last in zip([0] + cuts, cuts)]
-    yield "example encoded", b"".join(hunk.block_10(part) for part in parts) == packed
+    yield "example encoded", b"".join(hunk.block_10(part) for part in parts) == EXAMPLE
     for count in range(1, 129):
         ten, eight = [n * 37 % 1024 for n in range(count)], list(range(count))
         yield "10-bit", hunk.decode(bytes(3) + hunk.block_10(ten, 0xFF)) == (0, ten)
@@ -96,7 +96,7 @@ def check_fields() -> Iterator[Check]:
             yield "other fields", fields[:4] == (low % 4, low // 4 % 4, low // 16 % 4, low // 64)
 
 
-ROWS = {
+PERMISSION_ROWS = {
     # READ, WRITE, NARROW: is a word heard, what a write of 0xABCD over 0x12FF leaves (001, Permissions Table)
     (0, 0, 0): (False, 0x12FF), (1, 0, 0): (True, 0x12FF), (0, 1, 0): (False, 0xABCD), (1, 1, 0): (True, 0xABCD),
     (0, 0, 1): (False, 0x12FF), (1, 0, 1): (True, 0x12FF), (0, 1, 1): (False, 0x12CD), (1, 1, 1): (True, 0x12CD),
@@ -105,7 +105,7 @@ ROWS = {
 
 def check_rows() -> Iterator[Check]:
     """Run the eight rows as a table says them (02, W-203)."""
-    for (read, write_bit, narrow), (heard, left) in ROWS.items():
+    for (read, write_bit, narrow), (heard, left) in PERMISSION_ROWS.items():
         for reserved in range(0, 256, 8):
             tables, ram = Tables(), [0x12FF]
             tables.permissions[0x51] = read | write_bit << 1 | narrow << 2 | reserved
@@ -143,11 +143,11 @@ def check_switches(g: Generator, rounds: int) -> Iterator[Check]:
         tables, ram = random_tables(g, 1500), [0] * 1024
         one, other = Machine(tables), Machine(tables)
         for operation, address, value in random_accesses(g, [g.below(16), g.below(16)], 60):
-            if operation == 2:
+            if operation == RESET_IT:
                 one.reset()
                 other.reset()
                 yield "readable after reset", one.readable == len([p for p in one.permissions if p % 2 == 1])
-            elif operation == 1:
+            elif operation == WRITE_IT:
                 before, mapping, permissions = list(ram), list(one.mapping), list(one.permissions)
                 half_page = half_page_of(address)
                 assigned = one.write(ram, [], address, value)
@@ -220,7 +220,7 @@ class PlainRows:
                     self.rows[which] = [0xFFFF] * 96
 
 
-def check_flash(g: Generator, rounds: int) -> Iterator[Check]:
+def check_rows_of_flash(g: Generator, rounds: int) -> Iterator[Check]:
     """Run commands beside a plain list of rows (02, W-209)."""
     commands = {"read": (0x802E, 0xDEC0), "write": (0x802D, 0xC0DE), "erase": (0x802F, 0xBEEF)}
     for _ in range(rounds):
@@ -229,7 +229,7 @@ def check_flash(g: Generator, rounds: int) -> Iterator[Check]:
         for row in range(g.below(6)):
             flash[96 * row * 3 % len(flash)] = g.below(65536)
         rows, console = PlainRows(sectors, list(flash)), {a: ram[a + 0x8000] for a in range(0x8040, 0x9F80)}
-        machine = Machine(Tables(), (3 << 16 | sectors << 22).to_bytes(16, "little"))
+        machine = Machine(Tables(), flag_bytes(jlp_bits(3, sectors)))
         for _ in range(40):
             addr = g.pick([0x803F, 0x8040, 0x9F20, 0x9F21, g.below(65536), 0x8040 + g.below(7000)])
             row, command = g.below(8 * sectors + 2), g.pick(list(commands))
@@ -256,10 +256,10 @@ def check_forms(g: Generator, rounds: int) -> Iterator[Check]:
         yield "sizes", tuple(len(form) for form in hunk.forms([0] * count)) == expected
     yield "tie", hunk.smallest([9]) == hunk.block_16([9]) and hunk.smallest([0x100, 9]) == hunk.block_16([0x100, 9])
     for _ in range(rounds):
-        words = random_forms(g, 0)[0][1][:g.between(1, 62)]
+        words = random_paragraph(g)[:g.between(1, 62)]
         tried = [form for pack in (hunk.block_16, hunk.block_10, hunk.block_8) for form in carried(pack, words)]
         yield "smallest form", hunk.smallest(words) == min(tried, key=len)
-        paragraph = random_forms(g, 0)[0][1]
+        paragraph = random_paragraph(g)
         packed = hunk.encode(256, paragraph)
         yield "same words", hunk.decode(packed) == (256, paragraph)
         yield "same cuts", [len(more or []) for _, more in hunk.data_blocks(packed)] == [62, 62, 62, 62, 8]
@@ -270,7 +270,7 @@ def check_metadata(g: Generator, rounds: int) -> Iterator[Check]:
     for _ in range(rounds):
         parts = [[(g.pick([0, 1, 2, 2, 16]), bytes(g.below(256) for _ in range(g.below(5))))
                   for _ in range(g.below(6))] for _ in range(3)]
-        label, blocks = spelt(parts[0]), [metadata(spelt(part)) for part in parts[1:]]
+        label, blocks = spell(parts[0]), [metadata_block(spell(part)) for part in parts[1:]]
         image = simple(*blocks)
         records = image_records(image)
         yield "same records", [(r.tag, r.text) for r in records] == parts[1] + parts[2]
@@ -290,7 +290,7 @@ def check_metadata(g: Generator, rounds: int) -> Iterator[Check]:
             yield "n-th text", shown == wanted.get(n)
             yield "the label's first", (found.source == 1) == (1 <= n <= len(mine))
         out = bytearray(8 + len(label))
-        yield "block written", write_metadata(label, out).number == 0 and out == metadata(label).encoded()
+        yield "block written", write_metadata(label, out).number == 0 and out == metadata_block(label).encoded()
     for size in range(9):
         date = date_of(bytes([119, 7, 6, 23, 59, 60, 0xFE, 30][:size]))
         yield "date", date == Date(*([2019, 7, 6, 23, 59, 60, -2, 30][:size] + [1900, 0, 0, 0, 0, 0, 0, 0][size:]))
@@ -298,7 +298,7 @@ def check_metadata(g: Generator, rounds: int) -> Iterator[Check]:
 
 def loads_in_full(image: bytes) -> tuple[Loaded, list[int]]:
     """Load into a RAM of 524,288 words with a flash that 13 lets through (02, W-208)."""
-    ram = [0x5A5A] * 524_288
+    ram = [0x5A5A] * LOCUTUS_WORDS
     return load(image, ram, None), ram
 
 
@@ -329,7 +329,7 @@ def check_runs(g: Generator, rounds: int) -> Iterator[Check]:
     """Run lists with two limits, and beside the accesses made one by one (02, W-214)."""
     for _ in range(rounds):
         tables, accesses = random_tables(g, 300), random_accesses(g, [g.below(16), 5], g.between(1, 30))
-        text, low = listed(g, accesses), g.below(35)
+        text, low = spell_list(g, accesses), g.below(35)
         high = low + g.below(10)
         rams = [list(fill_words(2048, 3)) for _ in range(3)]
         short = run_list(Machine(tables), rams[0], [], text, low, 30)
@@ -338,9 +338,9 @@ def check_runs(g: Generator, rounds: int) -> Iterator[Check]:
         yield "a higher limit adds", long.answers[:len(short.answers)] == short.answers
         by_hand, machine = [], Machine(tables)
         for operation, address, value in accesses[:low]:
-            if operation == 0:
+            if operation == READ_IT:
                 by_hand.append(machine.read(rams[2], address))
-            elif operation == 1:
+            elif operation == WRITE_IT:
                 machine.write(rams[2], [], address, value)
             else:
                 machine.reset()
@@ -376,8 +376,8 @@ def plan_by_rows(tables: Tables, named: set[int]) -> tuple[dict[int, str], set[t
 def check_back(g: Generator, rounds: int) -> Iterator[Check]:
     """Decode a plan without trying, and build again what came back (02, W-213)."""
     for _ in range(rounds):
-        image = image_to_undo(g)[1]
-        loaded = load(image, [0] * 524_288, None)
+        image = random_built(g)[1]
+        loaded = loads_in_full(image)[0]
         bin_buffer, cfg_buffer = bytearray(600_000), bytearray(16_384)
         answer = back(image, bin_buffer, cfg_buffer)
         if loaded.number:
@@ -396,7 +396,7 @@ def check_back(g: Generator, rounds: int) -> Iterator[Check]:
         entries = checked_entries(bin_file, cfg)
         yield "as many lines", len(entries) == starts + len(pages)
         again = make_image(bin_file, cfg, entries)
-        yield "the same tables", load(again, [0] * 524_288).tables == loaded.tables
+        yield "the same tables", loads_in_full(again)[0].tables == loaded.tables
         yield "the same words", named_words(again) == named
         twice = [bytearray(600_000), bytearray(16_384)]
         back(again, *twice)
@@ -405,7 +405,7 @@ def check_back(g: Generator, rounds: int) -> Iterator[Check]:
 
 def built(bin_length: int, text: str) -> tuple:
     """Build lines after [mapping], and load the image (01, Bench cases 6 and 7)."""
-    buffer, ram = bytearray(1_100_000), [7] * 524_288
+    buffer, ram = bytearray(1_100_000), [7] * LOCUTUS_WORDS
     answer = build(fill_bytes(bin_length, 0, 5), b"[mapping]\n" + text.encode(), buffer)
     return answer, load(bytes(buffer[:answer.length]), ram), ram
 
@@ -431,17 +431,17 @@ def check_cases_6_to_8() -> Iterator[Check]:
     answer, loaded, ram = built(8192, "$0000 - $0FFF = $C000 PAGE 2")
     yield "case 7", loaded.tables.flips[192:208] == [8, 8, 9] + [8] * 13
     word = int.from_bytes(fill_bytes(8192, 0, 5)[:2], "big")
-    accesses = [(0, 0xC000, 0), (1, 0xCFFF, 0xCA52), (0, 0xC000, 0), (2, 0, 0), (0, 0xC000, 0)]
-    answers = play_machine(Machine(loaded.tables), ram, accesses)
+    accesses = [read(0xC000), write(0xCFFF, 0xCA52), read(0xC000), RESET, read(0xC000)]
+    answers = play_machine(Machine(loaded.tables), ram, [], accesses)
     yield "case 7", answers == [(None, 0), (None, 16), (word, 0), (None, 0), (None, 0)]
-    lines = [f"${256 * p:X}-${256 * p + 255:X}=RAM 8\n" for p in range(0x50, 0xD1)]
+    lines = [ram_line(p) + "\n" for p in range(0x50, 0xD1)]
     yield "case 8", built(2, "[memattr]\n" + "".join(lines[:128]))[0].number == 0
     answer = built(2, "[memattr]\n" + "".join(lines))[0]
     yield "case 8", (answer.number, answer.place) == (24, 131)
     yield "card", card(b"") == "result=refused\ncode=1\nat=0\n"
 
 
-def check_pages() -> Iterator[Check]:
+def check_words_needed() -> Iterator[Check]:
     """Ask 20 of titles with a plain page in each of 14 chapters and any number of PAGE lines (02, W-210)."""
     plain = "$0-$FFF=$2000\n$0-$BFFF=$4000\n[memattr]\n$500-$FFF=RAM 8\n[mapping]\n"
     for count in (1, 61, 113, 114, 115, 116, 124, 125):
@@ -457,13 +457,13 @@ def check_titles(g: Generator, rounds: int) -> Iterator[Check]:
         title = random_title(g, g.pick([1, 2, 3, 14]))
         entries = checked_entries(title.bin_file(), title.cfg)
         image = make_image(title.bin_file(), title.cfg, entries)
-        ram = list(fill_words(524_288, 9))
+        ram = list(fill_words(LOCUTUS_WORDS, 9))
         loaded = load(image, ram)
         yield "title loads", loaded.number == 0 and loaded.words == 256 * (loaded.blocks - 1)
         yield "title tolerates", loaded.fields == (1, 1, 1, 1, 1)
         accesses = random_accesses(g, [entry.chapter for entry in entries], 400)
         expected = play_plain(PlainCartridge(title.bin_file(), entries), accesses)
-        yield "title plays", play_machine(Machine(loaded.tables), ram, accesses) == expected
+        yield "title plays", play_machine(Machine(loaded.tables), ram, [], accesses) == expected
 
 
 def check_round_trips(g: Generator, rounds: int) -> Iterator[Check]:
@@ -476,7 +476,7 @@ def check_round_trips(g: Generator, rounds: int) -> Iterator[Check]:
         yield "draft loads", loaded.number == 0
         buffer = bytearray(1321 + 528 * 8 + 3)
         marks = [p < size // 256 for p in range(2048)]
-        written = write(image[4:20], image[20:28], loaded.tables, ram, marks, buffer)
+        written = write_image(image[4:20], image[20:28], loaded.tables, ram, marks, buffer)
         other = [0] * size
         again = load(bytes(buffer[:written.length]), other)
         yield "written loads", (again.number, again.words) == (0, size // 256 * 256)
@@ -488,10 +488,9 @@ def main() -> None:
     """Run every check, and say how many there were (01, Bench cases)."""
     g, ran = Generator(2019), 0
     for checks in (check_sums(), check_hunks(), check_cases_1_to_5(), check_cases_6_to_8(),
-                   check_faults(g, 1000), check_forms(g, 1000), check_pages(), check_fields(), check_rows(),
-                   check_switches(g, 300), check_jlp(g, 2000), check_flash(g, 60), check_metadata(g, 200),
-                   check_salvage(g, 200), check_runs(g, 300), check_back(g, 200),
-                   check_titles(g, 200),
+                   check_faults(g, 1000), check_forms(g, 1000), check_words_needed(), check_fields(), check_rows(),
+                   check_switches(g, 300), check_jlp(g, 2000), check_rows_of_flash(g, 60), check_metadata(g, 200),
+                   check_salvage(g, 200), check_runs(g, 300), check_back(g, 200), check_titles(g, 200),
                    check_round_trips(g, 500)):
         for name, passed in checks:
             ran += 1

@@ -25,6 +25,6 @@ def sub_records(data: bytes) -> Optional[list[SubRecord]]:
     return found
 
 
-def spelt(records: list[tuple[int, bytes]]) -> bytes:
+def spell(records: list[tuple[int, bytes]]) -> bytes:
     """Write tags and texts as sub-records (001, Program Metadata)."""
     return b"".join(bytes([tag, len(text)]) + text for tag, text in records)

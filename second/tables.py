@@ -2,7 +2,7 @@
 
 from dataclasses import dataclass, field
 
-from hunk import le16, word_at
+from words import le16, words_of
 
 TABLES_SIZE = 1280
 READ, WRITE, NARROW, BANKSW = 1, 2, 4, 8
@@ -33,8 +33,4 @@ class Tables:
 
 def read_tables(payload: bytes) -> Tables:
     """Read the 1,280 bytes of type 0x01 (01, File layout)."""
-    return Tables(
-        [word_at(payload, 2 * entry) for entry in range(256)],
-        list(payload[512:768]),
-        [word_at(payload, 768 + 2 * entry) for entry in range(256)],
-    )
+    return Tables(words_of(payload[:512]), list(payload[512:768]), words_of(payload[768:]))

@@ -1,32 +1,30 @@
-"""Random titles (BIN and CFG), faults to put in, and lists of console accesses."""
+"""Titles (BIN, CFG and label), at random and with faults to put in (01, What a CFG may say)."""
 
-from dataclasses import dataclass, replace
+from dataclasses import dataclass, field, replace
 from pathlib import Path
 from typing import Optional
 
+from builder import PAGED, page_range
 from cfg import MOST_ENTRIES, Entry
 from generator import Generator, fill_bytes
 
-PAGED = [2] + list(range(4, 16))
 BAD_LINES = (Path(__file__).parent / "bad_lines.txt").read_text().splitlines()
-READ_IT, WRITE_IT, RESET_IT = 0, 1, 2
-Access = tuple[int, int, int]
 
 
 @dataclass
 class Title:
-    """A BIN by length, seed and base or by its bytes, the lines of a CFG, its text once spelt, and a label."""
+    """A BIN by length, seed and base or by its bytes, a CFG, a label, and the lines that the CFG was spelt from."""
 
     bin_length: int
     bin_seed: int
-    plan: list[Entry]
     cfg: bytes = b""
     bin_base: int = 0
     data: Optional[bytes] = None
     label: bytes = b""
+    plan: list[Entry] = field(default_factory=list)
 
     def bin_file(self) -> bytes:
-        """Give the BIN's bytes (README.md, Fills)."""
+        """Give the BIN's bytes (RECORDS.md, Fills)."""
         return fill_bytes(self.bin_length, self.bin_base, self.bin_seed) if self.data is None else self.data
 
 
@@ -70,6 +68,11 @@ def cut_lines(g: Generator, kinds: dict[int, str]) -> list[tuple[str, int, int]]
     return lines
 
 
+def ram_line(paragraph: int, width: int = 8) -> str:
+    """Spell a RAM line of one paragraph (01, What a CFG may say)."""
+    return f"${256 * paragraph:X}-${256 * paragraph + 255:X}=RAM {width}"
+
+
 def rom_line(g: Generator, address: int, count: int, page: Optional[int], words: int) -> Entry:
     """Take a line's words from some place in the BIN (01, What a CFG may say)."""
     lo = g.below(words - count + 1)
@@ -78,8 +81,8 @@ def rom_line(g: Generator, address: int, count: int, page: Optional[int], words:
 
 def page_line(g: Generator, chapter: int, page: int, words: int) -> Entry:
     """Make a PAGE line of a chapter's shape (01, What a CFG may say)."""
-    start, count = (0x4800, 2048) if chapter == 4 else (4096 * chapter, 4096)
-    return rom_line(g, start, count, page, words)
+    whole = page_range(chapter)
+    return rom_line(g, whole[0], len(whole), page, words)
 
 
 def random_title(g: Generator, chapters: int) -> Title:
@@ -101,10 +104,10 @@ def random_title(g: Generator, chapters: int) -> Title:
             last = 256 * (first + count) - 1
             plan.append(Entry(0, kind, 256 * first, last, 256 * first))
     plan += [page_line(g, chapter, page, words) for chapter, page in g.shuffled(paged)[:MOST_ENTRIES - len(lines)]]
-    title = Title(2 * words, g.between(1, 12), g.shuffled(plan))
+    title = Title(2 * words, g.between(1, 12), plan=g.shuffled(plan))
     if g.one_in(5):
         title.bin_seed, title.bin_base = 0, g.pick([0, 1, 3, 4, 0xFF])
-    title.cfg = spell(g, title.plan)
+    title.cfg = spell_freely(g, title.plan)
     return title
 
 
@@ -114,7 +117,7 @@ def spell_number(g: Generator, number: int, most: int) -> str:
     return "$" + digits.rjust(g.between(1, most), "0")
 
 
-def spell_line(g: Generator, entry: Entry) -> str:
+def spell_line_freely(g: Generator, entry: Entry) -> str:
     """Spell an entry with blanks here and there (01, What a CFG may say)."""
     def may() -> str:
         return g.pick(["", " ", " ", "  ", "\t"])
@@ -133,7 +136,7 @@ def spell_line(g: Generator, entry: Entry) -> str:
     return text + may()
 
 
-def spell(g: Generator, plan: list[Entry]) -> bytes:
+def spell_freely(g: Generator, plan: list[Entry]) -> bytes:
     """Spell a CFG: sections where needed, comments, blank lines, line ends (01)."""
     lines, section, chatty = [], "", g.one_in(2)
     for entry in plan:
@@ -143,7 +146,7 @@ def spell(g: Generator, plan: list[Entry]) -> bytes:
             section = wanted
         if chatty and g.one_in(6):
             lines.append(g.pick(["", "  ", "; $0 - $FF = $5000", "\t;[memattr]", ";"]))
-        lines.append(spell_line(g, entry) + (g.pick([";", "; rom", " ;PAGE 3"]) if g.one_in(6) else ""))
+        lines.append(spell_line_freely(g, entry) + (g.pick([";", "; rom", " ;PAGE 3"]) if g.one_in(6) else ""))
     end = g.pick(["\n", "\n", "\r\n"])
     text = "".join(line + (end if g.below(9) else "\n") for line in lines)
     return (text if g.below(4) else text.rstrip("\r\n")).encode()
@@ -205,7 +208,7 @@ def spoil_text(g: Generator, number: int, cfg: bytes) -> bytes:
     return cfg + b"\n[memattr]\n" + b"$0-$0=RAM 8\n" * g.between(MOST_ENTRIES, MOST_ENTRIES + 20)
 
 
-def spoil(g: Generator, title: Title, numbers: list[int]) -> None:
+def spoil_title(g: Generator, title: Title, numbers: list[int]) -> None:
     """Put in a fault for each of the refusals 21 to 28 named, and spell the CFG (01)."""
     for number in sorted(numbers, reverse=True):
         if number == 28:
@@ -215,43 +218,9 @@ def spoil(g: Generator, title: Title, numbers: list[int]) -> None:
         elif number in (25, 26):
             which = g.below(len(title.plan))
             title.plan[which] = bad_entry(g, number, title.plan[which], title.bin_length // 2)
-    title.cfg = spell(g, title.plan)
+    title.cfg = spell_freely(g, title.plan)
     for number in sorted(numbers, reverse=True):
         if number in (22, 23, 24):
             title.cfg = spoil_text(g, number, title.cfg)
         elif number == 21:
             title.bin_length = g.pick([0, 1, 511, 524_289, 524_290])
-
-
-def random_access(g: Generator, chapters: list[int]) -> Access:
-    """Choose a read, a write, a page request, a near miss of one, a bankswitch, or a reset (01; 02, W-202)."""
-    chapter = g.pick(chapters) if chapters and g.below(6) else g.below(16)
-    address = 4096 * chapter + g.pick([g.below(4096), g.below(4096), 0x7FF, 0x800, 0, 0xFFF, 0x4FF, 0x500])
-    request = 4096 * chapter + 0xA50 + g.below(16)
-    choice = g.below(18)
-    if choice >= 16:
-        register = 0x40 + 16 * g.below(2) + chapter
-        return WRITE_IT, register, g.pick([g.below(256), 0xF8 + g.below(8), g.below(65536), g.below(16)])
-    if choice < 7:
-        return READ_IT, address, 0
-    if choice < 10:
-        return WRITE_IT, address, g.below(65536)
-    if choice < 13:
-        return WRITE_IT, 4096 * chapter + 0xFFF, request
-    if choice < 14:
-        return WRITE_IT, 4096 * chapter + 0xFFF, g.pick([request ^ 0x1000, request ^ 0x10, request ^ 0x100])
-    if choice < 15:
-        return WRITE_IT, 4096 * chapter + g.pick([0xFFE, 0x7FF, 0xEFF]), request
-    return (RESET_IT, 0, 0) if g.one_in(3) else (READ_IT, address, 0)
-
-
-def random_accesses(g: Generator, chapters: list[int], count: int) -> list[Access]:
-    """Choose a list of accesses, about half of them near the one before (01, The machine)."""
-    accesses = [random_access(g, chapters)]
-    while len(accesses) < count:
-        operation, address, value = random_access(g, chapters)
-        before = accesses[-1][1]
-        if operation == READ_IT and g.one_in(2):
-            address = g.pick([before, before & 0xF000 | address & 0xFFF])
-        accesses.append((operation, address, value))
-    return accesses

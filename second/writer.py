@@ -5,7 +5,7 @@ from typing import MutableSequence, Sequence
 
 from checksums import crc32_4, dowcrc
 from hunk import encode
-from load import BLOCK_HEADER, DATA_HUNK, ENDED, IMAGE_LIMIT, MAGIC, METADATA, TABLES, check_features, lent
+from load import DATA_HUNK, ENDED, IMAGE_LIMIT, MAGIC, METADATA, TABLES, check_features, lent
 from refusal import Refused
 from subrecords import sub_records
 from tables import Tables
@@ -45,6 +45,14 @@ def compose(flags: bytes, uid: bytes, tables: Tables, hunks: list[tuple[int, lis
     return b"".join(parts) + bytes([ENDED])
 
 
+def put(image: bytes, buffer: bytearray) -> int:
+    """Write the image into a buffer that is long enough, else 29 with the length needed (01, refusal 29)."""
+    if len(buffer) < len(image):
+        raise Refused(29, 0, len(image))
+    buffer[:len(image)] = image
+    return len(image)
+
+
 def check_label(label: bytes) -> None:
     """Ask 12 of sub-records to be written: cut, or longer than a block (02, W-204; READINGS W204-18)."""
     if len(label) > MOST_PAYLOAD or sub_records(label) is None:
@@ -53,38 +61,30 @@ def check_label(label: bytes) -> None:
 
 def write_metadata(label: bytes, buffer: bytearray) -> Written:
     """Write sub-records as a block of type 0x03, refusing 12, then 29 (02, W-204; READINGS W204-23)."""
-    length = 0
     try:
         check_label(label)
-        length = BLOCK_HEADER + len(label)
         return Written(0, 0, put(block(METADATA, label), buffer))
     except Refused as refused:
-        return Written(refused.number, refused.place, length)
+        return Written(refused.number, refused.place, refused.length)
 
 
-def put(image: bytes, buffer: bytearray) -> int:
-    """Write the image into a buffer that is long enough, else 29 (01, refusal 29)."""
-    if len(buffer) < len(image):
-        raise Refused(29, 0)
-    buffer[:len(image)] = image
-    return len(image)
+def outside(marked: Sequence[int], words_lent: int) -> list[int]:
+    """Give the marked paragraphs that aren't wholly lent, rising (01, The plain writer)."""
+    return [paragraph for paragraph in marked if paragraph * 256 + 256 > words_lent]
 
 
-def write(flags: bytes, uid: bytes, tables: Tables, ram: MutableSequence[int],
-          marks: Sequence[bool], buffer: bytearray) -> Written:
+def write_image(flags: bytes, uid: bytes, tables: Tables, ram: MutableSequence[int],
+                marks: Sequence[bool], buffer: bytearray) -> Written:
     """Write a hunk for each marked paragraph, refusing 10, 11, 13, 9, 1, 29 in order (01; 02, W-206, W-209)."""
-    length = 0
     try:
         check_features(flags, tables, lent(ram))
         marked = [paragraph for paragraph in range(2048) if marks[paragraph]]
-        for paragraph in marked:
-            if paragraph * 256 + 256 > lent(ram):
-                raise Refused(9, paragraph)
+        for paragraph in outside(marked, lent(ram)):
+            raise Refused(9, paragraph)
         hunks = [(p, list(ram[p * 256:p * 256 + 256])) for p in marked]
         image = compose(flags, uid, tables, hunks)
         if len(image) > IMAGE_LIMIT:
             raise Refused(1, 0)
-        length = len(image)
         return Written(0, 0, put(image, buffer))
     except Refused as refused:
-        return Written(refused.number, refused.place, length)
+        return Written(refused.number, refused.place, refused.length)

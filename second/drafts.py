@@ -1,12 +1,13 @@
-"""Images for load tests: any blocks and encodings, and faults of every kind to put in."""
+"""Images to be written, with any blocks and encodings, and faults of every kind to put in (01, File layout)."""
 
 from dataclasses import dataclass, field
+from typing import Optional
 
 import hunk
 from checksums import crc32_4, dowcrc
 from generator import Generator
-from load import DATA_HUNK, MAGIC, METADATA, TABLES
-from tables import BANKSW, PFE, Tables
+from load import DATA_HUNK, LOCUTUS_WORDS, MAGIC, METADATA, TABLES
+from tables import BANKSW, PFE, TABLES_SIZE, Tables
 
 
 @dataclass
@@ -58,6 +59,26 @@ def hunk_block(address: int, packed: bytes) -> DraftBlock:
     return DraftBlock(DATA_HUNK, address.to_bytes(3, "little") + packed)
 
 
+def metadata_block(data: bytes, spoil_payload: int = 0) -> DraftBlock:
+    """Wrap sub-records as type 0x03 (001, Program Metadata)."""
+    return DraftBlock(METADATA, data, spoil_payload=spoil_payload)
+
+
+def flag_bytes(bits: int) -> bytes:
+    """Write flag bits as the sixteen flag bytes (01, File layout; READINGS L18)."""
+    return bits.to_bytes(16, "little")
+
+
+def jlp_bits(field_value: int, size: int = 0, more: int = 0) -> int:
+    """Give flag bits with a JLP field and a flash size (001, Feature Flags)."""
+    return field_value << 16 | size << 22 | more
+
+
+def simple(*blocks: DraftBlock, tail: bytes = b"\xFF", bits: int = 0, tables: Optional[Tables] = None) -> bytes:
+    """Write an image of tables, then the blocks (01, File layout)."""
+    return Draft([tables_block(tables or Tables()), *blocks], flags=flag_bytes(bits), tail=tail).encoded()
+
+
 def random_tables(g: Generator, entries: int) -> Tables:
     """Set some entries of each table, none of which gives 10 (01, refusal 10)."""
     tables = Tables()
@@ -97,10 +118,10 @@ def random_hunk(g: Generator, ram_words: int) -> DraftBlock:
 
 def random_draft(g: Generator, ram_words: int) -> Draft:
     """Make an image that a RAM of so many words accepts (01, File layout)."""
-    blocks = [random_hunk(g, min(ram_words, 524_288)) for _ in range(g.below(4))]
+    blocks = [random_hunk(g, min(ram_words, LOCUTUS_WORDS)) for _ in range(g.below(4))]
     blocks += [DraftBlock(g.between(4, 254), bytes(g.below(20)), 0, 0, g.below(3))
                for _ in range(g.below(3))]
-    blocks += [DraftBlock(METADATA, bytes(2 * g.below(4)) + b"\x02\x01A" * g.below(3)) for _ in range(g.below(2))]
+    blocks += [metadata_block(bytes(2 * g.below(4)) + b"\x02\x01A" * g.below(3)) for _ in range(g.below(2))]
     blocks = g.shuffled(blocks + [tables_block(random_tables(g, g.below(6)))])
     draft = Draft(blocks)
     draft.flags = bytes([g.below(256), g.below(256), g.below(64) * 4, g.below(256), g.below(128) * 2])
@@ -133,26 +154,26 @@ def spoil_tables(g: Generator, draft: Draft) -> None:
     """Make the tables missing, double or of a wrong size (01, refusal 8)."""
     for place, block in enumerate(list(draft.blocks)):
         if block.kind == TABLES:
-            block.kind = g.pick([TABLES, TABLES, 3, 0x42, 0xFE])
+            block.kind = g.pick([TABLES, TABLES, METADATA, 0x42, 0xFE])
             draft.blocks.insert(g.between(place, len(draft.blocks)), tables_block(Tables()))
             block.payload = g.pick([block.payload, b"", block.payload[:-1], block.payload + b"\x00"])
 
 
 def ask_unsupported(g: Generator, draft: Draft) -> None:
-    """Ask for JLP, the mapper or flips in chapter 1 (01, refusal 10)."""
+    """Ask for JLP, the mapper or flips in chapter 1 (01, refusal 10; 02, W-206, W-209)."""
     if g.one_in(2):
         bits = int.from_bytes(draft.flags, "little") | 1 << g.pick([16, 17, 32])
-        draft.flags = bits.to_bytes(16, "little")
+        draft.flags = flag_bytes(bits)
         return
     place = 768 + 32 + 2 * g.below(16)
     for block in draft.blocks:
-        if block.kind == TABLES and len(block.payload) == 1280:
+        if block.kind == TABLES and len(block.payload) == TABLES_SIZE:
             spoilt = bytearray(block.payload)
-            spoilt[place] |= 8
+            spoilt[place] |= PFE
             block.payload = bytes(spoilt)
 
 
-def spoil(g: Generator, draft: Draft, words_lent: int) -> None:
+def spoil_draft(g: Generator, draft: Draft, words_lent: int) -> None:
     """Put in a fault for one of the refusals 2 to 13 (01, Numbers that come back; 02)."""
     fault, block = g.pick([2, 3, 4, 5, 6, 7, 8, 8, 8, 9, 9, 10, 10, 10, 12, 12]), g.pick(draft.blocks)
     if fault == 2:
@@ -176,7 +197,7 @@ def spoil(g: Generator, draft: Draft, words_lent: int) -> None:
     elif fault == 12:
         payload, wrong = g.pick([(b"\x00", 0), (b"\x02\x05abcd", 0), (b"\x02\x01a", 1), (b"\x00\x00\x0F", 0), (b"", 1),
                                  (b"\x01", 7)])
-        draft.blocks.insert(g.below(len(draft.blocks) + 1), DraftBlock(METADATA, payload, spoil_payload=wrong))
+        draft.blocks.insert(g.below(len(draft.blocks) + 1), metadata_block(payload, wrong))
     else:
         ask_unsupported(g, draft)
 
@@ -191,3 +212,15 @@ def damaged(g: Generator, image: bytes) -> bytes:
     if g.one_in(2) and len(spoilt) >= 32:
         spoilt[31] = dowcrc(bytes(spoilt[0:31]))
     return bytes(spoilt)
+
+
+def random_image(g: Generator, ram_words: int) -> tuple[str, bytes]:
+    """Make an image: whole, with faults, or damaged; name what was done (01, refusals 1 to 13)."""
+    draft = random_draft(g, ram_words)
+    faults = g.pick([0, 1, 1, 1, 2, 3, 4])
+    for _ in range(faults):
+        spoil_draft(g, draft, min(ram_words, LOCUTUS_WORDS))
+    image = draft.encoded()
+    if g.one_in(4):
+        return f"{faults} faults, damaged", damaged(g, image)
+    return f"{faults} faults", image

@@ -1,13 +1,12 @@
-"""A list of bus accesses as text, and its runner (02, W-214)."""
+"""The runner of a list of bus accesses, and the text of such a list (02, W-214)."""
 
 import re
 from dataclasses import dataclass, field
 from typing import MutableSequence, Optional
 
+from accesses import READ_IT, RESET, Access, play_machine, read, write
 from machine import Machine
-from play import play_machine
 from refusal import Refused
-from titles import READ_IT, RESET_IT, WRITE_IT, Access
 
 HEX = b"([0-9A-Fa-f]{4})"
 READ_LINE = re.compile(b"op=r addr=" + HEX)
@@ -35,23 +34,25 @@ def lines_of(text: bytes) -> list[bytes]:
 def read_line(line: bytes) -> Optional[Access]:
     """Read one line, or none if malformed (READINGS W214-1)."""
     if line == b"op=x":
-        return RESET_IT, 0, 0
+        return RESET
     match = READ_LINE.fullmatch(line)
     if match:
-        return READ_IT, int(match[1], 16), 0
+        return read(int(match[1], 16))
     match = WRITE_LINE.fullmatch(line)
-    return (WRITE_IT, int(match[1], 16), int(match[2], 16)) if match else None
+    return write(int(match[1], 16), int(match[2], 16)) if match else None
 
 
 def read_list(text: bytes) -> list[Access]:
     """Read every line, or 33 at the first malformed one (02, W-214)."""
-    accesses = []
-    for number, line in enumerate(lines_of(text), 1):
-        access = read_line(line)
-        if access is None:
-            raise Refused(33, number)
-        accesses.append(access)
+    accesses = [read_line(line) for line in lines_of(text)]
+    if None in accesses:
+        raise Refused(33, 1 + accesses.index(None))
     return accesses
+
+
+def count_reads(accesses: list[Access]) -> int:
+    """Count the answers that a list needs room for (READINGS W214-6)."""
+    return len([access for access in accesses if access[0] == READ_IT])
 
 
 def run_list(machine: Machine, ram: MutableSequence[int], flash: MutableSequence[int], text: bytes, limit: int,
@@ -59,11 +60,10 @@ def run_list(machine: Machine, ram: MutableSequence[int], flash: MutableSequence
     """Run up to limit lines, refusing 33, then 29, before any (02, W-214; READINGS W214-5 to W214-10)."""
     try:
         accesses = read_list(text)
+        if count_reads(accesses) > room:
+            raise Refused(29, 0, count_reads(accesses))
     except Refused as refused:
-        return Ran(refused.number, refused.place)
-    reads = len([access for access in accesses if access[0] == READ_IT])
-    if reads > room:
-        return Ran(29, 0, reads)
+        return Ran(refused.number, refused.place, refused.length)
     played = accesses[:limit]
-    answers = play_machine(machine, ram, played, flash)
+    answers = play_machine(machine, ram, flash, played)
     return Ran(0, 0, 0, len(played), [word for (word, _), access in zip(answers, played) if access[0] == READ_IT])
