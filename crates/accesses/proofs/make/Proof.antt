@@ -16,7 +16,8 @@ returns-2 c =
 returns-3 : tie.Need-returns-3
 returns-3 c =
     let written = c .before .before .before .before .before in
-    let arm = written .before .before .before .before .before .before in
+    let lent = written .before .before .before in
+    let arm = lent .before .before .before in
     let start = arm .before .before .before .before .before in
     let w = written .write-by .ensures in
     write-done _ _ _ _ _ _ _ _ _ (start .args .s) _ _ _ _ _ _ _ _ (search needs) (w .1) (w .2) (w .3) (w .4) (w .5) (c .latched .ensures)

@@ -34,7 +34,8 @@ says-at-requires c κs = (running-at _ _ _ _ _ _ _ _ _ _ (c .before .before .loo
 
 note-requires : tie.Need-note-requires Inv-loop μ-loop
 note-requires c κs =
-    let made = c .before .before .before .before .before .before in
+    let near = c .before .before .before .before .before in
+    let made = near .before in
     let lent = made .before .before .before .before .before in
     let moved = lent .before .before .before .before .before in
     let said = moved .before in

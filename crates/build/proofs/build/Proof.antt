@@ -22,7 +22,8 @@ refuse-requires-2 c κs = search needs
 
 returns : tie.Need-returns
 returns c =
-    let start = c .before .before .before .before .before .before .before .before in
+    let near = c .before .before .before .before .before in
+    let start = near .before .before .before in
     let a =
     refused-bin (start .args .bin .now) (start .args .cfg .now) (start .args .label .now) (start .args .out .now) _ (c .before .before .before .is-wrong .ensures)
     (c .before .before .if1 .taken) _ (c .before .refuse .ensures) _ (c .refuse2 .ensures) in

@@ -11,8 +11,10 @@ returns c =
 
 returns-2 : tie.Need-returns-2
 returns-2 c =
-    let start = c .before .before .before .before .before .before .before .before .before .before .before .before .before .before in
-    put-labelled (start .args .label .now) (start .args .out .now) _ _ _ (start .pre) (c .before .before .before .before .before .before .before .before .before .before .before .if1 .left) (c .before .before .before .before .before .before .before .before .before .front-of .ensures) (c .before .before .before .before .before .before .put-bytes .ensures)
+    let near = c .before .before .before .before .before in
+    let mid = near .before .before .before .before .before in
+    let start = mid .before .before .before .before in
+    put-labelled (start .args .label .now) (start .args .out .now) _ _ _ (start .pre) (mid .before .if1 .left) (near .before .before .before .before .front-of .ensures) (near .before .put-bytes .ensures)
     (c .before .before .write .ensures .1)
 
 pub put-label-spec : {M : Type 1} → statement M

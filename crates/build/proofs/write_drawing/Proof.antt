@@ -18,7 +18,11 @@ same-length : tie.Need-same-length
 same-length c = search needs
 
 returns : tie.Need-returns
-returns c = drawn-written _ _ _ _ _ (c .before .before .before .before .before .before .before .before .before .before .before .before .before .before .before .before .args .d) _ (c .before .before .before .before .before .before .before .before .before .before .before .before .before .flag-bytes .ensures) (c .before .before .write .ensures)
+returns c =
+    let near = c .before .before .before .before .before in
+    let mid = near .before .before .before .before .before in
+    let far = mid .before .before .before .before .before in
+    drawn-written _ _ _ _ _ (far .before .args .d) _ (mid .before .before .before .flag-bytes .ensures) (c .before .before .write .ensures)
 
 pub write-drawing-spec : {M : Type 1} → statement M
 write-drawing-spec = tie.close (tie.spec flag-bytes-requires write-requires same-length returns)

@@ -15,10 +15,12 @@ returns-2 c = (search (needs, walk-answers), search (needs, walk-keeps))
 
 returns-3 : tie.Need-returns-3
 returns-3 c =
-    let h = c .before .before .before .before .before .before .before .before .before .before .before .before .before .before .check .ensures in
-    let z = c .before .before .before .before .before .before .before .before .before .before .before .before .if1 .left in
-    let m = c .before .before .before .before .before .before .before .before .lent-words .ensures .0 in
-    let v = c .before .before .before .before .before .before .before .check-blocks .ensures in
+    let near = c .before .before .before .before .before in
+    let mid = near .before .before .before .before .before in
+    let h = mid .before .before .before .before .check .ensures in
+    let z = mid .before .before .if1 .left in
+    let m = near .before .before .before .lent-words .ensures .0 in
+    let v = near .before .before .check-blocks .ensures in
     let f = c .before .before .finish .ensures in
     done-so _ _ _ _ h z _ m _ v _ _ _ (search needs) _ _ (f .0) (f .1)
 

@@ -6,7 +6,8 @@ use Rattle.unbuild.proofs.retrace_loads.Tie as tie
 
 returns : tie.Need-returns
 returns c =
-    let second = c .before .before .before .before .before .before in
+    let near = c .before .before .before .before .before in
+    let second = near .before in
     let first = second .before .before .before .before in
     let start = first .before .before .before .before .before in (
       retraced-loaded _ (start .pre .0) _ _ _ _ _ (start .pre .1) (first .load-into .ensures .0) (c .retrace-cartridge .ensures),

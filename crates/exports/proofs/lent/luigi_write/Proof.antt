@@ -7,8 +7,10 @@ use Rattle.exports.proofs.lent.luigi_write.Tie as tie
 
 returns : tie.Need-returns
 returns c =
-    let by = c .before .before .before .before .before .before .write-by .ensures in
-    let from = c .before .before .before .before .before .before .before .before .before .before .before .before .jlp-from .ensures in (
+    let near = c .before .before .before .before .before in
+    let mid = near .before .before .before .before .before in
+    let by = near .before .write-by .ensures in
+    let from = mid .before .before .jlp-from .ensures in (
       rw from at (by .0),
       rw from at (by .1),
       rw from at (by .2),

@@ -7,8 +7,10 @@ use Rattle.exports.proofs.state.luigi_run.Tie as tie
 
 returns : tie.Need-returns
 returns c =
-    let run = c .before .before .before .before .before .before .before .run in
-    let from = c .before .before .before .before .before .before .before .before .before .before .before .cartridge-from .ensures in
+    let near = c .before .before .before .before .before in
+    let mid = near .before .before .before .before .before in
+    let run = near .before .before .run in
+    let from = mid .before .cartridge-from .ensures in
     (rw from at (c .ran-as .ensures ∙ ap ranAs (run .ensures .0)), rw from at (run .ensures .1), rw from at (run .ensures .2), rw from at (run .ensures .3))
 
 pub luigi-run-spec : {M : Type 1} → statement M

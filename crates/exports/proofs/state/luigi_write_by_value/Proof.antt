@@ -7,8 +7,9 @@ use Rattle.exports.proofs.state.luigi_write_by_value.Tie as tie
 
 returns : tie.Need-returns
 returns c =
+    let near = c .before .before .before .before .before in
     let write = c .before .before .before .before .before .write in
-    let from = c .before .before .before .before .before .before .before .before .cartridge-from .ensures in
+    let from = near .before .before .before .cartridge-from .ensures in
     (rw from at (c .written-as .ensures ∙ ap writtenAs (write .ensures .0)), rw from at (write .ensures .1), rw from at (write .ensures .2))
 
 pub luigi-write-by-value-spec : {M : Type 1} → statement M

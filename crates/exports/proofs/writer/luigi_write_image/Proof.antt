@@ -7,8 +7,9 @@ use Rattle.exports.proofs.writer.luigi_write_image.Tie as tie
 
 returns : tie.Need-returns
 returns c =
+    let near = c .before .before .before .before .before in
     let write = c .before .before .before .write in
-    let from = c .before .before .before .before .before .before .marks-from .ensures in
+    let from = near .before .marks-from .ensures in
     (rw from at (c .image-as .ensures ∙ ap imageAs (write .ensures .0)), rw from at (write .ensures .1))
 
 pub luigi-write-image-spec : {M : Type 1} → statement M
