@@ -1068,12 +1068,17 @@ no_arguments() {
     [ ! -s said ] || differs "usage went to standard output"
 }
 arguments_that_are_none() {
-    for words in 'press a b' 'press a b c d e' 'card' 'card a b' 'labels' 'labels a b c' 'salvage a' 'unpress a b' 'prss' 'vectors a b'; do
+    for words in 'press a b' 'press a b c d e' 'card' 'card a b' 'map' 'labels' 'labels a b c' 'salvage a' 'unpress a b' 'bus a' 'vectors a b'; do
         # shellcheck disable=SC2086
         run "$luigi" $words
         status_is 2
-        tells '^luigi press'
+        tells "^luigi: .*: write luigi ${words%% *}"
     done
+}
+a_command_that_is_none() {
+    run "$luigi" prss a b c
+    status_is 2
+    tells '^luigi: there is no command prss: luigi help names them all'
 }
 help_is_asked_for() {
     run "$luigi" help
