@@ -29,10 +29,15 @@ enum {
     LUIGI_SILENCE = 0x10000         /* what a read that nobody answers hears; every other answer is a word */
 };
 
-/* ---- checksums ---- */
+/* ---- checksums of n bytes ---- */
 
+/* DOWCRC (0x98, start 0), which the header carries, and a block of its first three bytes. */
 uint8_t luigi_dowcrc(const uint8_t *s, size_t n);
+
+/* CRC32/4 (0x82F63B78, start 0, not inverted), which a block carries of its payload. */
 uint32_t luigi_crc324(const uint8_t *s, size_t n);
+
+/* IEEE CRC32 (0xEDB88320, start and final inversion), of which the UID of a built image is made: of the BIN, then of the CFG. */
 uint32_t luigi_crc32(const uint8_t *s, size_t n);
 
 /* ---- images ---- */
