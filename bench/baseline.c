@@ -233,6 +233,28 @@ void c_writes(Cartridge *c, uint16_t *ram, size_t words, uint16_t *flash, size_t
         assigned[i] = write_word(c, ram, words, flash, flash_words, at[i], value[i]);
 }
 
+static void reset(Cartridge *c) {
+    memcpy(c->mapping, c->initial_mapping, sizeof c->mapping);
+    memcpy(c->permissions, c->initial_permissions, sizeof c->permissions);
+    c->readable = 0;
+    for (int p = 0; p < 256; p++)
+        c->readable += c->permissions[p] & READ;
+    c->jlp.on = c->jlp.field == 1 || c->jlp.field == 3;
+}
+
+/* One access a call. */
+uint32_t c_read(const Cartridge *c, const uint16_t *ram, size_t words, uint16_t at) {
+    return read_word(c, ram, words > LENT_LIMIT ? LENT_LIMIT : words, at);
+}
+
+uint8_t c_write(Cartridge *c, uint16_t *ram, size_t words, uint16_t *flash, size_t flash_words, uint16_t at, uint16_t value) {
+    return write_word(c, ram, words > LENT_LIMIT ? LENT_LIMIT : words, flash, flash_words, at, value);
+}
+
+void c_reset(Cartridge *c) {
+    reset(c);
+}
+
 /* ---- a list of accesses: a pass that checks every line, then one that makes the accesses ---- */
 
 typedef enum { MALFORMED, READS, WRITES, RESETS } Op;
@@ -272,15 +294,6 @@ static size_t end_of(const uint8_t *s, size_t n, size_t at) {
 
 static size_t behind(const uint8_t *s, size_t n, size_t end) {
     return end == n ? n : s[end] == '\n' ? end + 1 : end + 2;
-}
-
-static void reset(Cartridge *c) {
-    memcpy(c->mapping, c->initial_mapping, sizeof c->mapping);
-    memcpy(c->permissions, c->initial_permissions, sizeof c->permissions);
-    c->readable = 0;
-    for (int p = 0; p < 256; p++)
-        c->readable += c->permissions[p] & READ;
-    c->jlp.on = c->jlp.field == 1 || c->jlp.field == 3;
 }
 
 Ran c_run(const uint8_t *list, size_t n, size_t limit, Cartridge *c, uint16_t *ram, size_t words, uint16_t *flash, size_t flash_words, uint32_t *out, size_t room) {
@@ -416,47 +429,77 @@ static Loading refused_load(uint32_t number, size_t place) {
     return r;
 }
 
-Loading c_load(const uint8_t *s, size_t n, uint16_t *ram, size_t words, size_t flash_words) {
+/* Whether sub-records of tag, length and text fill the bytes to the last. */
+static bool is_whole(const uint8_t *s, size_t n) {
+    size_t i = 0;
+    while (i < n)
+        i += 2 + (i + 1 < n ? s[i + 1] : 0);
+    return i == n;
+}
+
+/* What the block at p gives: its refusal or 0, and a hunk's words. Of the tables, `tables` is the first block's place. */
+typedef struct {
+    uint32_t number;
+    size_t place, words;
+} Judged;
+
+static Judged judge(const uint8_t *s, size_t n, size_t p, size_t words, size_t tables, Tables dow, Tables c324) {
+    if (n - p < 8 || (uint8_t)sum_by(dow, 0, s + p, 3) != s[p + 3] || p + 8 + get16(s + p + 1) > n)
+        return (Judged){.number = 5, .place = p};
+    size_t length = get16(s + p + 1);
+    const uint8_t *payload = s + p + 8;
+    if (s[p] == 0)
+        return (Judged){.number = 7, .place = p};
+    if (s[p] <= 3 && sum_by(c324, 0, payload, length) != get32(s + p + 4))
+        return (Judged){.number = s[p] == 3 ? 12 : 6, .place = p};
+    if (s[p] == 3 && !is_whole(payload, length))
+        return (Judged){.number = 12, .place = p};
+    if (s[p] == 1 && (length != 1280 || tables))
+        return (Judged){.number = 8, .place = p};
+    long w = s[p] == 2 ? check_hunk(payload, length, words) : 0;
+    return w < 0 ? (Judged){.number = 9, .place = p + 8 + (size_t)(-1 - w)} : (Judged){.words = w};
+}
+
+static uint32_t judge_header(const uint8_t *s, size_t n, Tables dow) {
+    if (n < 32 || n > IMAGE_LIMIT)
+        return 1;
+    if (s[0] != 0x4C || s[1] != 0x54 || s[2] != 0x4F)
+        return 2;
+    return s[3] != 1 ? 3 : (uint8_t)sum_by(dow, 0, s, 31) != s[31] ? 4 : 0;
+}
+
+/* The pass that checks: the refusal, or where the tables are, and the blocks and words. */
+typedef struct {
+    uint32_t number;
+    size_t place, tables, blocks, words;
+} Checked;
+
+static Checked check(const uint8_t *s, size_t n, size_t words) {
     Tables dow, c324;
     make_tables(DOW, dow);
     make_tables(C324, c324);
+    Checked r = {.number = judge_header(s, n, dow)};
+    if (r.number)
+        return r;
+    for (size_t p = 32; p < n && s[p] != 0xFF; p += 8 + get16(s + p + 1)) {
+        Judged j = judge(s, n, p, words, r.tables, dow, c324);
+        if (j.number)
+            return (Checked){.number = j.number, .place = j.place};
+        if (s[p] == 1)
+            r.tables = p;
+        r.words += j.words;
+        r.blocks++;
+    }
+    return r.tables ? r : (Checked){.number = 8, .place = n};
+}
+
+Loading c_load(const uint8_t *s, size_t n, uint16_t *ram, size_t words, size_t flash_words) {
     if (words > LENT_LIMIT)
         words = LENT_LIMIT;
-    if (n < 32 || n > IMAGE_LIMIT)
-        return refused_load(1, 0);
-    if (s[0] != 0x4C || s[1] != 0x54 || s[2] != 0x4F)
-        return refused_load(2, 0);
-    if (s[3] != 1)
-        return refused_load(3, 0);
-    if ((uint8_t)sum_by(dow, 0, s, 31) != s[31])
-        return refused_load(4, 0);
-    size_t tables = 0, blocks = 0, stored = 0, p, next;
-    for (p = 32; p < n && s[p] != 0xFF; p = next) {
-        if (n - p < 8 || (uint8_t)sum_by(dow, 0, s + p, 3) != s[p + 3] || p + 8 + get16(s + p + 1) > n)
-            return refused_load(5, p);
-        size_t length = get16(s + p + 1);
-        const uint8_t *payload = s + p + 8;
-        if (s[p] == 0)
-            return refused_load(7, p);
-        if (s[p] <= 2 && sum_by(c324, 0, payload, length) != get32(s + p + 4))
-            return refused_load(6, p);
-        if (s[p] == 1) {
-            if (length != 1280 || tables)
-                return refused_load(8, p);
-            tables = p;
-        }
-        if (s[p] == 2) {
-            long w = check_hunk(payload, length, words);
-            if (w < 0)
-                return refused_load(9, p + 8 + (size_t)(-1 - w));
-            stored += w;
-        }
-        blocks++;
-        next = p + 8 + length;
-    }
-    if (!tables)
-        return refused_load(8, n);
-    Loading r = {.blocks = blocks, .words = stored, .cartridge = cartridge_of(s + tables + 8)};
+    Checked k = check(s, n, words);
+    if (k.number)
+        return refused_load(k.number, k.place);
+    Loading r = {.blocks = k.blocks, .words = k.words, .cartridge = cartridge_of(s + k.tables + 8)};
     int refused = not_had(s + 4, &r.cartridge, words, flash_words);
     if (refused)
         return refused_load(refused, 0);
@@ -466,7 +509,7 @@ Loading c_load(const uint8_t *s, size_t n, uint16_t *ram, size_t words, size_t f
         r.compat[i] = s[4 + field[i] / 8] >> field[i] % 8 & 3;
     if ((s[5] & 3) == 0)
         r.compat[4] = NOT_STATED;
-    for (p = 32; p < n && s[p] != 0xFF; p += 8 + get16(s + p + 1))
+    for (size_t p = 32; p < n && s[p] != 0xFF; p += 8 + get16(s + p + 1))
         if (s[p] == 2)
             store_hunk(s + p + 8, get16(s + p + 1), ram);
     return r;

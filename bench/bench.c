@@ -13,7 +13,7 @@ typedef LuigiActive Active;
 enum { MIB = 1048576, BIN_BYTES = 524288, ROOM = IMAGE_LIMIT, WORDS = LENT_LIMIT };
 enum { SECTORS = 8, FLASH = 768 * SECTORS }; /* the flash of the accelerated cartridge */
 enum { LINES = 1000000, LIST = 26 * LINES }; /* the lines of a list, and room for its text */
-enum { SCRIPT = 20000, TIMES = 500, SAVES = 50 }; /* 10 million accesses: 500 times a script of 20,000; of saves a million */
+enum { SCRIPT = 20000, TIMES = 500, SAVES = 50, RESETS = 1000000 }; /* 10 million accesses: 500 times a script of 20,000; of saves a million */
 
 /* ---- inputs, from one seed ---- */
 
@@ -240,6 +240,44 @@ static bool same_worlds(void) {
 
 static bool same_writes(void) { return same_worlds() && same_numbers(); }
 
+/* The same accesses, a call each. */
+static void proved_single_reads(void) {
+    const Cartridge *c = &cartridge[0];
+    for (int i = 0; i < TIMES; i++)
+        for (int k = 0; k < SCRIPT; k++)
+            heard[0][k] = luigi_read(c->mapping, c->permissions, words_of(c), ram[0], WORDS, read_at[k]);
+}
+
+static void plain_single_reads(void) {
+    for (int i = 0; i < TIMES; i++)
+        for (int k = 0; k < SCRIPT; k++)
+            heard[1][k] = c_read(&cartridge[1], ram[1], WORDS, read_at[k]);
+}
+
+static void proved_single_writes(void) {
+    Cartridge *c = &cartridge[0];
+    for (int i = 0; i < TIMES; i++)
+        for (int k = 0; k < SCRIPT; k++)
+            assigned[0][k] = luigi_write(c->mapping, c->permissions, c->flips, &c->readable, lent_words_of(c), ram[0], WORDS, flash[0], FLASH, write_at[k], value[k]);
+}
+
+static void plain_single_writes(void) {
+    for (int i = 0; i < TIMES; i++)
+        for (int k = 0; k < SCRIPT; k++)
+            assigned[1][k] = c_write(&cartridge[1], ram[1], WORDS, flash[1], FLASH, write_at[k], value[k]);
+}
+
+static void proved_resets(void) {
+    Cartridge *c = &cartridge[0];
+    for (int i = 0; i < RESETS; i++)
+        luigi_reset(c->initial_mapping, c->initial_permissions, c->mapping, c->permissions, &c->readable, lent_words_of(c));
+}
+
+static void plain_resets(void) {
+    for (int i = 0; i < RESETS; i++)
+        c_reset(&cartridge[1]);
+}
+
 static void proved_switches(void) {
     Cartridge *c = &banked[0];
     for (int i = 0; i < TIMES; i++)
@@ -328,6 +366,9 @@ static const Row rows[] = {
     {"10 million bus reads", 9, proved_reads, plain_reads, same_heard, 1e7},
     {"10 million bus writes, every 16th a flip", 9, proved_writes, plain_writes, same_writes, 1e7},
     {"10 million writes with switches, every 16th a bankswitch", 9, proved_switches, plain_switches, same_banked, 1e7},
+    {"10 million bus reads, a call each", 9, proved_single_reads, plain_single_reads, same_heard, 1e7},
+    {"10 million bus writes, a call each", 9, proved_single_writes, plain_single_writes, same_writes, 1e7},
+    {"a million resets", 9, proved_resets, plain_resets, same_worlds, 1e6},
     {"10 million reads of JLP RAM", 9, proved_jlp_reads, plain_jlp_reads, same_heard, 1e7},
     {"10 million writes to JLP RAM", 9, proved_jlp_writes, plain_jlp_writes, same_accelerated, 1e7},
     {"10 million multiplies by JLP", 9, proved_multiplies, plain_multiplies, same_accelerated, 1e7},
