@@ -417,6 +417,11 @@ static int not_had(const uint8_t *flags, const Cartridge *c, size_t words, size_
     return field >= 2 && (size > SECTOR_LIMIT || flash_words != ROW * SECTOR * size) ? 13 : 0;
 }
 
+/* Refusals 10, 11 and 13, where the flash that is lent fits the size. */
+static int not_fit(const uint8_t *flags, const Cartridge *c, size_t words) {
+    return not_had(flags, c, words, (size_t)ROW * SECTOR * flash_size(flags));
+}
+
 /* TutorVision's number where an image states nothing of it. */
 enum { NOT_STATED = 4 };
 
@@ -625,6 +630,35 @@ static size_t write_image(uint8_t *out, const uint8_t *flags, const uint8_t *uid
     }
     *to++ = 0xFF;
     return to - out;
+}
+
+static size_t length_of(const uint16_t *ram, const bool *marks) {
+    size_t length = 32 + TABLES_BYTES + 1;
+    for (int p = 0; p < 2048; p++) {
+        if (!marks[p])
+            continue;
+        length += 8 + 3;
+        for (int i = 0; i < 256; i += MOST_WORDS)
+            length += data_size(form_of(ram + 256 * p + i, cut_at(i)), cut_at(i));
+    }
+    return length;
+}
+
+Writing c_write_image(const uint8_t *flags, const uint8_t *uid, const Cartridge *c, const uint16_t *ram, size_t words, const bool *marks, uint8_t *out, size_t room) {
+    if (words > LENT_LIMIT)
+        words = LENT_LIMIT;
+    int refused = not_fit(flags, c, words);
+    if (refused)
+        return (Writing){.number = refused};
+    for (size_t p = 0; p < 2048; p++)
+        if (marks[p] && 256 * p + 256 > words)
+            return (Writing){.number = 9, .place = p};
+    size_t length = length_of(ram, marks);
+    if (length > IMAGE_LIMIT)
+        return (Writing){.number = 1};
+    if (length > room)
+        return (Writing){.number = 29, .length = length};
+    return (Writing){.length = write_image(out, flags, uid, c, ram, marks)};
 }
 
 /* ---- the builder: lines, rules, layout, image ---- */
@@ -878,18 +912,6 @@ static uint32_t lay_out(const Line *lines, const Owners *o, const bool *covers, 
         }
     }
     return pages;
-}
-
-static size_t length_of(const uint16_t *ram, const bool *marks) {
-    size_t length = 32 + TABLES_BYTES + 1;
-    for (int p = 0; p < 2048; p++) {
-        if (!marks[p])
-            continue;
-        length += 8 + 3;
-        for (int i = 0; i < 256; i += MOST_WORDS)
-            length += data_size(form_of(ram + 256 * p + i, cut_at(i)), cut_at(i));
-    }
-    return length;
 }
 
 Building c_build(const uint8_t *bin, size_t nbin, const uint8_t *cfg, size_t ncfg, uint8_t *out, size_t room) {

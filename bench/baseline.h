@@ -1,6 +1,7 @@
 /* The C side of the comparison: the algorithms of the proved crates, written as C is usually written. */
 #ifndef BASELINE_H
 #define BASELINE_H
+#include <stdbool.h>
 #include <stddef.h>
 #include <stdint.h>
 
@@ -50,6 +51,14 @@ typedef struct {
 } Loading;
 
 Loading c_load(const uint8_t *image, size_t n, uint16_t *ram, size_t words, size_t flash_words);
+
+typedef struct {
+    uint32_t number;
+    size_t place, length;
+} Writing;
+
+/* The tables as loaded are written, and the marked ones of 2,048 paragraphs. */
+Writing c_write_image(const uint8_t *flags, const uint8_t *uid, const Cartridge *c, const uint16_t *ram, size_t words, const bool *marks, uint8_t *out, size_t room);
 
 typedef struct {
     uint32_t number;
