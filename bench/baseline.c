@@ -520,6 +520,50 @@ Loading c_load(const uint8_t *s, size_t n, uint16_t *ram, size_t words, size_t f
     return r;
 }
 
+/* ---- labels: an image is judged as a load of the whole RAM would, then the texts are gone through ---- */
+
+/* A load's refusals for a RAM of 524,288 words and a flash that fits. */
+static Checked check_for_desk(const uint8_t *s, size_t n) {
+    Checked k = check(s, n, LENT_LIMIT);
+    if (k.number)
+        return k;
+    Cartridge c = cartridge_of(s + k.tables + 8);
+    int refused = not_fit(s + 4, &c, LENT_LIMIT);
+    return refused ? (Checked){.number = refused} : k;
+}
+
+/* The sub-record of the n-th text with a tag, where *left is n; else how many are left to find. */
+static const uint8_t *text_of(const uint8_t *s, size_t n, uint8_t tag, size_t *left) {
+    for (size_t i = 0; i < n; i += 2 + s[i + 1])
+        if (s[i] == tag && --*left == 0)
+            return s + i;
+    return NULL;
+}
+
+static Finding found(uint32_t file, const uint8_t *s, const uint8_t *record) {
+    size_t from = record + 2 - s;
+    return (Finding){.file = file, .from = from, .to = from + record[1]};
+}
+
+Finding c_find(const uint8_t *label, size_t nlabel, const uint8_t *s, size_t n, uint8_t tag, size_t which) {
+    Checked k = check_for_desk(s, n);
+    if (k.number)
+        return (Finding){.number = k.number, .place = k.place};
+    if (!is_whole(label, nlabel))
+        return (Finding){.number = 12};
+    if (tag > 0x0F || which == 0)
+        return (Finding){0};
+    size_t left = which;
+    const uint8_t *record = text_of(label, nlabel, tag, &left);
+    if (record)
+        return found(1, label, record);
+    left = which;
+    for (size_t p = 32; p < n && s[p] != 0xFF; p += 8 + get16(s + p + 1))
+        if (s[p] == 3 && (record = text_of(s + p + 8, get16(s + p + 1), tag, &left)))
+            return found(2, s, record);
+    return (Finding){0};
+}
+
 /* ---- the writer: header, tables, a hunk for each marked paragraph, end ---- */
 
 enum { TABLES_BYTES = 1288, MOST_WORDS = 62 };

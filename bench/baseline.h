@@ -52,6 +52,14 @@ typedef struct {
 
 Loading c_load(const uint8_t *image, size_t n, uint16_t *ram, size_t words, size_t flash_words);
 
+/* Where a text stands: file 1 is the label, 2 the image, 0 none. */
+typedef struct {
+    uint32_t number, file;
+    size_t place, from, to;
+} Finding;
+
+Finding c_find(const uint8_t *label, size_t nlabel, const uint8_t *image, size_t n, uint8_t tag, size_t which);
+
 typedef struct {
     uint32_t number;
     size_t place, length;

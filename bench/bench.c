@@ -10,7 +10,7 @@ typedef LuigiActive Active;
 #include <string.h>
 #include <time.h>
 
-enum { MIB = 1048576, BIN_BYTES = 524288, ROOM = IMAGE_LIMIT, WORDS = LENT_LIMIT };
+enum { MIB = 1048576, BIN_BYTES = 524288, ROOM = IMAGE_LIMIT, WORDS = LENT_LIMIT, BLOCK = 65535 };
 enum { SECTORS = 8, FLASH = 768 * SECTORS }; /* the flash of the accelerated cartridge */
 enum { LINES = 1000000, LIST = 26 * LINES }; /* the lines of a list, and room for its text */
 enum { SCRIPT = 20000, TIMES = 500, SAVES = 50, RESETS = 1000000 }; /* 10 million accesses: 500 times a script of 20,000; of saves a million */
@@ -102,6 +102,14 @@ static uint8_t *put_data(uint8_t *s, uint8_t start, int body) {
     return s;
 }
 
+static uint8_t *close_block(uint8_t *s, uint8_t type, uint8_t *end) {
+    s[0] = type;
+    put(s + 1, end - s - 8, 2);
+    s[3] = c_dowcrc(s, 3);
+    put(s + 4, c_crc324(s + 8, end - s - 8), 4);
+    return end;
+}
+
 /* The image's header and tables, then 127 hunks of 4,096 words, by turns in 10-bit and in 8-bit data blocks. */
 static void make_packed(void) {
     memcpy(packed, image, 1320);
@@ -113,14 +121,38 @@ static void make_packed(void) {
             end = h % 2 ? put_data(end, 0x3F, 62) : put_data(end, 0xBF, 159);
         if (h % 2)
             end = put_data(end, 0x01, 0);
-        s[0] = 2;
-        put(s + 1, end - payload, 2);
-        s[3] = c_dowcrc(s, 3);
-        put(s + 4, c_crc324(payload, end - payload), 4);
-        s = end;
+        s = close_block(s, 2, end);
     }
     *s++ = 0xFF;
     packed_length = s - packed;
+}
+
+/* The image with a metadata block behind its tables, as full as one can be: texts of up to 31 bytes with all tags but the last, and a
+   last one with that. The label has the texts but the last, so that a lookup of it goes through both files. */
+static uint8_t label[BLOCK], labelled[ROOM], shelf[ROOM];
+static size_t label_length, labelled_length, shelf_length;
+
+static void make_label(void) {
+    uint8_t *s = label;
+    while (label + BLOCK - s > 64) {
+        s[0] = random_bits() % 15;
+        s[1] = random_bits() % 32;
+        for (int i = 0; i < s[1]; i++)
+            s[2 + i] = random_bits();
+        s += 2 + s[1];
+    }
+    label_length = s - label;
+    uint8_t *block = labelled + 1320, *last = block + 8 + label_length;
+    memcpy(labelled, image, 1320);
+    memcpy(block + 8, label, label_length);
+    last[0] = 15;
+    last[1] = label + BLOCK - s - 2;
+    uint8_t *end = close_block(block, 3, block + 8 + BLOCK);
+    shelf_length = end + 1 - labelled;
+    memcpy(shelf, labelled, shelf_length);
+    shelf[shelf_length - 1] = 0xFF;
+    memcpy(end, image + 1320, image_length - 1320);
+    labelled_length = end + image_length - 1320 - labelled;
 }
 
 static bool make_inputs(void) {
@@ -138,6 +170,7 @@ static bool make_inputs(void) {
     Building b = c_build(bin, BIN_BYTES, cfg, cfg_length, image, ROOM);
     image_length = b.length;
     make_packed();
+    make_label();
     return b.number == 0;
 }
 
@@ -207,6 +240,19 @@ static void plain_write_image(void) { writing = c_write_image(image + 4, image +
 static bool same_image(void) {
     return written.number == 0 && writing.number == 0 && written.length == image_length && writing.length == image_length
         && !memcmp(made[0], image, image_length) && !memcmp(made[0], made[1], ROOM);
+}
+
+static LuigiFound found;
+static Finding finding;
+
+static void proved_find(void) { luigi_find(&found, label, label_length, labelled, labelled_length, 15, 1); }
+static void plain_find(void) { finding = c_find(label, label_length, labelled, labelled_length, 15, 1); }
+static void proved_find_shelf(void) { luigi_find(&found, label, label_length, shelf, shelf_length, 15, 1); }
+static void plain_find_shelf(void) { finding = c_find(label, label_length, shelf, shelf_length, 15, 1); }
+
+static bool same_find(void) {
+    return found.number == 0 && finding.number == 0 && found.file == LUIGI_IN_IMAGE && finding.file == LUIGI_IN_IMAGE && found.from == finding.from
+        && found.to == finding.to && found.from == 1320 + 8 + label_length + 2 && found.to == 1320 + 8 + BLOCK;
 }
 
 /* C's struct of the accelerators is the 20 words. */
@@ -387,6 +433,8 @@ static const Row rows[] = {
     {"building from a BIN of 512 KB, 16-bit data blocks", 25, proved_build, plain_build, same_build, 0},
     {"building from a BIN of 512 KB, 8-bit and 10-bit data blocks", 25, proved_build_narrow, plain_build_narrow, same_build, 0},
     {"writing an image of 600 KB from tables and RAM", 25, proved_write_image, plain_write_image, same_image, 0},
+    {"looking up a text: a label of 64 KB, an image of 650 KB that repeats it", 25, proved_find, plain_find, same_find, 0},
+    {"looking up a text: a label of 64 KB, an image of 67 KB without hunks", 25, proved_find_shelf, plain_find_shelf, same_find, 0},
     {"10 million bus reads", 9, proved_reads, plain_reads, same_heard, 1e7},
     {"10 million bus writes, every 16th a flip", 9, proved_writes, plain_writes, same_writes, 1e7},
     {"10 million writes with switches, every 16th a bankswitch", 9, proved_switches, plain_switches, same_banked, 1e7},
