@@ -564,6 +564,65 @@ Finding c_find(const uint8_t *label, size_t nlabel, const uint8_t *s, size_t n, 
     return (Finding){0};
 }
 
+/* ---- salvage: a pass that judges, then one that copies what is kept ---- */
+
+static bool is_dropped(uint8_t type, uint32_t number) {
+    return type == 2 && (number == 6 || number == 9);
+}
+
+Salvaging c_salvage(const uint8_t *s, size_t n, uint8_t *out, size_t room) {
+    Tables dow, c324;
+    make_tables(DOW, dow);
+    make_tables(C324, c324);
+    uint8_t drops[IMAGE_LIMIT / 64 + 1] = {0}; /* a bit a block: no block has less than eight bytes */
+    size_t tables = 0, blocks = 0, p;
+    Salvaging r = {.number = judge_header(s, n, dow), .length = 32};
+    if (r.number)
+        return (Salvaging){.number = r.number};
+    for (p = 32; p < n && s[p] != 0xFF; p += 8 + get16(s + p + 1), blocks++) {
+        Judged j = judge(s, n, p, LENT_LIMIT, tables, dow, c324);
+        if (j.number == 5)
+            break;
+        if (is_dropped(s[p], j.number)) {
+            drops[blocks / 8] |= 1 << blocks % 8;
+            r.dropped++;
+            continue;
+        }
+        if (j.number)
+            return (Salvaging){.number = j.number, .place = j.place};
+        if (s[p] == 1)
+            tables = p;
+        r.length += 8 + get16(s + p + 1);
+        r.kept++;
+    }
+    if (!tables)
+        return (Salvaging){.number = 8, .place = n};
+    Cartridge c = cartridge_of(s + tables + 8);
+    int refused = not_fit(s + 4, &c, LENT_LIMIT);
+    if (refused)
+        return (Salvaging){.number = refused};
+    r.stopped = p < n && s[p] != 0xFF;
+    r.stop = r.stopped ? p : 0;
+    bool closed = r.length < IMAGE_LIMIT;
+    r.length += closed;
+    if (r.length > room)
+        return (Salvaging){.number = 29, .length = r.length};
+    uint8_t *to = out + 32;
+    memcpy(out, s, 32);
+    p = 32;
+    for (size_t i = 0; i < blocks; i++) {
+        size_t length = 8 + get16(s + p + 1);
+        if (!(drops[i / 8] >> i % 8 & 1)) {
+            memcpy(to, s + p, length);
+            to += length;
+        }
+        p += length;
+    }
+    if (closed)
+        *to = 0xFF;
+    return r;
+}
+
 /* ---- the writer: header, tables, a hunk for each marked paragraph, end ---- */
 
 enum { TABLES_BYTES = 1288, MOST_WORDS = 62 };

@@ -61,6 +61,13 @@ typedef struct {
 Finding c_find(const uint8_t *label, size_t nlabel, const uint8_t *image, size_t n, uint8_t tag, size_t which);
 
 typedef struct {
+    uint32_t number, stopped;
+    size_t place, length, kept, dropped, stop;
+} Salvaging;
+
+Salvaging c_salvage(const uint8_t *image, size_t n, uint8_t *out, size_t room);
+
+typedef struct {
     uint32_t number;
     size_t place, length;
 } Writing;

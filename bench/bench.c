@@ -155,6 +155,29 @@ static void make_label(void) {
     labelled_length = end + image_length - 1320 - labelled;
 }
 
+/* The image with every tenth hunk damaged, by turns in its checksum and in its first data block, and cut in its last. */
+static uint8_t damaged[ROOM];
+static size_t damaged_length, damaged_hunks;
+
+static void make_damaged(void) {
+    memcpy(damaged, image, image_length);
+    size_t i = 0, last = 0, length;
+    for (size_t p = 1320; damaged[p] != 0xFF; p += 8 + length, i++) {
+        length = damaged[p + 1] + 256 * damaged[p + 2];
+        last = p;
+        if (i % 10 != 9)
+            continue;
+        if (i % 20 == 9)
+            damaged[p + 100] ^= 1;
+        else {
+            damaged[p + 11] = 0;
+            close_block(damaged + p, 2, damaged + p + 8 + length);
+        }
+        damaged_hunks++;
+    }
+    damaged_length = last + 100;
+}
+
 static bool make_inputs(void) {
     for (int i = 0; i < MIB; i++)
         bytes[i] = random_bits();
@@ -171,6 +194,7 @@ static bool make_inputs(void) {
     image_length = b.length;
     make_packed();
     make_label();
+    make_damaged();
     return b.number == 0;
 }
 
@@ -253,6 +277,18 @@ static void plain_find_shelf(void) { finding = c_find(label, label_length, shelf
 static bool same_find(void) {
     return found.number == 0 && finding.number == 0 && found.file == LUIGI_IN_IMAGE && finding.file == LUIGI_IN_IMAGE && found.from == finding.from
         && found.to == finding.to && found.from == 1320 + 8 + label_length + 2 && found.to == 1320 + 8 + BLOCK;
+}
+
+static LuigiSalvaged salvaged;
+static Salvaging salvaging;
+
+static void proved_salvage(void) { luigi_salvage(&salvaged, damaged, damaged_length, made[0], ROOM); }
+static void plain_salvage(void) { salvaging = c_salvage(damaged, damaged_length, made[1], ROOM); }
+
+static bool same_salvage(void) {
+    return salvaged.number == 0 && salvaging.number == 0 && salvaged.length == salvaging.length && salvaged.kept == salvaging.kept
+        && salvaged.dropped == salvaging.dropped && salvaged.stopped == salvaging.stopped && salvaged.stop == salvaging.stop
+        && salvaging.dropped == damaged_hunks && salvaging.stopped && !memcmp(made[0], made[1], ROOM);
 }
 
 /* C's struct of the accelerators is the 20 words. */
@@ -435,6 +471,7 @@ static const Row rows[] = {
     {"writing an image of 600 KB from tables and RAM", 25, proved_write_image, plain_write_image, same_image, 0},
     {"looking up a text: a label of 64 KB, an image of 650 KB that repeats it", 25, proved_find, plain_find, same_find, 0},
     {"looking up a text: a label of 64 KB, an image of 67 KB without hunks", 25, proved_find_shelf, plain_find_shelf, same_find, 0},
+    {"salvaging 600 KB, every tenth hunk damaged", 25, proved_salvage, plain_salvage, same_salvage, 0},
     {"10 million bus reads", 9, proved_reads, plain_reads, same_heard, 1e7},
     {"10 million bus writes, every 16th a flip", 9, proved_writes, plain_writes, same_writes, 1e7},
     {"10 million writes with switches, every 16th a bankswitch", 9, proved_switches, plain_switches, same_banked, 1e7},
