@@ -362,8 +362,9 @@ static long check_hunk(const uint8_t *s, size_t n, size_t words) {
     return count;
 }
 
-static void store_hunk(const uint8_t *s, size_t n, uint16_t *ram) {
-    uint16_t *to = ram + get16(s) + ((size_t)s[2] << 16);
+/* Answers how many words it stored. */
+static size_t store_hunk(const uint8_t *s, size_t n, uint16_t *ram) {
+    uint16_t *first = ram + get16(s) + ((size_t)s[2] << 16), *to = first;
     for (size_t p = 3; p < n;) {
         size_t w = block_words(s[p]);
         const uint8_t *from = s + p + 1;
@@ -385,6 +386,7 @@ static void store_hunk(const uint8_t *s, size_t n, uint16_t *ram) {
         }
         to += w;
     }
+    return to - first;
 }
 
 static Cartridge cartridge_of(const uint8_t *s) {
@@ -769,7 +771,7 @@ Writing c_write_image(const uint8_t *flags, const uint8_t *uid, const Cartridge 
 /* So many pages at most are laid out, and then more than LENT_LIMIT words are refused. */
 enum { MOST_LINES = 128, MOST_PAGES = 139, BIN_LIMIT = 524288 };
 
-typedef enum { ROM, PAGED, RAM16, RAM8 } Kind;
+typedef enum { ROM, PAGED, RAM16, RAM8, NOBODY } Kind; /* NOBODY: of a paragraph that no line has */
 
 typedef struct {
     Kind kind;
@@ -967,10 +969,10 @@ static Building covers_of(const Line *lines, const Owners *o, bool *covers) {
     return refused_build(0, 0);
 }
 
-/* A paragraph of a line, from the BIN into the RAM image. */
+/* A paragraph of a line, from the BIN into the RAM image; without a BIN the mark alone. */
 static void lay(const Line *l, uint32_t p, uint32_t at, const uint8_t *bin, uint16_t *ram, bool *marks) {
     marks[at] = true;
-    if (l->kind == RAM16 || l->kind == RAM8)
+    if (l->kind == RAM16 || l->kind == RAM8 || !bin)
         return;
     const uint8_t *from = bin + 2 * (l->lo + (p - l->address / 256) * 256);
     for (int i = 0; i < 256; i++)
@@ -1043,4 +1045,186 @@ Building c_build(const uint8_t *bin, size_t nbin, const uint8_t *cfg, size_t ncf
     put32(uid, c_crc32(bin, nbin));
     put32(uid + 4, c_crc32(cfg, ncfg));
     return (Building){.length = write_image(out, flags, uid, &c, ram, marks), .needed = 4096 * pages};
+}
+
+/* ---- back to BIN and CFG: the plan behind the tables, its lines, and whether they build the tables and words again ---- */
+
+/* A kind for each paragraph, or NOBODY; the pages; and the first Locutus page of each chapter. */
+typedef struct {
+    Kind kind[256];
+    bool page[16][16];
+    uint32_t base[16];
+} Plan;
+
+static Kind kind_of(int p, uint8_t permission) {
+    if (p < 5 || p / 16 == 1 || p / 16 == 3)
+        return NOBODY;
+    return permission == 1 ? ROM : permission == 3 ? RAM16 : permission == 7 ? RAM8 : NOBODY;
+}
+
+/* The pages of chapter x, where it has any: entry 8 is that of an absent page, or else that of the plain page, which has words there. */
+static uint32_t pages_of(const Cartridge *c, int x, const bool *named, Plan *q) {
+    const uint16_t *row = c->flips + 16 * x;
+    uint32_t base = q->base[x], absent = 16 * base + 9, used = 0, pages = 0;
+    for (int y = 0; y < 16; y++) {
+        absent = row[y] == 8 ? 8 : absent;
+        used |= row[y];
+    }
+    if (!used || x < 2 || x == 3)
+        return 0;
+    size_t word = 256 * (16 * base + 8);
+    bool under = absent != 8 && word < LENT_LIMIT && named[word];
+    for (int k = first_k(x); k < 16; k++)
+        q->kind[16 * x + k] = under ? ROM : NOBODY;
+    for (int y = 0; y < 16; y++)
+        pages += q->page[x][y] = row[y] != absent;
+    return pages;
+}
+
+static void plan_of(const Cartridge *c, const bool *named, Plan *q) {
+    uint32_t base = 0;
+    memset(q->page, 0, sizeof q->page);
+    for (int x = 0; x < 16; x++) {
+        q->base[x] = base;
+        for (int p = 16 * x; p < 16 * x + 16; p++)
+            q->kind[p] = kind_of(p, c->initial_permissions[p]);
+        base += pages_of(c, x, named, q);
+        bool plain = false;
+        for (int p = 16 * x; p < 16 * x + 16; p++)
+            plain = plain || q->kind[p] != NOBODY;
+        base += plain;
+    }
+}
+
+/* The runs of ROM, or else of RAM, by address, behind `count` lines; up to a line more than a CFG may have. */
+static size_t runs_of(const Plan *q, bool rom, Line *lines, size_t count, uint32_t *words) {
+    for (uint32_t p = 0, end; p < 256 && count <= MOST_LINES; p = end) {
+        Kind kind = q->kind[p];
+        for (end = p + 1; end < 256 && q->kind[end] == kind;)
+            end++;
+        if (kind == NOBODY || (kind == ROM) != rom)
+            continue;
+        uint32_t n = 256 * (end - p), lo = rom ? *words : 256 * p;
+        lines[count++] = (Line){.kind = kind, .lo = lo, .hi = lo + n - 1, .address = rom ? 256 * p : 0};
+        *words += rom ? n : 0;
+    }
+    return count;
+}
+
+static size_t lines_for(const Plan *q, Line *lines, uint32_t *words) {
+    *words = 0;
+    size_t count = runs_of(q, true, lines, 0, words);
+    for (uint32_t x = 0; x < 16; x++)
+        for (uint32_t y = 0; y < 16 && count <= MOST_LINES; y++)
+            if (q->page[x][y]) {
+                uint32_t a = 16 * x + first_k(x), n = 4096 - 256 * first_k(x);
+                lines[count++] = (Line){.kind = PAGED, .lo = *words, .hi = *words + n - 1, .address = 256 * a, .page = y};
+                *words += n;
+            }
+    return runs_of(q, false, lines, count, words);
+}
+
+/* Whether the lines build these tables, and the words that are named are those of its paragraphs, in RAM zeros. */
+static bool builds(const Line *lines, size_t count, const Cartridge *t, const uint16_t *ram, const bool *named) {
+    Owners o;
+    bool covers[16], marks[MOST_PAGES * 16] = {0}, all[256];
+    Cartridge c;
+    if (count == 0 || count > MOST_LINES || claims_of(lines, count, LENT_LIMIT, &o).number || covers_of(lines, &o, covers).number)
+        return false;
+    if (4096 * lay_out(lines, &o, covers, NULL, &c, NULL, marks) > LENT_LIMIT || memcmp(c.initial_mapping, t->initial_mapping, sizeof c.initial_mapping)
+        || memcmp(c.flips, t->flips, sizeof c.flips) || memcmp(c.initial_permissions, t->initial_permissions, sizeof c.initial_permissions))
+        return false;
+    for (int p = 0; p < 2048; p++) {
+        memset(all, marks[p], sizeof all);
+        if (memcmp(named + 256 * p, all, sizeof all))
+            return false;
+    }
+    for (int p = 0; p < 256; p++)
+        for (int i = 0; i < 256 && c.initial_permissions[p] & WRITE; i++)
+            if (ram[256 * c.initial_mapping[p] + i])
+                return false;
+    return true;
+}
+
+static uint8_t *put_text(uint8_t *s, const char *text) {
+    size_t n = strlen(text);
+    memcpy(s, text, n);
+    return s + n;
+}
+
+static uint8_t *put_hex(uint8_t *s, uint32_t x, int digits) {
+    for (int i = digits - 1; i >= 0; i--)
+        *s++ = "0123456789ABCDEF"[x >> 4 * i & 15];
+    return s;
+}
+
+/* The text of a CFG of these lines; answers its length. */
+static size_t text_of_lines(const Line *lines, size_t count, uint8_t *cfg) {
+    uint8_t *s = cfg;
+    for (size_t i = 0; i < count; i++) {
+        const Line *l = &lines[i];
+        bool is_ram = l->kind == RAM16 || l->kind == RAM8, first = i == 0 || (is_ram && lines[i - 1].kind <= PAGED);
+        if (first)
+            s = put_text(s, is_ram ? "[memattr]\n" : "[mapping]\n");
+        *s++ = '$';
+        s = put_hex(s, l->lo, is_ram ? 4 : 5);
+        s = put_text(s, " - $");
+        s = put_hex(s, l->hi, is_ram ? 4 : 5);
+        s = put_text(s, is_ram ? l->kind == RAM16 ? " = RAM 16" : " = RAM 8" : " = $");
+        if (!is_ram)
+            s = put_hex(s, l->address, 4);
+        if (l->kind == PAGED)
+            s = put_hex(put_text(s, " PAGE "), l->page, 1);
+        *s++ = '\n';
+    }
+    return s - cfg;
+}
+
+/* The words of the lines, from where the layout has them. */
+static void put_bin(const Line *lines, size_t count, const Plan *q, const Cartridge *c, const uint16_t *ram, uint8_t *bin) {
+    for (size_t i = 0; i < count && lines[i].kind <= PAGED; i++) {
+        const Line *l = &lines[i];
+        for (uint32_t p = l->address / 256; p <= last_address(l) / 256; p++) {
+            uint32_t page = l->kind == ROM ? q->base[p / 16] : c->flips[p / 16 * 16 + l->page] / 16;
+            const uint16_t *from = ram + 4096 * page + 256 * (p % 16);
+            for (int k = 0; k < 256; k++, bin += 2) {
+                bin[0] = from[k] >> 8;
+                bin[1] = from[k];
+            }
+        }
+    }
+}
+
+Unbuilding c_unbuild(const uint8_t *s, size_t n, uint8_t *bin, size_t nbin, uint8_t *cfg, size_t ncfg) {
+    Checked k = check_for_desk(s, n);
+    if (k.number)
+        return (Unbuilding){.number = k.number, .place = k.place};
+    uint16_t ram[LENT_LIMIT];
+    bool named[LENT_LIMIT] = {0};
+    for (size_t p = 32; p < n && s[p] != 0xFF; p += 8 + get16(s + p + 1))
+        if (s[p] == 2) {
+            size_t words = store_hunk(s + p + 8, get16(s + p + 1), ram);
+            memset(named + get16(s + p + 8) + ((size_t)s[p + 10] << 16), true, words);
+        }
+    Cartridge c = cartridge_of(s + k.tables + 8);
+    Plan q;
+    Line lines[MOST_LINES + 1];
+    uint32_t words;
+    plan_of(&c, named, &q);
+    size_t count = lines_for(&q, lines, &words);
+    if (s[6] & 3 || !builds(lines, count, &c, ram, named))
+        return (Unbuilding){.number = 31};
+    Unbuilding r = {.bin = words ? 2 * words : 2};
+    if (r.bin > BIN_LIMIT)
+        return (Unbuilding){.number = 32};
+    uint8_t text[4096];
+    r.cfg = text_of_lines(lines, count, text);
+    if (r.bin > nbin || r.cfg > ncfg) {
+        r.number = 29;
+        return r;
+    }
+    memset(bin, 0, 2);
+    put_bin(lines, count, &q, &c, ram, bin);
+    memcpy(cfg, text, r.cfg);
+    return r;
 }

@@ -81,4 +81,12 @@ typedef struct {
 } Building;
 
 Building c_build(const uint8_t *bin, size_t nbin, const uint8_t *cfg, size_t ncfg, uint8_t *out, size_t room);
+
+/* The lengths of what is written; at 29 those that are needed. */
+typedef struct {
+    uint32_t number;
+    size_t place, bin, cfg;
+} Unbuilding;
+
+Unbuilding c_unbuild(const uint8_t *image, size_t n, uint8_t *bin, size_t nbin, uint8_t *cfg, size_t ncfg);
 #endif

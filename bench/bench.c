@@ -19,8 +19,8 @@ enum { SCRIPT = 20000, TIMES = 500, SAVES = 50, RESETS = 1000000 }; /* 10 millio
 
 static uint8_t bytes[MIB], bin[BIN_BYTES], narrow[BIN_BYTES], cfg[CFG_LIMIT];
 static size_t cfg_length;
-static uint8_t image[ROOM], packed[ROOM];
-static size_t image_length, packed_length;
+static uint8_t image[ROOM], packed[ROOM], once[ROOM]; /* once: with 55 pages, each word of the BIN once */
+static size_t image_length, packed_length, once_length;
 static uint16_t read_at[SCRIPT], write_at[SCRIPT], value[SCRIPT];
 static uint16_t switch_at[SCRIPT], switch_value[SCRIPT], jlp_at[SCRIPT], operand_at[SCRIPT], flash_at[SCRIPT], flash_value[SCRIPT];
 
@@ -31,14 +31,14 @@ static uint32_t random_bits(void) {
     return x ^= x << 5;
 }
 
-/* 64 lines: ROM and RAM in twelve chapters, and 59 pages in nine of them, so 71 pages of 4,096 words. */
+/* ROM and RAM in twelve chapters, and so many pages in nine of them. With 59 of them 64 lines and 71 pages of 4,096 words. */
 static const int paged[9] = {2, 5, 6, 7, 11, 12, 13, 14, 15};
 
-static void make_cfg(void) {
+static void make_cfg(int pages) {
     char *s = (char *)cfg;
     s += sprintf(s, "[memattr]\n$8000 - $9FFF = RAM 16\n$A000 - $AFFF = RAM 8\n");
     s += sprintf(s, "[mapping]\n$00000 - $00FFF = $2000\n$01000 - $03FFF = $5000\n$04000 - $08FFF = $B000\n");
-    for (int i = 0; i < 59; i++) {
+    for (int i = 0; i < pages; i++) {
         unsigned lo = (9 + i) % 64 * 4096;
         s += sprintf(s, "$%05X - $%05X = $%X000 PAGE %X\n", lo, lo + 4095, paged[i % 9], i / 9);
     }
@@ -187,7 +187,10 @@ static bool make_inputs(void) {
         narrow[i] = i / 8192 % 2 ? random_bits() % 4 : 0;
         narrow[i + 1] = random_bits();
     }
-    make_cfg();
+    make_cfg(55);
+    Building one = c_build(bin, BIN_BYTES, cfg, cfg_length, once, ROOM);
+    once_length = one.length;
+    make_cfg(59);
     make_scripts();
     make_list();
     Building b = c_build(bin, BIN_BYTES, cfg, cfg_length, image, ROOM);
@@ -195,7 +198,7 @@ static bool make_inputs(void) {
     make_packed();
     make_label();
     make_damaged();
-    return b.number == 0;
+    return b.number == 0 && one.number == 0;
 }
 
 /* ---- what each side answers: 0 is the proved side, 1 is C ---- */
@@ -289,6 +292,18 @@ static bool same_salvage(void) {
     return salvaged.number == 0 && salvaging.number == 0 && salvaged.length == salvaging.length && salvaged.kept == salvaging.kept
         && salvaged.dropped == salvaging.dropped && salvaged.stopped == salvaging.stopped && salvaged.stop == salvaging.stop
         && salvaging.dropped == damaged_hunks && salvaging.stopped && !memcmp(made[0], made[1], ROOM);
+}
+
+static uint8_t bin_back[2][BIN_BYTES], cfg_back[2][CFG_LIMIT];
+static LuigiUnbuilt unbuilt;
+static Unbuilding unbuilding;
+
+static void proved_unbuild(void) { luigi_unbuild(&unbuilt, once, once_length, bin_back[0], BIN_BYTES, cfg_back[0], CFG_LIMIT); }
+static void plain_unbuild(void) { unbuilding = c_unbuild(once, once_length, bin_back[1], BIN_BYTES, cfg_back[1], CFG_LIMIT); }
+
+static bool same_unbuild(void) {
+    return unbuilt.number == 0 && unbuilding.number == 0 && unbuilt.bin == BIN_BYTES && unbuilding.bin == BIN_BYTES && unbuilt.cfg == unbuilding.cfg
+        && !memcmp(bin_back[0], bin_back[1], BIN_BYTES) && !memcmp(cfg_back[0], cfg_back[1], CFG_LIMIT);
 }
 
 /* C's struct of the accelerators is the 20 words. */
@@ -472,6 +487,7 @@ static const Row rows[] = {
     {"looking up a text: a label of 64 KB, an image of 650 KB that repeats it", 25, proved_find, plain_find, same_find, 0},
     {"looking up a text: a label of 64 KB, an image of 67 KB without hunks", 25, proved_find_shelf, plain_find_shelf, same_find, 0},
     {"salvaging 600 KB, every tenth hunk damaged", 25, proved_salvage, plain_salvage, same_salvage, 0},
+    {"back to a BIN of 512 KB and a CFG", 25, proved_unbuild, plain_unbuild, same_unbuild, 0},
     {"10 million bus reads", 9, proved_reads, plain_reads, same_heard, 1e7},
     {"10 million bus writes, every 16th a flip", 9, proved_writes, plain_writes, same_writes, 1e7},
     {"10 million writes with switches, every 16th a bankswitch", 9, proved_switches, plain_switches, same_banked, 1e7},
