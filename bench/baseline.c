@@ -233,6 +233,28 @@ void c_writes(Cartridge *c, uint16_t *ram, size_t words, uint16_t *flash, size_t
         assigned[i] = write_word(c, ram, words, flash, flash_words, at[i], value[i]);
 }
 
+static void reset(Cartridge *c) {
+    memcpy(c->mapping, c->initial_mapping, sizeof c->mapping);
+    memcpy(c->permissions, c->initial_permissions, sizeof c->permissions);
+    c->readable = 0;
+    for (int p = 0; p < 256; p++)
+        c->readable += c->permissions[p] & READ;
+    c->jlp.on = c->jlp.field == 1 || c->jlp.field == 3;
+}
+
+/* One access a call. */
+uint32_t c_read(const Cartridge *c, const uint16_t *ram, size_t words, uint16_t at) {
+    return read_word(c, ram, words > LENT_LIMIT ? LENT_LIMIT : words, at);
+}
+
+uint8_t c_write(Cartridge *c, uint16_t *ram, size_t words, uint16_t *flash, size_t flash_words, uint16_t at, uint16_t value) {
+    return write_word(c, ram, words > LENT_LIMIT ? LENT_LIMIT : words, flash, flash_words, at, value);
+}
+
+void c_reset(Cartridge *c) {
+    reset(c);
+}
+
 /* ---- a list of accesses: a pass that checks every line, then one that makes the accesses ---- */
 
 typedef enum { MALFORMED, READS, WRITES, RESETS } Op;
@@ -272,15 +294,6 @@ static size_t end_of(const uint8_t *s, size_t n, size_t at) {
 
 static size_t behind(const uint8_t *s, size_t n, size_t end) {
     return end == n ? n : s[end] == '\n' ? end + 1 : end + 2;
-}
-
-static void reset(Cartridge *c) {
-    memcpy(c->mapping, c->initial_mapping, sizeof c->mapping);
-    memcpy(c->permissions, c->initial_permissions, sizeof c->permissions);
-    c->readable = 0;
-    for (int p = 0; p < 256; p++)
-        c->readable += c->permissions[p] & READ;
-    c->jlp.on = c->jlp.field == 1 || c->jlp.field == 3;
 }
 
 Ran c_run(const uint8_t *list, size_t n, size_t limit, Cartridge *c, uint16_t *ram, size_t words, uint16_t *flash, size_t flash_words, uint32_t *out, size_t room) {
@@ -349,8 +362,9 @@ static long check_hunk(const uint8_t *s, size_t n, size_t words) {
     return count;
 }
 
-static void store_hunk(const uint8_t *s, size_t n, uint16_t *ram) {
-    uint16_t *to = ram + get16(s) + ((size_t)s[2] << 16);
+/* Answers how many words it stored. */
+static size_t store_hunk(const uint8_t *s, size_t n, uint16_t *ram) {
+    uint16_t *first = ram + get16(s) + ((size_t)s[2] << 16), *to = first;
     for (size_t p = 3; p < n;) {
         size_t w = block_words(s[p]);
         const uint8_t *from = s + p + 1;
@@ -372,6 +386,7 @@ static void store_hunk(const uint8_t *s, size_t n, uint16_t *ram) {
         }
         to += w;
     }
+    return to - first;
 }
 
 static Cartridge cartridge_of(const uint8_t *s) {
@@ -404,6 +419,11 @@ static int not_had(const uint8_t *flags, const Cartridge *c, size_t words, size_
     return field >= 2 && (size > SECTOR_LIMIT || flash_words != ROW * SECTOR * size) ? 13 : 0;
 }
 
+/* Refusals 10, 11 and 13, where the flash that is lent fits the size. */
+static int not_fit(const uint8_t *flags, const Cartridge *c, size_t words) {
+    return not_had(flags, c, words, (size_t)ROW * SECTOR * flash_size(flags));
+}
+
 /* TutorVision's number where an image states nothing of it. */
 enum { NOT_STATED = 4 };
 
@@ -416,47 +436,77 @@ static Loading refused_load(uint32_t number, size_t place) {
     return r;
 }
 
-Loading c_load(const uint8_t *s, size_t n, uint16_t *ram, size_t words, size_t flash_words) {
+/* Whether sub-records of tag, length and text fill the bytes to the last. */
+static bool is_whole(const uint8_t *s, size_t n) {
+    size_t i = 0;
+    while (i < n)
+        i += 2 + (i + 1 < n ? s[i + 1] : 0);
+    return i == n;
+}
+
+/* What the block at p gives: its refusal or 0, and a hunk's words. Of the tables, `tables` is the first block's place. */
+typedef struct {
+    uint32_t number;
+    size_t place, words;
+} Judged;
+
+static Judged judge(const uint8_t *s, size_t n, size_t p, size_t words, size_t tables, Tables dow, Tables c324) {
+    if (n - p < 8 || (uint8_t)sum_by(dow, 0, s + p, 3) != s[p + 3] || p + 8 + get16(s + p + 1) > n)
+        return (Judged){.number = 5, .place = p};
+    size_t length = get16(s + p + 1);
+    const uint8_t *payload = s + p + 8;
+    if (s[p] == 0)
+        return (Judged){.number = 7, .place = p};
+    if (s[p] <= 3 && sum_by(c324, 0, payload, length) != get32(s + p + 4))
+        return (Judged){.number = s[p] == 3 ? 12 : 6, .place = p};
+    if (s[p] == 3 && !is_whole(payload, length))
+        return (Judged){.number = 12, .place = p};
+    if (s[p] == 1 && (length != 1280 || tables))
+        return (Judged){.number = 8, .place = p};
+    long w = s[p] == 2 ? check_hunk(payload, length, words) : 0;
+    return w < 0 ? (Judged){.number = 9, .place = p + 8 + (size_t)(-1 - w)} : (Judged){.words = w};
+}
+
+static uint32_t judge_header(const uint8_t *s, size_t n, Tables dow) {
+    if (n < 32 || n > IMAGE_LIMIT)
+        return 1;
+    if (s[0] != 0x4C || s[1] != 0x54 || s[2] != 0x4F)
+        return 2;
+    return s[3] != 1 ? 3 : (uint8_t)sum_by(dow, 0, s, 31) != s[31] ? 4 : 0;
+}
+
+/* The pass that checks: the refusal, or where the tables are, and the blocks and words. */
+typedef struct {
+    uint32_t number;
+    size_t place, tables, blocks, words;
+} Checked;
+
+static Checked check(const uint8_t *s, size_t n, size_t words) {
     Tables dow, c324;
     make_tables(DOW, dow);
     make_tables(C324, c324);
+    Checked r = {.number = judge_header(s, n, dow)};
+    if (r.number)
+        return r;
+    for (size_t p = 32; p < n && s[p] != 0xFF; p += 8 + get16(s + p + 1)) {
+        Judged j = judge(s, n, p, words, r.tables, dow, c324);
+        if (j.number)
+            return (Checked){.number = j.number, .place = j.place};
+        if (s[p] == 1)
+            r.tables = p;
+        r.words += j.words;
+        r.blocks++;
+    }
+    return r.tables ? r : (Checked){.number = 8, .place = n};
+}
+
+Loading c_load(const uint8_t *s, size_t n, uint16_t *ram, size_t words, size_t flash_words) {
     if (words > LENT_LIMIT)
         words = LENT_LIMIT;
-    if (n < 32 || n > IMAGE_LIMIT)
-        return refused_load(1, 0);
-    if (s[0] != 0x4C || s[1] != 0x54 || s[2] != 0x4F)
-        return refused_load(2, 0);
-    if (s[3] != 1)
-        return refused_load(3, 0);
-    if ((uint8_t)sum_by(dow, 0, s, 31) != s[31])
-        return refused_load(4, 0);
-    size_t tables = 0, blocks = 0, stored = 0, p, next;
-    for (p = 32; p < n && s[p] != 0xFF; p = next) {
-        if (n - p < 8 || (uint8_t)sum_by(dow, 0, s + p, 3) != s[p + 3] || p + 8 + get16(s + p + 1) > n)
-            return refused_load(5, p);
-        size_t length = get16(s + p + 1);
-        const uint8_t *payload = s + p + 8;
-        if (s[p] == 0)
-            return refused_load(7, p);
-        if (s[p] <= 2 && sum_by(c324, 0, payload, length) != get32(s + p + 4))
-            return refused_load(6, p);
-        if (s[p] == 1) {
-            if (length != 1280 || tables)
-                return refused_load(8, p);
-            tables = p;
-        }
-        if (s[p] == 2) {
-            long w = check_hunk(payload, length, words);
-            if (w < 0)
-                return refused_load(9, p + 8 + (size_t)(-1 - w));
-            stored += w;
-        }
-        blocks++;
-        next = p + 8 + length;
-    }
-    if (!tables)
-        return refused_load(8, n);
-    Loading r = {.blocks = blocks, .words = stored, .cartridge = cartridge_of(s + tables + 8)};
+    Checked k = check(s, n, words);
+    if (k.number)
+        return refused_load(k.number, k.place);
+    Loading r = {.blocks = k.blocks, .words = k.words, .cartridge = cartridge_of(s + k.tables + 8)};
     int refused = not_had(s + 4, &r.cartridge, words, flash_words);
     if (refused)
         return refused_load(refused, 0);
@@ -466,9 +516,112 @@ Loading c_load(const uint8_t *s, size_t n, uint16_t *ram, size_t words, size_t f
         r.compat[i] = s[4 + field[i] / 8] >> field[i] % 8 & 3;
     if ((s[5] & 3) == 0)
         r.compat[4] = NOT_STATED;
-    for (p = 32; p < n && s[p] != 0xFF; p += 8 + get16(s + p + 1))
+    for (size_t p = 32; p < n && s[p] != 0xFF; p += 8 + get16(s + p + 1))
         if (s[p] == 2)
             store_hunk(s + p + 8, get16(s + p + 1), ram);
+    return r;
+}
+
+/* ---- labels: an image is judged as a load of the whole RAM would, then the texts are gone through ---- */
+
+/* A load's refusals for a RAM of 524,288 words and a flash that fits. */
+static Checked check_for_desk(const uint8_t *s, size_t n) {
+    Checked k = check(s, n, LENT_LIMIT);
+    if (k.number)
+        return k;
+    Cartridge c = cartridge_of(s + k.tables + 8);
+    int refused = not_fit(s + 4, &c, LENT_LIMIT);
+    return refused ? (Checked){.number = refused} : k;
+}
+
+/* The sub-record of the n-th text with a tag, where *left is n; else how many are left to find. */
+static const uint8_t *text_of(const uint8_t *s, size_t n, uint8_t tag, size_t *left) {
+    for (size_t i = 0; i < n; i += 2 + s[i + 1])
+        if (s[i] == tag && --*left == 0)
+            return s + i;
+    return NULL;
+}
+
+static Finding found(uint32_t file, const uint8_t *s, const uint8_t *record) {
+    size_t from = record + 2 - s;
+    return (Finding){.file = file, .from = from, .to = from + record[1]};
+}
+
+Finding c_find(const uint8_t *label, size_t nlabel, const uint8_t *s, size_t n, uint8_t tag, size_t which) {
+    Checked k = check_for_desk(s, n);
+    if (k.number)
+        return (Finding){.number = k.number, .place = k.place};
+    if (!is_whole(label, nlabel))
+        return (Finding){.number = 12};
+    if (tag > 0x0F || which == 0)
+        return (Finding){0};
+    size_t left = which;
+    const uint8_t *record = text_of(label, nlabel, tag, &left);
+    if (record)
+        return found(1, label, record);
+    left = which;
+    for (size_t p = 32; p < n && s[p] != 0xFF; p += 8 + get16(s + p + 1))
+        if (s[p] == 3 && (record = text_of(s + p + 8, get16(s + p + 1), tag, &left)))
+            return found(2, s, record);
+    return (Finding){0};
+}
+
+/* ---- salvage: a pass that judges, then one that copies what is kept ---- */
+
+static bool is_dropped(uint8_t type, uint32_t number) {
+    return type == 2 && (number == 6 || number == 9);
+}
+
+Salvaging c_salvage(const uint8_t *s, size_t n, uint8_t *out, size_t room) {
+    Tables dow, c324;
+    make_tables(DOW, dow);
+    make_tables(C324, c324);
+    uint8_t drops[IMAGE_LIMIT / 64 + 1] = {0}; /* a bit a block: no block has less than eight bytes */
+    size_t tables = 0, blocks = 0, p;
+    Salvaging r = {.number = judge_header(s, n, dow), .length = 32};
+    if (r.number)
+        return (Salvaging){.number = r.number};
+    for (p = 32; p < n && s[p] != 0xFF; p += 8 + get16(s + p + 1), blocks++) {
+        Judged j = judge(s, n, p, LENT_LIMIT, tables, dow, c324);
+        if (j.number == 5)
+            break;
+        if (is_dropped(s[p], j.number)) {
+            drops[blocks / 8] |= 1 << blocks % 8;
+            r.dropped++;
+            continue;
+        }
+        if (j.number)
+            return (Salvaging){.number = j.number, .place = j.place};
+        if (s[p] == 1)
+            tables = p;
+        r.length += 8 + get16(s + p + 1);
+        r.kept++;
+    }
+    if (!tables)
+        return (Salvaging){.number = 8, .place = n};
+    Cartridge c = cartridge_of(s + tables + 8);
+    int refused = not_fit(s + 4, &c, LENT_LIMIT);
+    if (refused)
+        return (Salvaging){.number = refused};
+    r.stopped = p < n && s[p] != 0xFF;
+    r.stop = r.stopped ? p : 0;
+    bool closed = r.length < IMAGE_LIMIT;
+    r.length += closed;
+    if (r.length > room)
+        return (Salvaging){.number = 29, .length = r.length};
+    uint8_t *to = out + 32;
+    memcpy(out, s, 32);
+    p = 32;
+    for (size_t i = 0; i < blocks; i++) {
+        size_t length = 8 + get16(s + p + 1);
+        if (!(drops[i / 8] >> i % 8 & 1)) {
+            memcpy(to, s + p, length);
+            to += length;
+        }
+        p += length;
+    }
+    if (closed)
+        *to = 0xFF;
     return r;
 }
 
@@ -584,12 +737,41 @@ static size_t write_image(uint8_t *out, const uint8_t *flags, const uint8_t *uid
     return to - out;
 }
 
+static size_t length_of(const uint16_t *ram, const bool *marks) {
+    size_t length = 32 + TABLES_BYTES + 1;
+    for (int p = 0; p < 2048; p++) {
+        if (!marks[p])
+            continue;
+        length += 8 + 3;
+        for (int i = 0; i < 256; i += MOST_WORDS)
+            length += data_size(form_of(ram + 256 * p + i, cut_at(i)), cut_at(i));
+    }
+    return length;
+}
+
+Writing c_write_image(const uint8_t *flags, const uint8_t *uid, const Cartridge *c, const uint16_t *ram, size_t words, const bool *marks, uint8_t *out, size_t room) {
+    if (words > LENT_LIMIT)
+        words = LENT_LIMIT;
+    int refused = not_fit(flags, c, words);
+    if (refused)
+        return (Writing){.number = refused};
+    for (size_t p = 0; p < 2048; p++)
+        if (marks[p] && 256 * p + 256 > words)
+            return (Writing){.number = 9, .place = p};
+    size_t length = length_of(ram, marks);
+    if (length > IMAGE_LIMIT)
+        return (Writing){.number = 1};
+    if (length > room)
+        return (Writing){.number = 29, .length = length};
+    return (Writing){.length = write_image(out, flags, uid, c, ram, marks)};
+}
+
 /* ---- the builder: lines, rules, layout, image ---- */
 
 /* So many pages at most are laid out, and then more than LENT_LIMIT words are refused. */
 enum { MOST_LINES = 128, MOST_PAGES = 139, BIN_LIMIT = 524288 };
 
-typedef enum { ROM, PAGED, RAM16, RAM8 } Kind;
+typedef enum { ROM, PAGED, RAM16, RAM8, NOBODY } Kind; /* NOBODY: of a paragraph that no line has */
 
 typedef struct {
     Kind kind;
@@ -787,10 +969,10 @@ static Building covers_of(const Line *lines, const Owners *o, bool *covers) {
     return refused_build(0, 0);
 }
 
-/* A paragraph of a line, from the BIN into the RAM image. */
+/* A paragraph of a line, from the BIN into the RAM image; without a BIN the mark alone. */
 static void lay(const Line *l, uint32_t p, uint32_t at, const uint8_t *bin, uint16_t *ram, bool *marks) {
     marks[at] = true;
-    if (l->kind == RAM16 || l->kind == RAM8)
+    if (l->kind == RAM16 || l->kind == RAM8 || !bin)
         return;
     const uint8_t *from = bin + 2 * (l->lo + (p - l->address / 256) * 256);
     for (int i = 0; i < 256; i++)
@@ -837,18 +1019,6 @@ static uint32_t lay_out(const Line *lines, const Owners *o, const bool *covers, 
     return pages;
 }
 
-static size_t length_of(const uint16_t *ram, const bool *marks) {
-    size_t length = 32 + TABLES_BYTES + 1;
-    for (int p = 0; p < 2048; p++) {
-        if (!marks[p])
-            continue;
-        length += 8 + 3;
-        for (int i = 0; i < 256; i += MOST_WORDS)
-            length += data_size(form_of(ram + 256 * p + i, cut_at(i)), cut_at(i));
-    }
-    return length;
-}
-
 Building c_build(const uint8_t *bin, size_t nbin, const uint8_t *cfg, size_t ncfg, uint8_t *out, size_t room) {
     Line lines[MOST_LINES];
     Owners o;
@@ -875,4 +1045,186 @@ Building c_build(const uint8_t *bin, size_t nbin, const uint8_t *cfg, size_t ncf
     put32(uid, c_crc32(bin, nbin));
     put32(uid + 4, c_crc32(cfg, ncfg));
     return (Building){.length = write_image(out, flags, uid, &c, ram, marks), .needed = 4096 * pages};
+}
+
+/* ---- back to BIN and CFG: the plan behind the tables, its lines, and whether they build the tables and words again ---- */
+
+/* A kind for each paragraph, or NOBODY; the pages; and the first Locutus page of each chapter. */
+typedef struct {
+    Kind kind[256];
+    bool page[16][16];
+    uint32_t base[16];
+} Plan;
+
+static Kind kind_of(int p, uint8_t permission) {
+    if (p < 5 || p / 16 == 1 || p / 16 == 3)
+        return NOBODY;
+    return permission == 1 ? ROM : permission == 3 ? RAM16 : permission == 7 ? RAM8 : NOBODY;
+}
+
+/* The pages of chapter x, where it has any: entry 8 is that of an absent page, or else that of the plain page, which has words there. */
+static uint32_t pages_of(const Cartridge *c, int x, const bool *named, Plan *q) {
+    const uint16_t *row = c->flips + 16 * x;
+    uint32_t base = q->base[x], absent = 16 * base + 9, used = 0, pages = 0;
+    for (int y = 0; y < 16; y++) {
+        absent = row[y] == 8 ? 8 : absent;
+        used |= row[y];
+    }
+    if (!used || x < 2 || x == 3)
+        return 0;
+    size_t word = 256 * (16 * base + 8);
+    bool under = absent != 8 && word < LENT_LIMIT && named[word];
+    for (int k = first_k(x); k < 16; k++)
+        q->kind[16 * x + k] = under ? ROM : NOBODY;
+    for (int y = 0; y < 16; y++)
+        pages += q->page[x][y] = row[y] != absent;
+    return pages;
+}
+
+static void plan_of(const Cartridge *c, const bool *named, Plan *q) {
+    uint32_t base = 0;
+    memset(q->page, 0, sizeof q->page);
+    for (int x = 0; x < 16; x++) {
+        q->base[x] = base;
+        for (int p = 16 * x; p < 16 * x + 16; p++)
+            q->kind[p] = kind_of(p, c->initial_permissions[p]);
+        base += pages_of(c, x, named, q);
+        bool plain = false;
+        for (int p = 16 * x; p < 16 * x + 16; p++)
+            plain = plain || q->kind[p] != NOBODY;
+        base += plain;
+    }
+}
+
+/* The runs of ROM, or else of RAM, by address, behind `count` lines; up to a line more than a CFG may have. */
+static size_t runs_of(const Plan *q, bool rom, Line *lines, size_t count, uint32_t *words) {
+    for (uint32_t p = 0, end; p < 256 && count <= MOST_LINES; p = end) {
+        Kind kind = q->kind[p];
+        for (end = p + 1; end < 256 && q->kind[end] == kind;)
+            end++;
+        if (kind == NOBODY || (kind == ROM) != rom)
+            continue;
+        uint32_t n = 256 * (end - p), lo = rom ? *words : 256 * p;
+        lines[count++] = (Line){.kind = kind, .lo = lo, .hi = lo + n - 1, .address = rom ? 256 * p : 0};
+        *words += rom ? n : 0;
+    }
+    return count;
+}
+
+static size_t lines_for(const Plan *q, Line *lines, uint32_t *words) {
+    *words = 0;
+    size_t count = runs_of(q, true, lines, 0, words);
+    for (uint32_t x = 0; x < 16; x++)
+        for (uint32_t y = 0; y < 16 && count <= MOST_LINES; y++)
+            if (q->page[x][y]) {
+                uint32_t a = 16 * x + first_k(x), n = 4096 - 256 * first_k(x);
+                lines[count++] = (Line){.kind = PAGED, .lo = *words, .hi = *words + n - 1, .address = 256 * a, .page = y};
+                *words += n;
+            }
+    return runs_of(q, false, lines, count, words);
+}
+
+/* Whether the lines build these tables, and the words that are named are those of its paragraphs, in RAM zeros. */
+static bool builds(const Line *lines, size_t count, const Cartridge *t, const uint16_t *ram, const bool *named) {
+    Owners o;
+    bool covers[16], marks[MOST_PAGES * 16] = {0}, all[256];
+    Cartridge c;
+    if (count == 0 || count > MOST_LINES || claims_of(lines, count, LENT_LIMIT, &o).number || covers_of(lines, &o, covers).number)
+        return false;
+    if (4096 * lay_out(lines, &o, covers, NULL, &c, NULL, marks) > LENT_LIMIT || memcmp(c.initial_mapping, t->initial_mapping, sizeof c.initial_mapping)
+        || memcmp(c.flips, t->flips, sizeof c.flips) || memcmp(c.initial_permissions, t->initial_permissions, sizeof c.initial_permissions))
+        return false;
+    for (int p = 0; p < 2048; p++) {
+        memset(all, marks[p], sizeof all);
+        if (memcmp(named + 256 * p, all, sizeof all))
+            return false;
+    }
+    for (int p = 0; p < 256; p++)
+        for (int i = 0; i < 256 && c.initial_permissions[p] & WRITE; i++)
+            if (ram[256 * c.initial_mapping[p] + i])
+                return false;
+    return true;
+}
+
+static uint8_t *put_text(uint8_t *s, const char *text) {
+    size_t n = strlen(text);
+    memcpy(s, text, n);
+    return s + n;
+}
+
+static uint8_t *put_hex(uint8_t *s, uint32_t x, int digits) {
+    for (int i = digits - 1; i >= 0; i--)
+        *s++ = "0123456789ABCDEF"[x >> 4 * i & 15];
+    return s;
+}
+
+/* The text of a CFG of these lines; answers its length. */
+static size_t text_of_lines(const Line *lines, size_t count, uint8_t *cfg) {
+    uint8_t *s = cfg;
+    for (size_t i = 0; i < count; i++) {
+        const Line *l = &lines[i];
+        bool is_ram = l->kind == RAM16 || l->kind == RAM8, first = i == 0 || (is_ram && lines[i - 1].kind <= PAGED);
+        if (first)
+            s = put_text(s, is_ram ? "[memattr]\n" : "[mapping]\n");
+        *s++ = '$';
+        s = put_hex(s, l->lo, is_ram ? 4 : 5);
+        s = put_text(s, " - $");
+        s = put_hex(s, l->hi, is_ram ? 4 : 5);
+        s = put_text(s, is_ram ? l->kind == RAM16 ? " = RAM 16" : " = RAM 8" : " = $");
+        if (!is_ram)
+            s = put_hex(s, l->address, 4);
+        if (l->kind == PAGED)
+            s = put_hex(put_text(s, " PAGE "), l->page, 1);
+        *s++ = '\n';
+    }
+    return s - cfg;
+}
+
+/* The words of the lines, from where the layout has them. */
+static void put_bin(const Line *lines, size_t count, const Plan *q, const Cartridge *c, const uint16_t *ram, uint8_t *bin) {
+    for (size_t i = 0; i < count && lines[i].kind <= PAGED; i++) {
+        const Line *l = &lines[i];
+        for (uint32_t p = l->address / 256; p <= last_address(l) / 256; p++) {
+            uint32_t page = l->kind == ROM ? q->base[p / 16] : c->flips[p / 16 * 16 + l->page] / 16;
+            const uint16_t *from = ram + 4096 * page + 256 * (p % 16);
+            for (int k = 0; k < 256; k++, bin += 2) {
+                bin[0] = from[k] >> 8;
+                bin[1] = from[k];
+            }
+        }
+    }
+}
+
+Unbuilding c_unbuild(const uint8_t *s, size_t n, uint8_t *bin, size_t nbin, uint8_t *cfg, size_t ncfg) {
+    Checked k = check_for_desk(s, n);
+    if (k.number)
+        return (Unbuilding){.number = k.number, .place = k.place};
+    uint16_t ram[LENT_LIMIT];
+    bool named[LENT_LIMIT] = {0};
+    for (size_t p = 32; p < n && s[p] != 0xFF; p += 8 + get16(s + p + 1))
+        if (s[p] == 2) {
+            size_t words = store_hunk(s + p + 8, get16(s + p + 1), ram);
+            memset(named + get16(s + p + 8) + ((size_t)s[p + 10] << 16), true, words);
+        }
+    Cartridge c = cartridge_of(s + k.tables + 8);
+    Plan q;
+    Line lines[MOST_LINES + 1];
+    uint32_t words;
+    plan_of(&c, named, &q);
+    size_t count = lines_for(&q, lines, &words);
+    if (s[6] & 3 || !builds(lines, count, &c, ram, named))
+        return (Unbuilding){.number = 31};
+    Unbuilding r = {.bin = words ? 2 * words : 2};
+    if (r.bin > BIN_LIMIT)
+        return (Unbuilding){.number = 32};
+    uint8_t text[4096];
+    r.cfg = text_of_lines(lines, count, text);
+    if (r.bin > nbin || r.cfg > ncfg) {
+        r.number = 29;
+        return r;
+    }
+    memset(bin, 0, 2);
+    put_bin(lines, count, &q, &c, ram, bin);
+    memcpy(cfg, text, r.cfg);
+    return r;
 }

@@ -10,17 +10,17 @@ typedef LuigiActive Active;
 #include <string.h>
 #include <time.h>
 
-enum { MIB = 1048576, BIN_BYTES = 524288, ROOM = IMAGE_LIMIT, WORDS = LENT_LIMIT };
+enum { MIB = 1048576, BIN_BYTES = 524288, ROOM = IMAGE_LIMIT, WORDS = LENT_LIMIT, BLOCK = 65535 };
 enum { SECTORS = 8, FLASH = 768 * SECTORS }; /* the flash of the accelerated cartridge */
 enum { LINES = 1000000, LIST = 26 * LINES }; /* the lines of a list, and room for its text */
-enum { SCRIPT = 20000, TIMES = 500, SAVES = 50 }; /* 10 million accesses: 500 times a script of 20,000; of saves a million */
+enum { SCRIPT = 20000, TIMES = 500, SAVES = 50, RESETS = 1000000 }; /* 10 million accesses: 500 times a script of 20,000; of saves a million */
 
 /* ---- inputs, from one seed ---- */
 
 static uint8_t bytes[MIB], bin[BIN_BYTES], narrow[BIN_BYTES], cfg[CFG_LIMIT];
 static size_t cfg_length;
-static uint8_t image[ROOM], packed[ROOM];
-static size_t image_length, packed_length;
+static uint8_t image[ROOM], packed[ROOM], once[ROOM]; /* once: with 55 pages, each word of the BIN once */
+static size_t image_length, packed_length, once_length;
 static uint16_t read_at[SCRIPT], write_at[SCRIPT], value[SCRIPT];
 static uint16_t switch_at[SCRIPT], switch_value[SCRIPT], jlp_at[SCRIPT], operand_at[SCRIPT], flash_at[SCRIPT], flash_value[SCRIPT];
 
@@ -31,14 +31,14 @@ static uint32_t random_bits(void) {
     return x ^= x << 5;
 }
 
-/* 64 lines: ROM and RAM in twelve chapters, and 59 pages in nine of them, so 71 pages of 4,096 words. */
+/* ROM and RAM in twelve chapters, and so many pages in nine of them. With 59 of them 64 lines and 71 pages of 4,096 words. */
 static const int paged[9] = {2, 5, 6, 7, 11, 12, 13, 14, 15};
 
-static void make_cfg(void) {
+static void make_cfg(int pages) {
     char *s = (char *)cfg;
     s += sprintf(s, "[memattr]\n$8000 - $9FFF = RAM 16\n$A000 - $AFFF = RAM 8\n");
     s += sprintf(s, "[mapping]\n$00000 - $00FFF = $2000\n$01000 - $03FFF = $5000\n$04000 - $08FFF = $B000\n");
-    for (int i = 0; i < 59; i++) {
+    for (int i = 0; i < pages; i++) {
         unsigned lo = (9 + i) % 64 * 4096;
         s += sprintf(s, "$%05X - $%05X = $%X000 PAGE %X\n", lo, lo + 4095, paged[i % 9], i / 9);
     }
@@ -102,6 +102,14 @@ static uint8_t *put_data(uint8_t *s, uint8_t start, int body) {
     return s;
 }
 
+static uint8_t *close_block(uint8_t *s, uint8_t type, uint8_t *end) {
+    s[0] = type;
+    put(s + 1, end - s - 8, 2);
+    s[3] = c_dowcrc(s, 3);
+    put(s + 4, c_crc324(s + 8, end - s - 8), 4);
+    return end;
+}
+
 /* The image's header and tables, then 127 hunks of 4,096 words, by turns in 10-bit and in 8-bit data blocks. */
 static void make_packed(void) {
     memcpy(packed, image, 1320);
@@ -113,14 +121,61 @@ static void make_packed(void) {
             end = h % 2 ? put_data(end, 0x3F, 62) : put_data(end, 0xBF, 159);
         if (h % 2)
             end = put_data(end, 0x01, 0);
-        s[0] = 2;
-        put(s + 1, end - payload, 2);
-        s[3] = c_dowcrc(s, 3);
-        put(s + 4, c_crc324(payload, end - payload), 4);
-        s = end;
+        s = close_block(s, 2, end);
     }
     *s++ = 0xFF;
     packed_length = s - packed;
+}
+
+/* The image with a metadata block behind its tables, as full as one can be: texts of up to 31 bytes with all tags but the last, and a
+   last one with that. The label has the texts but the last, so that a lookup of it goes through both files. */
+static uint8_t label[BLOCK], labelled[ROOM], shelf[ROOM];
+static size_t label_length, labelled_length, shelf_length;
+
+static void make_label(void) {
+    uint8_t *s = label;
+    while (label + BLOCK - s > 64) {
+        s[0] = random_bits() % 15;
+        s[1] = random_bits() % 32;
+        for (int i = 0; i < s[1]; i++)
+            s[2 + i] = random_bits();
+        s += 2 + s[1];
+    }
+    label_length = s - label;
+    uint8_t *block = labelled + 1320, *last = block + 8 + label_length;
+    memcpy(labelled, image, 1320);
+    memcpy(block + 8, label, label_length);
+    last[0] = 15;
+    last[1] = label + BLOCK - s - 2;
+    uint8_t *end = close_block(block, 3, block + 8 + BLOCK);
+    shelf_length = end + 1 - labelled;
+    memcpy(shelf, labelled, shelf_length);
+    shelf[shelf_length - 1] = 0xFF;
+    memcpy(end, image + 1320, image_length - 1320);
+    labelled_length = end + image_length - 1320 - labelled;
+}
+
+/* The image with every tenth hunk damaged, by turns in its checksum and in its first data block, and cut in its last. */
+static uint8_t damaged[ROOM];
+static size_t damaged_length, damaged_hunks;
+
+static void make_damaged(void) {
+    memcpy(damaged, image, image_length);
+    size_t i = 0, last = 0, length;
+    for (size_t p = 1320; damaged[p] != 0xFF; p += 8 + length, i++) {
+        length = damaged[p + 1] + 256 * damaged[p + 2];
+        last = p;
+        if (i % 10 != 9)
+            continue;
+        if (i % 20 == 9)
+            damaged[p + 100] ^= 1;
+        else {
+            damaged[p + 11] = 0;
+            close_block(damaged + p, 2, damaged + p + 8 + length);
+        }
+        damaged_hunks++;
+    }
+    damaged_length = last + 100;
 }
 
 static bool make_inputs(void) {
@@ -132,13 +187,18 @@ static bool make_inputs(void) {
         narrow[i] = i / 8192 % 2 ? random_bits() % 4 : 0;
         narrow[i + 1] = random_bits();
     }
-    make_cfg();
+    make_cfg(55);
+    Building one = c_build(bin, BIN_BYTES, cfg, cfg_length, once, ROOM);
+    once_length = one.length;
+    make_cfg(59);
     make_scripts();
     make_list();
     Building b = c_build(bin, BIN_BYTES, cfg, cfg_length, image, ROOM);
     image_length = b.length;
     make_packed();
-    return b.number == 0;
+    make_label();
+    make_damaged();
+    return b.number == 0 && one.number == 0;
 }
 
 /* ---- what each side answers: 0 is the proved side, 1 is C ---- */
@@ -184,6 +244,66 @@ static void plain_build_narrow(void) { building = c_build(narrow, BIN_BYTES, cfg
 static bool same_build(void) {
     return built.number == 0 && building.number == 0 && built.length == building.length && built.needed == building.needed
         && !memcmp(made[0], made[1], ROOM);
+}
+
+/* The title's own image, from its tables, its words and the paragraphs that its hunks name. */
+static bool marks[LUIGI_LOCUTUS_PARAGRAPHS];
+static LuigiWrittenImage written;
+static Writing writing;
+
+static void make_marks(void) {
+    for (size_t p = 32; image[p] != 0xFF; p += 8 + image[p + 1] + 256 * image[p + 2])
+        if (image[p] == 2)
+            marks[image[p + 9] + 256 * image[p + 10]] = true;
+}
+
+static void proved_write_image(void) {
+    const Cartridge *c = &cartridge[0];
+    luigi_write_image(&written, image + 4, image + 20, c->initial_mapping, c->initial_permissions, c->flips, ram[0], WORDS, (const uint8_t *)marks, made[0], ROOM);
+}
+
+static void plain_write_image(void) { writing = c_write_image(image + 4, image + 20, &cartridge[1], ram[1], WORDS, marks, made[1], ROOM); }
+
+static bool same_image(void) {
+    return written.number == 0 && writing.number == 0 && written.length == image_length && writing.length == image_length
+        && !memcmp(made[0], image, image_length) && !memcmp(made[0], made[1], ROOM);
+}
+
+static LuigiFound found;
+static Finding finding;
+
+static void proved_find(void) { luigi_find(&found, label, label_length, labelled, labelled_length, 15, 1); }
+static void plain_find(void) { finding = c_find(label, label_length, labelled, labelled_length, 15, 1); }
+static void proved_find_shelf(void) { luigi_find(&found, label, label_length, shelf, shelf_length, 15, 1); }
+static void plain_find_shelf(void) { finding = c_find(label, label_length, shelf, shelf_length, 15, 1); }
+
+static bool same_find(void) {
+    return found.number == 0 && finding.number == 0 && found.file == LUIGI_IN_IMAGE && finding.file == LUIGI_IN_IMAGE && found.from == finding.from
+        && found.to == finding.to && found.from == 1320 + 8 + label_length + 2 && found.to == 1320 + 8 + BLOCK;
+}
+
+static LuigiSalvaged salvaged;
+static Salvaging salvaging;
+
+static void proved_salvage(void) { luigi_salvage(&salvaged, damaged, damaged_length, made[0], ROOM); }
+static void plain_salvage(void) { salvaging = c_salvage(damaged, damaged_length, made[1], ROOM); }
+
+static bool same_salvage(void) {
+    return salvaged.number == 0 && salvaging.number == 0 && salvaged.length == salvaging.length && salvaged.kept == salvaging.kept
+        && salvaged.dropped == salvaging.dropped && salvaged.stopped == salvaging.stopped && salvaged.stop == salvaging.stop
+        && salvaging.dropped == damaged_hunks && salvaging.stopped && !memcmp(made[0], made[1], ROOM);
+}
+
+static uint8_t bin_back[2][BIN_BYTES], cfg_back[2][CFG_LIMIT];
+static LuigiUnbuilt unbuilt;
+static Unbuilding unbuilding;
+
+static void proved_unbuild(void) { luigi_unbuild(&unbuilt, once, once_length, bin_back[0], BIN_BYTES, cfg_back[0], CFG_LIMIT); }
+static void plain_unbuild(void) { unbuilding = c_unbuild(once, once_length, bin_back[1], BIN_BYTES, cfg_back[1], CFG_LIMIT); }
+
+static bool same_unbuild(void) {
+    return unbuilt.number == 0 && unbuilding.number == 0 && unbuilt.bin == BIN_BYTES && unbuilding.bin == BIN_BYTES && unbuilt.cfg == unbuilding.cfg
+        && !memcmp(bin_back[0], bin_back[1], BIN_BYTES) && !memcmp(cfg_back[0], cfg_back[1], CFG_LIMIT);
 }
 
 /* C's struct of the accelerators is the 20 words. */
@@ -239,6 +359,44 @@ static bool same_worlds(void) {
 }
 
 static bool same_writes(void) { return same_worlds() && same_numbers(); }
+
+/* The same accesses, a call each. */
+static void proved_single_reads(void) {
+    const Cartridge *c = &cartridge[0];
+    for (int i = 0; i < TIMES; i++)
+        for (int k = 0; k < SCRIPT; k++)
+            heard[0][k] = luigi_read(c->mapping, c->permissions, words_of(c), ram[0], WORDS, read_at[k]);
+}
+
+static void plain_single_reads(void) {
+    for (int i = 0; i < TIMES; i++)
+        for (int k = 0; k < SCRIPT; k++)
+            heard[1][k] = c_read(&cartridge[1], ram[1], WORDS, read_at[k]);
+}
+
+static void proved_single_writes(void) {
+    Cartridge *c = &cartridge[0];
+    for (int i = 0; i < TIMES; i++)
+        for (int k = 0; k < SCRIPT; k++)
+            assigned[0][k] = luigi_write(c->mapping, c->permissions, c->flips, &c->readable, lent_words_of(c), ram[0], WORDS, flash[0], FLASH, write_at[k], value[k]);
+}
+
+static void plain_single_writes(void) {
+    for (int i = 0; i < TIMES; i++)
+        for (int k = 0; k < SCRIPT; k++)
+            assigned[1][k] = c_write(&cartridge[1], ram[1], WORDS, flash[1], FLASH, write_at[k], value[k]);
+}
+
+static void proved_resets(void) {
+    Cartridge *c = &cartridge[0];
+    for (int i = 0; i < RESETS; i++)
+        luigi_reset(c->initial_mapping, c->initial_permissions, c->mapping, c->permissions, &c->readable, lent_words_of(c));
+}
+
+static void plain_resets(void) {
+    for (int i = 0; i < RESETS; i++)
+        c_reset(&cartridge[1]);
+}
 
 static void proved_switches(void) {
     Cartridge *c = &banked[0];
@@ -325,9 +483,17 @@ static const Row rows[] = {
     {"loading 600 KB in 16-bit data blocks", 25, proved_load, plain_load, same_load, 0},
     {"building from a BIN of 512 KB, 16-bit data blocks", 25, proved_build, plain_build, same_build, 0},
     {"building from a BIN of 512 KB, 8-bit and 10-bit data blocks", 25, proved_build_narrow, plain_build_narrow, same_build, 0},
+    {"writing an image of 600 KB from tables and RAM", 25, proved_write_image, plain_write_image, same_image, 0},
+    {"looking up a text: a label of 64 KB, an image of 650 KB that repeats it", 25, proved_find, plain_find, same_find, 0},
+    {"looking up a text: a label of 64 KB, an image of 67 KB without hunks", 25, proved_find_shelf, plain_find_shelf, same_find, 0},
+    {"salvaging 600 KB, every tenth hunk damaged", 25, proved_salvage, plain_salvage, same_salvage, 0},
+    {"back to a BIN of 512 KB and a CFG", 25, proved_unbuild, plain_unbuild, same_unbuild, 0},
     {"10 million bus reads", 9, proved_reads, plain_reads, same_heard, 1e7},
     {"10 million bus writes, every 16th a flip", 9, proved_writes, plain_writes, same_writes, 1e7},
     {"10 million writes with switches, every 16th a bankswitch", 9, proved_switches, plain_switches, same_banked, 1e7},
+    {"10 million bus reads, a call each", 9, proved_single_reads, plain_single_reads, same_heard, 1e7},
+    {"10 million bus writes, a call each", 9, proved_single_writes, plain_single_writes, same_writes, 1e7},
+    {"a million resets", 9, proved_resets, plain_resets, same_worlds, 1e6},
     {"10 million reads of JLP RAM", 9, proved_jlp_reads, plain_jlp_reads, same_heard, 1e7},
     {"10 million writes to JLP RAM", 9, proved_jlp_writes, plain_jlp_writes, same_accelerated, 1e7},
     {"10 million multiplies by JLP", 9, proved_multiplies, plain_multiplies, same_accelerated, 1e7},
@@ -383,6 +549,7 @@ int main(void) {
     for (int p = 16 * 8; p < 16 * 11; p += 8)
         l.cartridge.permissions[p] |= 8; /* BANKSW */
     banked[0] = banked[1] = l.cartridge;
+    make_marks();
     printf("| what | Rattle / C | C | Rattle's rate |\n|---|---|---|---|\n");
     bool fine = true;
     for (size_t i = 0; i < sizeof rows / sizeof rows[0]; i++)

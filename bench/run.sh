@@ -11,6 +11,6 @@ command -v gcc >/dev/null || {
 rm -rf "$work"
 mkdir -p "$work"
 how=$(bench/library.sh target/libluigi.a)
-gcc -O2 -Wall -o "$work/bench" bench/bench.c bench/baseline.c target/libluigi.a
+gcc -O2 -falign-functions=64 -Wall -o "$work/bench" bench/bench.c bench/baseline.c target/libluigi.a
 printf 'Rattle: %s.\nC: %s -O2.\n\n' "$how" "$(gcc --version | sed 1q)"
 exec "$work/bench"
