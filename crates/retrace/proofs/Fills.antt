@@ -1,7 +1,7 @@
 -- The rows of all chapters, and the two arrays, filled place by place; and marks.
 use Prim.Native.Nat.{_%_, _*_, _+_, _/_, _<_, _≤_, ℕ}
 use mathlib.Core.List.{List, []}
-use mathlib.Core.Path.{_∙_, _≡_, ap, refl, sym}
+use mathlib.Core.Path.{_∙_, _≡_, ap, refl}
 use mathlib.Core.Bool.{Bool, _&&_, false, true}
 use native.Mathlib.Omega.{arith}
 use native.Mathlib.Numerals.{add-one}
@@ -11,14 +11,14 @@ use Rattle.basics.specs.Counts.{all}
 use Rattle.basics.specs.Laws.Counts.{all-more, all-none}
 use Rattle.basics.specs.Laws.Tables.{Filled, filled-all, filled-more, filled-none, getD-table}
 use Rattle.basics.specs.Tables.{table}
-use Rattle.places.specs.Limits.{chapters, flipEntries, locutusParagraphs, paragraphSize, paragraphs}
+use Rattle.places.specs.Limits.{chapters, flipEntries, locutusParagraphs, paragraphs}
 use Rattle.tables.specs.Tables.{tables}
 use Rattle.plan.specs.Image.{size}
 use Rattle.plan.specs.Plan.{Chapter, hasPage, kinds}
 use Rattle.behind.specs.Behind.{baseBehind}
 use Rattle.retrace.specs.Code.Named.{namedIn, wordNamed}
 use Rattle.retrace.specs.Code.Shown.{chapterOf, markedIn, planFrom, shownAt, shownBehind, sketchOf}
-use Rattle.retrace.specs.Laws.Behind.{base-few, chapter-behind}
+use Rattle.retrace.specs.Laws.Behind.{chapter-behind}
 use Rattle.retrace.specs.declared.row.Shown.{Shown}
 use Rattle.retrace.specs.declared.Sketch.{Sketch}
 

@@ -7,7 +7,7 @@ use native.Mathlib.Omega.{arith}
 use native.Mathlib.Nat.{eq-or-lt-of-le}
 use native.Mathlib.Numerals.{add-one}
 use lib.Dec.{eqb}
-use borrow.Author.Tests.{ne-eqb, eqb-true, eqb-false}
+use borrow.Author.Tests.{eqb-true, eqb-false}
 use Rattle.basics.specs.Counts.{all, any, count}
 use Rattle.basics.specs.Laws.Tests.{and-right, and-left, and-true, or-right, true-is-not-false, or-cases, compare, cases}
 
@@ -194,20 +194,6 @@ pub count-or : (f g : ℕ → Bool) (n : ℕ) → count (λ s. f s || g s) n ≤
 unfolding count
 count-or f g zero = omega arith
 count-or f g (suc n) = count-or-by (f n) (g n) (count (λ s. f s || g s) n) (count f n) (count g n) (count-or f g n)
-
-none-single : (c n : ℕ) → n ≤ c → count (λ s. eqb s c) n ≡ 0
-unfolding count
-none-single c zero h = refl
-none-single c (suc n) h = simp (ne-eqb n c (omega arith), none-single c n (omega arith))
-
-count-single-by : (c n : ℕ) (b : Bool) → eqb n c ≡ b → count (λ s. eqb s c) n ≤ 1 → cond b (suc (count (λ s. eqb s c) n)) (count (λ s. eqb s c) n) ≤ 1
-count-single-by c n true e h = let z : count (λ s. eqb s c) n ≡ 0 = none-single c n (omega (arith, eqb-true n c e)) in omega arith
-count-single-by c n false e h = h
-
-pub count-single : (c n : ℕ) → count (λ s. eqb s c) n ≤ 1
-unfolding count
-count-single c zero = omega arith
-count-single c (suc n) = count-single-by c n (eqb n c) refl (count-single c n)
 
 -- counting, and the place of a count, by tests that agree
 pub count-same : (f g : ℕ → Bool) (n : ℕ) → ((i : ℕ) → i < n → f i ≡ g i) → count f n ≡ count g n

@@ -1,11 +1,10 @@
 -- A list of words stored at a place and on: which places then hold what.
-use Prim.Native.Nat.{ℕ, _+_, _≤_, _<_, zero, suc}
+use Prim.Native.Nat.{ℕ, _+_, _≤_, _<_}
 use mathlib.Core.List.{List, _++_}
-use mathlib.Core.Path.{_≡_, ap, _∙_, refl}
-use mathlib.Core.Logic.{_⊎_, inl, inr}
-use native.Mathlib.Omega.{arith}
-use lib.ListN.{length, getD, length-append, List·getD-append, set}
-use lib.Seq.{getD-append-add, set-append-left}
+use mathlib.Core.Path.{_≡_, ap, _∙_}
+use mathlib.Core.Logic.{_⊎_}
+use lib.ListN.{length, getD, length-append, List·getD-append}
+use lib.Seq.{getD-append-add}
 use Rattle.basics.specs.Lists.{lay, laid}
 use Rattle.basics.specs.Laws.Lists.{length-laid, laid-in, laid-out, laid-add, laid-same}
 use Rattle.basics.specs.Tables.{table}
@@ -39,17 +38,3 @@ pub lay-table : (a n : ℕ) (w : ℕ → ℕ) (ram : List ℕ) → lay a (table 
 lay-table a n w ram =
     ap (λ (k : ℕ). laid a k (λ i. getD (table n w) i 0) ram) (length-table n w)
     ∙ laid-same a n (λ i. getD (table n w) i 0) w ram (λ i h. getD-table 0 n w i h)
-
--- words laid into the front of a list
-laid-front : (a n : ℕ) (w : ℕ → ℕ) (ram r : List ℕ) → a + n ≤ length ram → laid a n w (ram ++ r) ≡ laid a n w ram ++ r
-unfolding laid
-laid-front a zero w ram r h = refl
-laid-front a (suc n) w ram r h =
-    let l : length (laid a n w ram) ≡ length ram = length-laid a w ram n in
-    ap (λ (m : List ℕ). set m (a + n) (w n)) (laid-front a n w ram r (omega arith))
-    ∙ set-append-left (laid a n w ram) r (a + n) (w n) (omega arith)
-
-pub lay-front : (a : ℕ) (ws ram r : List ℕ) → Inside a ws (length ram) → lay a ws (ram ++ r) ≡ lay a ws ram ++ r
-unfolding laid
-lay-front a ws ram r (inl z) = rw z
-lay-front a ws ram r (inr h) = laid-front a (length ws) (λ i. getD ws i 0) ram r h

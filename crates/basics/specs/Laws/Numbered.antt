@@ -1,7 +1,7 @@
 -- A table of refusals: every row's answer has a number, which is not 0, and the last word has number 0. So an answer with a number is
 -- given exactly when its row holds and none before it does, and one without exactly when no row holds.
 use Prim.Native.Nat.{ℕ}
-use mathlib.Core.List.{List, [], _∷_, _++_}
+use mathlib.Core.List.{List, [], _∷_}
 use mathlib.Core.Path.{_≡_, ap, sym, _∙_}
 use mathlib.Core.Logic.{_⊎_, inl, inr, _↔_}
 use Rattle.basics.specs.Rows.{Row, Gives, here, later, firstOf, Silent}
@@ -10,10 +10,6 @@ use Rattle.basics.specs.Laws.Rows.{silent-first, first-by, gives-first}
 abbrev pub Refusing : {A : Type 0} → (A → ℕ) → List (Row A) → Type 0
 Refusing number [] = Unit {0}
 Refusing number (r ∷ rs) = (number (r .1) ≡ 0 → ⊥) × Refusing number rs
-
-pub refusing-append : {A : Type 0} (number : A → ℕ) (rs qs : List (Row A)) → Refusing number rs → Refusing number qs → Refusing number (rs ++ qs)
-refusing-append number [] qs r q = q
-refusing-append number (x ∷ rs) qs r q = (r .0, refusing-append number rs qs (r .1) q)
 
 pub gives-refused : {A : Type 0} (number : A → ℕ) {rs : List (Row A)} {a : A} → Refusing number rs → Gives rs a → number a ≡ 0 → ⊥
 gives-refused number r (here e) z = r .0 z

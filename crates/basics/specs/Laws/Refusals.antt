@@ -1,14 +1,11 @@
 -- Tables of refusals, each row with a number that is not 0: refused with this number and place exactly when that row holds and none
 -- before it does, accepted exactly when no row holds; and tables one behind the other.
-use Prim.Native.Nat.{ℕ, suc}
-use mathlib.Core.Path.{_≡_, refl, sym, ap, _∙_}
+use mathlib.Core.Path.{_≡_, sym, ap, _∙_}
 use mathlib.Core.List.{List, [], _∷_, _++_}
-use mathlib.Core.Bool.{Bool, true, false, cond}
 use mathlib.Core.Logic.{_⊎_, inl, inr, _↔_}
-use native.Mathlib.Omega.{arith}
 use Rattle.basics.specs.declared.Refusal.{Refusal}
-use Rattle.basics.specs.Rows.{Row, firstOf, Gives, here, later, Silent}
-use Rattle.basics.specs.Refusals.{refuse, noRefusal, firstRefusal}
+use Rattle.basics.specs.Rows.{Row, Gives, here, later, Silent}
+use Rattle.basics.specs.Refusals.{noRefusal, firstRefusal}
 use Rattle.basics.specs.Laws.Rows.{gives-first, silent-first, first-by, first-append, gives-append}
 
 -- each row refuses
@@ -49,12 +46,3 @@ refused-front rs qs n = go (first-by rs noRefusal)
 
 pub silent-behind : (rs qs : List (Row Refusal)) → Silent rs → firstRefusal (rs ++ qs) ≡ firstRefusal qs
 silent-behind rs qs s = first-append rs qs noRefusal ∙ silent-first (firstRefusal qs) s
-
--- a row that refuses, and is not the answer, does not hold
-pub row-passed : (b : Bool) (n p : ℕ) (v : Refusal) → cond b (refuse (suc n) p) v ≡ noRefusal → b ≡ false
-row-passed true n p v e = let z : suc n ≡ 0 = ap (λ (r : Refusal). r .number) e in absurd (omega arith)
-row-passed false n p v e = refl
-
-pub row-rest : (b : Bool) (n p : ℕ) (v : Refusal) → cond b (refuse (suc n) p) v ≡ noRefusal → v ≡ noRefusal
-row-rest true n p v e = let z : suc n ≡ 0 = ap (λ (r : Refusal). r .number) e in absurd (omega arith)
-row-rest false n p v e = e

@@ -1,7 +1,7 @@
 -- Tests: what a branch of the code has decided, put into a definition that asks the same; and ways to take a test apart.
-use Prim.Native.Nat.{ℕ, _<_, _≤_, suc}
+use Prim.Native.Nat.{ℕ, _<_, _≤_}
 use mathlib.Core.Bool.{Bool, true, false, _&&_, _||_, cond, not}
-use mathlib.Core.Path.{_≡_, refl, sym, _∙_}
+use mathlib.Core.Path.{_≡_, refl, sym}
 use mathlib.Core.Logic.{_⊎_, inl, inr}
 use native.Mathlib.Omega.{arith}
 use lib.Dec.{eqb, ltb}
@@ -88,12 +88,6 @@ not-false false e = sym e
 pub not-true : (b : Bool) → not b ≡ true → b ≡ false
 not-true true e = sym e
 not-true false e = refl
-
-pub same-order : (m n : ℕ) → ltb (suc m) (suc n) ≡ ltb m n
-same-order m n = cases (ltb m n) (λ e. lt-ltb (suc m) (suc n) (omega (arith, ltb-true m n e)) ∙ sym e) (λ e. more e)
-  where
-    more : ltb m n ≡ false → ltb (suc m) (suc n) ≡ ltb m n
-    more e = cases (ltb (suc m) (suc n)) (λ q. absurd (omega (arith, ltb-true (suc m) (suc n) q, ltb-false m n e))) (λ q. q ∙ sym e)
 
 pub not-cond : (b : Bool) (x y : ℕ) → cond b x y ≡ cond (not b) y x
 not-cond true x y = refl

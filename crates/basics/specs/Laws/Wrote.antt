@@ -21,12 +21,6 @@ wrote-long out₀ out x c =
 pub wrote-all : (out₀ out x : List ℕ) → Wrote out₀ out x → length x ≡ length out₀ → out ≡ x
 wrote-all out₀ out x c e = c .is ∙ ap (_++_ x) (drop-of-length-le out₀ {i = length x} (omega arith)) ∙ append-nil x
 
--- from here on
-pub wrote-again : (out₀ out x : List ℕ) → Wrote out₀ out x → Wrote out out x
-wrote-again out₀ out x c =
-    let l : length out ≡ length out₀ = wrote-long out₀ out x c in
-    record { fits = omega (arith, c .fits); is = c .is ∙ ap (_++_ x) (sym (ap (drop (length x)) (c .is) ∙ drop-append-seam x (drop (length x) out₀))) }
-
 -- one store at the end of what is written
 pub wrote-set : (out₀ out x : List ℕ) (i v w : ℕ) → Wrote out₀ out x → i ≡ length x → i < length out₀ → v ≡ w → Wrote out₀ (set out i v) (x ++ (w ∷ []))
 wrote-set out₀ out x i v w c ei h ev =

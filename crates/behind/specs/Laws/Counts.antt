@@ -1,4 +1,4 @@
--- Counts and tests of places: all of them, none of them, and the one that passes.
+-- Counts and tests of places: all that pass, a place that does not, and the one that does.
 use Prim.Native.Nat.{_<_, suc, zero, ℕ}
 use mathlib.Core.Path.{_≡_, refl}
 use mathlib.Core.Bool.{Bool, false, not, true}
@@ -11,11 +11,6 @@ pub count-all : (f : ℕ → Bool) (n : ℕ) → ((i : ℕ) → i < n → f i �
 unfolding count
 count-all f zero h = refl
 count-all f (suc n) h = rw (h n (omega arith), count-all f n (λ i l. h i (omega arith)))
-
-pub count-none : (f : ℕ → Bool) (n : ℕ) → ((i : ℕ) → i < n → f i ≡ false) → count f n ≡ 0
-unfolding count
-count-none f zero h = refl
-count-none f (suc n) h = rw (h n (omega arith)) (count-none f n (λ i l. h i (omega arith)))
 
 -- no place passes; a place fails
 pub not-any : (n : ℕ) (f : ℕ → Bool) → any n f ≡ false → (i : ℕ) → i < n → f i ≡ false

@@ -1,7 +1,7 @@
 -- Where a plan has all sixteen pages in a chapter and no plain paragraph there, page 0's words may as well be plain: the image is the same, and
 -- the plan behind it has them so (W-213, Q*).
 use Prim.Native.Nat.{_<_, ℕ}
-use mathlib.Core.Path.{_≡_, refl}
+use mathlib.Core.Path.{_≡_}
 use mathlib.Core.Bool.{Bool, _&&_, _||_, cond, not}
 use lib.Dec.{eqb, leb}
 use Rattle.basics.specs.Counts.{all}
@@ -26,9 +26,6 @@ star q x = starAt x (q x)
 pub record Same (c d : Chapter) : Type 0 where
   pub kinds : (k : ℕ) → k < chapterParagraphs → c .kind k ≡ d .kind k
   pub pages : (y : ℕ) → y < chapterPages → c .page y ≡ d .page y
-
-pub same-as : (c : Chapter) → Same c c
-same-as c = record { kinds = λ k h. refl; pages = λ y h. refl }
 
 -- a chapter holds words of Locutus paragraph p, plain or of a page
 abbrev pub holdsAny : ℕ → Chapter → ℕ → ℕ → Bool

@@ -16,19 +16,16 @@ use Rattle.flash.specs.declared.Saves.{Saves}
 use Rattle.flash.specs.Flash.{Memories, memories}
 use Rattle.jlp.specs.declared.Jlp.{Jlp}
 use Rattle.jlp.specs.Window.{inWindow, inRam}
-use Rattle.jlp.specs.Accelerators.{freshJlp, turnsOn, takes}
+use Rattle.jlp.specs.Accelerators.{freshJlp, turnsOn}
 use Rattle.jlp.specs.Laws.Accelerators.{off-takes, on-takes, none-taken}
 use Rattle.cart.specs.declared.Taker.{Taker}
 use Rattle.cart.specs.declared.Taker.the-variants.{Accelerators, Bank, Flip, Ram}
 use Rattle.cart.specs.Cells.{cellAt, windowCell}
-use Rattle.cart.specs.Reads.{mappedSource, sourceOf, readBy}
+use Rattle.cart.specs.Reads.{readBy}
 use Rattle.cart.specs.Writes.{bankTaker, flipTaker, mappedTaker, windowTaker, takerOf, leftBy, memoriesBy, leaves, leavesRam, leavesFlash, assigned, leavesReadable}
 
--- field 0, never on: reads and writes go by the tables alone
+-- field 0, never on: writes go by the tables alone
 module _ (j : Jlp) (none : j .field ≡ 0) (off : j .on ≡ false) (a : Active) (at : Console) where
-  pub unaccelerated-source : sourceOf j a at ≡ mappedSource a at
-  unaccelerated-source = rw off
-
   pub unaccelerated-taker : (flips : List ℕ) (v : ℕ) → takerOf j a flips at v ≡ mappedTaker a flips at v
   unaccelerated-taker flips v = rw (none-taken j none off at v)
 

@@ -1,6 +1,6 @@
 -- The number of readable paragraphs that is kept is the count over the active permissions, after every write and reset where it was so
 -- before (02, W-211).
-use Prim.Native.Nat.{ℕ, zero, suc, _+_, _-_, _/_, _%_, _^_, _<_, _≤_}
+use Prim.Native.Nat.{ℕ, zero, suc, _+_, _-_, _/_, _%_, _<_, _≤_}
 use mathlib.Core.Path.{_≡_, refl, sym, ap, _∙_}
 use mathlib.Core.List.{List, [], _∷_}
 use mathlib.Core.Bool.{Bool, true, false, cond}
@@ -49,10 +49,6 @@ readable-done m a n i k p q e = let d : i ≡ n = omega arith in rw d at e
 pub readable-most : (m : List ℕ) (a n : ℕ) → readableIn m a n ≤ n
 unfolding readableIn
 readable-most m a n = count-most _ n
-
--- a sum and a difference in 16 bits
-pub recount-is : (kept before after s r : ℕ) → s ≡ (kept + after) % 2 ^ 16 → (r + before) % 2 ^ 16 ≡ s → r < 0x10000 → before < 0x10000 → r ≡ recounted kept before after
-recount-is kept before after s r e f g h = omega arith
 
 -- counted in two parts
 readable-add : (m : List ℕ) (a n k : ℕ) → readableIn m a (n + k) ≡ readableIn m a n + readableIn m (a + n) k

@@ -7,8 +7,8 @@ use mathlib.Core.Bool.{true, false}
 use native.Mathlib.Omega.{arith}
 use lib.ListN.{length}
 use lib.Dec.{leb, eqb}
-use borrow.Author.Tests.{leb-true, le-leb, lt-leb, lt-ltb, ltb-true, ne-eqb}
-use Rattle.basics.specs.Laws.Tests.{and-left, and-right, and-false, same-test, cases}
+use borrow.Author.Tests.{leb-true, le-leb, lt-ltb, ltb-true, ne-eqb}
+use Rattle.basics.specs.Laws.Tests.{and-left, and-right, same-test, cases}
 use Rattle.places.specs.declared.Console.{Console}
 use Rattle.flash.specs.declared.Command.the-variants.{Nothing}
 use Rattle.flash.specs.declared.Saves.{Saves}
@@ -24,10 +24,6 @@ module _ (sectors : ℕ) where
   pub size-in : hasFlash sectors ≡ true → (1 ≤ sectors) × (sectors ≤ sectorLimit)
   unfolding hasFlash
   size-in e = (leb-true _ _ (and-left (leb 1 sectors) (leb sectors sectorLimit) e), leb-true _ _ (and-right (leb 1 sectors) (leb sectors sectorLimit) e))
-
-  pub size-above : sectorLimit < sectors → hasFlash sectors ≡ false
-  unfolding hasFlash
-  size-above h = and-false (leb 1 sectors) _ (lt-leb _ _ h)
 
   -- the rows of a flash that is lent whole are those up to the last that JF.last gives
   pub rows-named : hasFlash sectors ≡ true → (flash : List ℕ) → length flash ≡ sectorWords * sectors → (row : ℕ)

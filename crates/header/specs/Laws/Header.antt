@@ -5,7 +5,7 @@ use mathlib.Core.Path.{_≡_, _∙_, ap, sym, refl}
 use mathlib.Core.Logic.{_↔_}
 use mathlib.Core.Bool.{false}
 use native.Mathlib.Omega.{arith}
-use lib.ListN.{length, getD, take, drop, length-append, take-append-drop}
+use lib.ListN.{length, getD, drop, length-append}
 use lib.Dec.{ltb}
 use borrow.Author.Tests.{le-ltb, eq-eqb, ltb-false}
 use Rattle.basics.specs.Lists.{part}
@@ -82,7 +82,3 @@ module _ (flags uid : List ℕ) (ef : length flags ≡ flagsSize) (eu : length u
 
     pub header-back : length s ≤ imageLimit → headerRefusal s ≡ noRefusal
     header-back h = silent-first noRefusal (header-silent h)
-
--- bytes whose first 32 are a header begin with it
-pub header-first : (flags uid s : List ℕ) → take headerSize s ≡ headerOf flags uid → s ≡ headerOf flags uid ++ drop headerSize s
-header-first flags uid s e = sym (take-append-drop headerSize s) ∙ ap (λ (x : List ℕ). x ++ drop headerSize s) e

@@ -166,16 +166,6 @@ words-whole s m n p =
 pub passes-exactly : (s : List ℕ) (m n : ℕ) → (checkHunk s m ≡ Whole n) ↔ WholeIn s m n
 passes-exactly s m n = (whole-words s m n, words-whole s m n)
 
--- a RAM of more words passes what a smaller one does
-pub check-larger : (s : List ℕ) (m more n : ℕ) → m ≤ more → checkHunk s m ≡ Whole n → checkHunk s more ≡ Whole n
-check-larger s m more n h e =
-    let p : WholeIn s m n = whole-words s m n e in
-    words-whole s more n (record { long = p .long; all = p .all; count = p .count; inside = wider (p .inside) })
-  where
-    wider : Inside (address s .0) (wordsOf s) m → Inside (address s .0) (wordsOf s) more
-    wider (inl z) = inl z
-    wider (inr i) = inr (omega arith)
-
 -- a data block is not whole exactly when it is reserved or cut
 is-reserved : (f : Form) → isReserved f ≡ true → f ≡ Reserved
 is-reserved Bytes e = true-is-not-false e refl

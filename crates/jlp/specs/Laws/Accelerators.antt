@@ -15,7 +15,7 @@ use Rattle.flash.specs.Registers.{jfFirst, jfLast, jfAddr, jfRow}
 use Rattle.flash.specs.Laws.Registers.{others-silent, registers-stay}
 use Rattle.jlp.specs.declared.Jlp.{Jlp}
 use Rattle.jlp.specs.Window.{inWindow, inRam, isOperand, onAt, onWord, offAt, offWord, operandsStart, operandsEnd, windowStart, windowEnd, firstAt, secondAt, dataAt, crcAt}
-use Rattle.jlp.specs.Accelerators.{startsOn, withOn, resetJlp, turnsOn, turnsOff, takes, latches, crcAfter, writtenOn, writtenJlp, registerWord, heardAt}
+use Rattle.jlp.specs.Accelerators.{withOn, resetJlp, turnsOn, turnsOff, takes, latches, crcAfter, writtenOn, writtenJlp, registerWord, heardAt}
 use Rattle.jlp.specs.Laws.Window.{between-low, between-high, between-in, between-out, between-below}
 
 -- the word that turns on, exactly: $4A5A to $8033, for a field that is not 0
@@ -118,7 +118,7 @@ module _ (j : Jlp) (at : Console) (v : ℕ) where
   unfolding latches
   unlatched e = cases (inRam at) (λ t. ram-quiet t) (λ t. not-taken (rw t at e))
 
--- field 0 knows neither word: never on, they take no write, and no write and no reset changes them
+-- field 0 knows neither word: never on, they take no write, and no write changes them
 module _ (j : Jlp) (none : j .field ≡ 0) (off : j .on ≡ false) where
   pub none-taken : (at : Console) (v : ℕ) → takes j at v ≡ false
   unfolding turnsOn
@@ -129,9 +129,6 @@ module _ (j : Jlp) (none : j .field ≡ 0) (off : j .on ≡ false) where
 
   pub none-written : (at : Console) (v : ℕ) → writtenJlp j at v ≡ j
   none-written at v = not-taken j at v (none-taken at v)
-
-  pub none-reset : resetJlp j ≡ j
-  none-reset = ap (λ (f : ℕ). withOn j (startsOn f)) none ∙ ap (withOn j) (sym off)
 
 -- k has the field, the operands, the results, the CRC and the flash's registers of j
 pub record Kept (j k : Jlp) : Type 0 where
@@ -155,7 +152,7 @@ off-then-on j some on = ap after first ∙ rw (ne-eqb _ _ some) (ap (withOn j) (
     first : writtenJlp j (console offAt) offWord ≡ withOn j false
     first = cond-true (j .on) (withOn j false) j on
 
--- reads are silent while off, and but for three registers and the flash's two; so they are outside of the window and in the RAM
+-- reads are silent while off, and but for three registers and the flash's two
 module _ (j : Jlp) (at : Console) where
   pub off-silent : j .on ≡ false → heardAt j at ≡ Silence
   unfolding heardAt
@@ -169,17 +166,3 @@ module _ (j : Jlp) (at : Console) where
       by : (b : Bool) → cond b Silence Silence ≡ Silence
       by true = refl
       by false = refl
-
-  pub ram-silent : inRam at ≡ true → heardAt j at ≡ Silence
-  ram-silent e =
-      let low : ramStart ≤ at .0 = between-low _ _ _ e in
-      let high : at .0 ≤ ramEnd = between-high _ _ _ e in
-      other-silent (λ q. omega arith) (λ q. omega arith) (λ q. omega arith) (λ q. omega arith) (λ q. omega arith)
-
-  pub outside-silent : inWindow at ≡ false → heardAt j at ≡ Silence
-  outside-silent out =
-      other-silent (λ q. here (omega arith) (omega arith)) (λ q. here (omega arith) (omega arith)) (λ q. here (omega arith) (omega arith))
-      (λ q. here (omega arith) (omega arith)) (λ q. here (omega arith) (omega arith))
-    where
-      here : windowStart ≤ at .0 → at .0 ≤ windowEnd → ⊥
-      here = between-out windowStart windowEnd (at .0) out

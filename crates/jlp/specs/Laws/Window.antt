@@ -5,9 +5,9 @@ use mathlib.Core.Path.{_≡_}
 use native.Mathlib.Omega.{arith}
 use lib.Dec.{leb}
 use borrow.Author.Tests.{le-leb, lt-leb, leb-true}
-use Rattle.basics.specs.Laws.Tests.{and-left, and-right, and-false, true-is-not-false}
+use Rattle.basics.specs.Laws.Tests.{and-left, and-right, true-is-not-false}
 use Rattle.places.specs.declared.Console.{Console}
-use Rattle.jlp.specs.Window.{between, inWindow, inRam, ramLocation, ramWords}
+use Rattle.jlp.specs.Window.{between, inRam, ramLocation, ramWords}
 
 module _ (low high a : ℕ) where
   pub between-low : between low high a ≡ true → low ≤ a
@@ -29,9 +29,6 @@ module _ (low high a : ℕ) where
   unfolding between
   between-below h = rw (lt-leb _ _ h)
 
--- the RAM stands in the window, and so many lent words hold all of it (02, W-206)
-pub ram-in-window : (at : Console) → inRam at ≡ true → inWindow at ≡ true
-ram-in-window at e = between-in _ _ _ (omega (arith, between-low _ _ _ e)) (omega (arith, between-high _ _ _ e))
-
+-- so many lent words hold all of the RAM (02, W-206)
 pub ram-lent : (at : Console) → inRam at ≡ true → ramLocation at .0 < ramWords
 ram-lent at e = omega (arith, between-high _ _ _ e)

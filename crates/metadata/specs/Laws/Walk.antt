@@ -7,7 +7,6 @@ use native.Mathlib.Omega.{arith}
 use lib.ListN.{length}
 use lib.Dec.{ltb}
 use borrow.Author.Tests.{leb-true, lt-leb}
-use Rattle.basics.specs.Laws.Tests.{cases}
 use Rattle.metadata.specs.Records.{endAt, wholeAt, startsFrom, starts, endFrom, isCut}
 
 -- one that is whole ends in the payload; none stands at the payload's end or past it
@@ -71,14 +70,3 @@ module _ (s : List ℕ) (p : ℕ) (c : Reached s p) where
   pub cut-by : wholeAt s p ≡ false → isCut s ≡ ltb p (length s)
   unfolding isCut
   cut-by w = rw (reach-stop w)
-
--- where the walk stops no whole one stands, and it stops in the payload
-pub stop-whole : (f : ℕ) (s : List ℕ) (p : ℕ) → length s ≤ p + f → wholeAt s (endFrom s p (startsFrom f s p)) ≡ false
-unfolding startsFrom
-stop-whole zero s p h = past-end s p (omega arith)
-stop-whole (suc f) s p h = cases (wholeAt s p) (λ w. rw w (stop-whole f s (endAt s p) (omega arith))) (λ w. rw w w)
-
-pub stop-in : (f : ℕ) (s : List ℕ) (p : ℕ) → p ≤ length s → endFrom s p (startsFrom f s p) ≤ length s
-unfolding startsFrom
-stop-in zero s p h = h
-stop-in (suc f) s p h = cases (wholeAt s p) (λ w. rw w (stop-in f s (endAt s p) (whole-ends s p w))) (λ w. rw w h)

@@ -1,8 +1,8 @@
 -- What is drawn of the canonical lines of a plan tells whether the plan fits.
-use Prim.Native.Nat.{_*_, _+_, _/_, _<_, _≤_, ℕ}
-use mathlib.Core.List.{List, []}
+use Prim.Native.Nat.{_*_, _/_, _≤_, ℕ}
+use mathlib.Core.List.{List}
 use mathlib.Core.Path.{_∙_, _≡_, ap, refl, sym}
-use mathlib.Core.Bool.{Bool, _&&_, _||_, cond, false, not, true}
+use mathlib.Core.Bool.{Bool, _&&_, _||_, false, not, true}
 use native.Mathlib.Omega.{arith}
 use lib.Dec.{leb}
 use lib.ListN.{getD, length, take}
@@ -10,18 +10,16 @@ use lib.Seq.{ext-getD, getD-take, length-take-le}
 use borrow.Author.Tests.{leb-true}
 use Rattle.basics.specs.Laws.Counts.{all-same}
 use Rattle.basics.specs.Laws.Tables.{getD-table, length-table}
-use Rattle.basics.specs.Laws.Tests.{and-false, and-right, cases}
+use Rattle.basics.specs.Laws.Tests.{and-false, cases}
 use Rattle.basics.specs.Tables.{table}
 use Rattle.places.specs.Limits.{lentLimit, lineLimit, locutusParagraphs, pageSize}
 use Rattle.tables.specs.Tables.{Tables, tables}
 use Rattle.lines.specs.declared.Line.{Line}
 use Rattle.layout.specs.Drawing.{drawingOf}
-use Rattle.layout.specs.declared.Drawing.{Drawing}
 use Rattle.plan.specs.Fewest.{fewest}
-use Rattle.plan.specs.Image.{coveredOf, flipsOf, mappingOf, pagesOf, permissionsOf, ramCoveredOf}
+use Rattle.plan.specs.Image.{coveredOf, pagesOf, ramCoveredOf}
 use Rattle.plan.specs.Plan.{Plan}
 use Rattle.plan.specs.Valid.{Valid}
-use Rattle.behind.specs.Behind.{behind}
 use Rattle.behind.specs.Laws.Behind.{behind-valid}
 use Rattle.canon.specs.Laws.Good.{length-lines}
 use Rattle.canon.specs.Laws.Lines.{canonicalLines}
@@ -34,7 +32,7 @@ use Rattle.retrace.specs.Code.Shown.{markedIn, planFrom, sketchOf}
 use Rattle.retrace.specs.Laws.Behind.{behind-any}
 use Rattle.retrace.specs.declared.Sketch.{Sketch}
 use Rattle.rebuild.specs.Code.Retraced.{drawingFits, listingFits, marksFit, planNamed, retracedOf}
-use Rattle.rebuild.specs.Fits.{agree, fits, linesFit, namesFit, ramFits, tablesFit}
+use Rattle.rebuild.specs.Fits.{fits, namesFit, ramFits, tablesFit}
 use Rattle.rebuild.specs.Laws.Drawn.{canonical-drawing}
 use Rattle.rebuild.specs.Laws.Same.{in-arrays, listing-same, ram-same}
 use Rattle.rebuild.specs.declared.Retraced.{Retraced}
@@ -47,10 +45,6 @@ take-shown ls h =
     let l : length (take (length ls) t) ≡ length ls = length-take-le (length ls) t (omega (arith, length-table lineLimit (λ i. getD ls i noLine))) in
     ext-getD noLine (take (length ls) t) ls l
     (λ i b. getD-take (length ls) t i noLine (omega arith) ∙ getD-table noLine lineLimit (λ j. getD ls j noLine) i (omega arith))
-
-and-past : (a b c : Bool) → a && (b && c) ≡ a && b && c
-and-past true b c = refl
-and-past false b c = refl
 
 -- the drawing of a plan
 module _ (q : Plan) (v : Valid q) (t : Tables) (named : ℕ → Bool) (w : ℕ → ℕ) where

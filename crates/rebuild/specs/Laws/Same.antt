@@ -21,14 +21,13 @@ use Rattle.plan.specs.Image.{base, pageAt, ramCoveredOf}
 use Rattle.plan.specs.Plan.{Plan, hasPage, kinds}
 use Rattle.plan.specs.Valid.{allowed, isRamKind, mayFlip}
 use Rattle.behind.specs.Behind.{behind, chapterBehind, hasEntries}
-use Rattle.behind.specs.Laws.Alike.{Alike, page-same, ram-alike, same-alike}
+use Rattle.behind.specs.Laws.Alike.{page-same, ram-alike, same-alike}
 use Rattle.behind.specs.Laws.Fewer.{kind-at, page-at}
 use Rattle.behind.specs.Laws.Star.{Same}
 use Rattle.canon.specs.Bin.{canonicalBin, canonicalWords}
 use Rattle.canon.specs.Canonical.{isRom, mappingEntries, pageEntry, pageOffset, pageStart, pageWords, ramEntry, ramWidth, reach, romEntry, startsRam, startsRom}
-use Rattle.canon.specs.Laws.Bin.{binSize}
 use Rattle.canon.specs.Laws.Lines.{canonicalLines, line, pageLine, ramLine, romLine}
-use Rattle.ledger.specs.Code.Lists.{listingOf, shown}
+use Rattle.ledger.specs.Code.Lists.{listingOf}
 use Rattle.ledger.specs.Held.{planIn}
 
 module _ (q r : Plan) (each : (x : ℕ) → Same (q x) (r x)) where
@@ -115,9 +114,6 @@ module _ (q r : Plan) (each : (x : ℕ) → Same (q x) (r x)) where
   pub bin-same : (w : ℕ → ℕ) → canonicalBin q w ≡ canonicalBin r w
   unfolding canonicalBin canonicalWords
   bin-same w = simp (roms-are, pages-are, base-same, place-same)
-
-  pub size-same : binSize q ≡ binSize r
-  size-same = offset-same 256
 
   pub ram-same : (p : ℕ) → ramCoveredOf q p ≡ ramCoveredOf r p
   ram-same = ram-alike q r (λ x h. same-alike (each x) x)

@@ -1,43 +1,26 @@
 -- The plan behind, chapter by chapter: what its rows show makes its chapters, and the mapping and the marks of named paragraphs are all the same to it.
-use Prim.Native.Nat.{_*_, _+_, _<_, _≤_, suc, zero, ℕ}
+use Prim.Native.Nat.{_<_, _≤_, suc, zero, ℕ}
 use mathlib.Core.List.{List, []}
 use mathlib.Core.Path.{_∙_, _≡_, ap, fun-ext, refl, sym}
-use mathlib.Core.Bool.{Bool, cond, false, true}
+use mathlib.Core.Bool.{Bool, false}
 use native.Mathlib.Omega.{arith}
 use lib.Dec.{ltb}
 use lib.ListN.{List·getD-eq-default}
 use borrow.Author.Tests.{ltb-false, ltb-true}
-use Rattle.basics.specs.Laws.Counts.{count-most}
 use Rattle.basics.specs.Laws.Tables.{getD-table, length-table}
 use Rattle.basics.specs.Laws.Tests.{cases}
 use Rattle.basics.specs.Tables.{table}
 use Rattle.places.specs.Limits.{locutusParagraphs}
 use Rattle.tables.specs.Tables.{tables}
-use Rattle.plan.specs.Image.{size}
-use Rattle.plan.specs.Plan.{Chapter, hasPlain}
 use Rattle.behind.specs.Behind.{baseBehind, behind, behindAt, chapterBehind}
-use Rattle.retrace.specs.Code.Shown.{chapterOf, markedIn, planFrom, shownAt}
+use Rattle.retrace.specs.Code.Shown.{chapterOf, markedIn, shownAt}
 
 -- what a row shows makes the chapter
 pub chapter-behind : (ps fs : List ℕ) (ms : List Bool) (x b : ℕ) → chapterOf ps fs (shownAt fs ms x b) x ≡ behindAt (tables [] ps fs) (markedIn ms) x b
 unfolding chapterBehind
 chapter-behind ps fs ms x b = refl
 
--- a chapter has at most 17 pages
-one-most : (b : Bool) → cond b 1 0 ≤ 1
-one-most true = omega arith
-one-most false = omega arith
-
-pub size-few : (c : Chapter) → size c ≤ 17
-unfolding size
-size-few c = omega (arith, one-most (hasPlain c), count-most (c .page) 16)
-
 module _ (ps fs : List ℕ) (named : ℕ → Bool) where
-  pub base-few : (x : ℕ) → baseBehind (tables [] ps fs) named x ≤ 17 * x
-  unfolding baseBehind
-  base-few zero = omega arith
-  base-few (suc x) = omega (arith, base-few x, size-few (behindAt (tables [] ps fs) named x (baseBehind (tables [] ps fs) named x)))
-
   -- whatever the mapping
   base-any : (m : List ℕ) (x : ℕ) → baseBehind (tables m ps fs) named x ≡ baseBehind (tables [] ps fs) named x
   unfolding baseBehind

@@ -3,23 +3,23 @@ use Prim.Native.Nat.{_≤_, ℕ, _<_, _+_, zero, suc, _%_, _/_, _*_}
 use mathlib.Core.List.{List, [], _++_, _∷_}
 use mathlib.Core.Path.{_≡_, _∙_, ap, sym, refl}
 use mathlib.Core.Option.{none, some, Option}
-use mathlib.Core.Bool.{false, Bool, true, cond, _||_, not, _&&_}
+use mathlib.Core.Bool.{false, Bool, true, cond, _||_, _&&_}
 use mathlib.Core.Logic.{_⊎_, inl, inr, ⊎-elim}
 use native.Mathlib.Omega.{arith}
 use lib.ListN.{length, getD}
 use lib.Dec.{leb, ltb, eqb}
-use borrow.Author.Tests.{le-ltb, ne-eqb, eq-eqb, leb-true, leb-false, le-leb, ltb-false, eqb-true, eqb-false}
+use borrow.Author.Tests.{le-ltb, ne-eqb, eq-eqb, leb-true, leb-false, le-leb, eqb-true, eqb-false}
 use Rattle.basics.specs.declared.Refusal.{Refusal}
-use Rattle.basics.specs.Lists.{Each, none as no-more, also as and-also}
-use Rattle.basics.specs.Rows.{Row, Silent, none as silence, also as still}
+use Rattle.basics.specs.Lists.{none as no-more, also as and-also}
+use Rattle.basics.specs.Rows.{Row, Silent, also as still}
 use Rattle.basics.specs.Refusals.{refuse, firstRefusal}
 use Rattle.basics.specs.Options.{isSome}
 use Rattle.basics.specs.Tables.{made}
 use Rattle.basics.specs.Laws.Rows.{silent-left, silent-right}
 use Rattle.basics.specs.Laws.Refusals.{accepted-exactly}
 use Rattle.basics.specs.Laws.Options.{some-is-not-none}
-use Rattle.basics.specs.Laws.Tests.{same-test, true-is-not-false, cases, or-left, or-right, or-false-left, or-false-right, not-true, not-false, and-right, or-cases, and-left, compare}
-use Rattle.basics.specs.Laws.Counts.{any-of, Place, any-at, all-at, all-of}
+use Rattle.basics.specs.Laws.Tests.{same-test, true-is-not-false, cases, or-false-left, or-false-right, not-false, and-right, or-cases, and-left, compare}
+use Rattle.basics.specs.Laws.Counts.{any-of, Place, any-at, all-at}
 use Rattle.places.specs.Limits.{lineLimit, chapters, chapterParagraphs, chapterPages, paragraphSize, chapterSize}
 use Rattle.switches.specs.Flips.{firstK}
 use Rattle.cart.specs.Reads.{silent}
@@ -33,11 +33,11 @@ use Rattle.lines.specs.Bin.{binWords}
 use Rattle.lines.specs.Kinds.{kindBy, kindOf}
 use Rattle.lines.specs.Lines.{first, last, holds, layer, lineAt, isRam}
 use Rattle.lines.specs.Laws.Lines.{Within, within, holding, same-line, Found, found, one-found, all-map, all-at as line-at}
-use Rattle.rules.specs.Chapters.{lineIn, uses, paged, throughout, kindAt, under, bare}
-use Rattle.rules.specs.Rules.{meets, shares, sharesEarlier, breaksPlain, outOfRange, misshapen, notAllowed, rowsOf, lineRows, shareRows, chapterRows}
+use Rattle.rules.specs.Chapters.{lineIn, uses, paged, throughout, under, bare}
+use Rattle.rules.specs.Rules.{meets, shares, sharesEarlier, breaksPlain, notAllowed, lineRows, shareRows, chapterRows}
 use Rattle.rules.specs.Accepted.{Accepted}
 use Rattle.rules.specs.Code.Shapes.{Fine, PlainLine, PageLine, PageShape, PlainShape}
-use Rattle.rules.specs.Code.Clashes.{Numbered, Allowed}
+use Rattle.rules.specs.Code.Clashes.{Allowed}
 use Rattle.rules.specs.Laws.Refusals.{line-rows, exactly}
 use Rattle.rules.specs.Laws.Shapes.{fine-of, Aligned, aligned}
 
@@ -302,14 +302,6 @@ module _ {lines : List Line} (all : All Fine lines) (f : Option Line → Bool) w
       let h : f (lineIn lines 0 (chapterParagraphs * (a / chapterSize) + a / paragraphSize % chapterParagraphs)) ≡ true =
       through-at (a / chapterSize) (λ p. f (lineIn lines 0 p)) e (a / paragraphSize % chapterParagraphs) (omega arith) turns in
       ap f (sym (ap (lineIn lines 0) q ∙ line-in all 0 a)) ∙ h
-
-  pub word-through : (x : ℕ) → ((a : ℕ) → a / chapterSize ≡ x → firstK x ≤ a / paragraphSize % chapterParagraphs → f (lineAt lines 0 a) ≡ true) → throughout x (λ p. f (lineIn lines 0 p)) ≡ true
-  word-through x w =
-      all-of chapterParagraphs (λ k. ltb k (firstK x) || f (lineIn lines 0 (chapterParagraphs * x + k)))
-      (λ k h.
-      let m : paragraphSize * (chapterParagraphs * x + k) / paragraphSize % chapterParagraphs ≡ k = omega arith in
-      cases (ltb k (firstK x)) (λ e. or-left _ _ e)
-      (λ e. or-right (ltb k (firstK x)) _ (w (paragraphSize * (chapterParagraphs * x + k)) (omega arith) (rw m (ltb-false k (firstK x) e)))))
 
 -- the kinds: 1 is a line of ROM, 0 no line
 pub record RomIs (o : Option Line) : Type 0 where

@@ -2,21 +2,19 @@
 -- paragraph that does not lie in the words lent; and what a writing without refusal says.
 use Prim.Native.Nat.{ℕ, _+_, _*_, _≤_, _<_}
 use mathlib.Core.List.{List, _++_, _∷_, []}
-use mathlib.Core.Path.{_≡_, refl, ap, _∙_, sym}
-use mathlib.Core.Bool.{Bool, true, false}
+use mathlib.Core.Path.{_≡_, refl, ap, _∙_}
+use mathlib.Core.Bool.{true, false}
 use mathlib.Core.Logic.{_↔_}
 use native.Mathlib.Omega.{arith}
 use lib.ListN.{length, drop}
 use lib.Dec.{ltb}
 use borrow.Author.Tests.{ltb-true, ltb-false, ne-eqb}
 use Rattle.basics.specs.declared.Refusal.{Refusal}
-use Rattle.basics.specs.Lists.{Each}
 use Rattle.basics.specs.Rows.{Gives, here, later, Silent, also, none, Row}
 use Rattle.basics.specs.Counts.{any, lowest}
 use Rattle.basics.specs.Refusals.{noRefusal, refuse}
 use Rattle.basics.specs.Laws.Tests.{cases, true-is-not-false, and-true}
 use Rattle.basics.specs.Laws.Counts.{any-of}
-use Rattle.basics.specs.Laws.Tables.{length-table}
 use Rattle.basics.specs.Laws.Rows.{silent-first, silent-append, silent-left, silent-right}
 use Rattle.basics.specs.Laws.Refusals.{Refusing, refused-exactly, accepted-exactly, refusing-append}
 use Rattle.basics.specs.Laws.Lowest.{First, lowest-first, lowest-any}
@@ -25,8 +23,7 @@ use Rattle.places.specs.Limits.{imageLimit, lent, locutusParagraphs, paragraphS
 use Rattle.tables.specs.Tables.{flashWords, tablesRows}
 use Rattle.tables.specs.Laws.Refusals.{tables-refusing}
 use Rattle.save.specs.declared.Writing.{Writing}
-use Rattle.save.specs.Writing.{Content, isMarked, paragraphOf, marked, imageBy, pastLent, refusalRows, refusalOf, answerFor, writingOf, writtenOf}
-use Rattle.save.specs.Laws.Chosen.{Lies, chosen-each}
+use Rattle.save.specs.Writing.{Content, isMarked, imageBy, pastLent, refusalRows, refusalOf, answerFor, writingOf, writtenOf}
 
 -- what the writer answers and leaves, for every buffer and content
 pub record Answers (out : List ℕ) (c : Content) : Type 0 where
@@ -64,10 +61,6 @@ module _ (out : List ℕ) (c : Content) where
   every-row =
       refusing-append front rest (tables-refusing (c .flags) (c .tables .flips) (lent (c .ram)) (flashWords (c .flags)))
       ((λ z. omega arith), ((λ z. omega arith), ((λ z. omega arith), tt)))
-
-  same-refusal : writingOf out c .refusal ≡ refusalOf out c
-  unfolding writingOf
-  same-refusal = refl
 
   -- the place of the row of 9
   nine : (r : Refusal) → r .number ≡ 9 → Gives (refusalRows out c) r → First (pastLent c) 0 (r .place)
@@ -118,9 +111,3 @@ module _ (out : List ℕ) (c : Content) where
 
   pub accepted-so : (writingOf out c .refusal .number ≡ 0) ↔ Accepted out c
   accepted-so = ((λ e. silent-accepted (answers .accepted .0 e)), (λ a. ap (λ (w : Writing). w .refusal .number) (a .answer)))
-
-  -- then each hunk of the image lies in the words lent
-  pub accepted-lie : Accepted out c → Each (Lies (lent (c .ram))) (marked (c .ram) (c .marks))
-  accepted-lie a =
-      chosen-each (isMarked (c .marks)) (paragraphOf (c .ram)) locutusParagraphs
-      (λ p l m. record { whole = length-table paragraphSize _; within = a .inside p l m })

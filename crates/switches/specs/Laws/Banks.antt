@@ -9,7 +9,7 @@ use lib.ListN.{length, getD}
 use lib.Dec.{eqb, leb}
 use borrow.Author.Tests.{eqb-true, eqb-false, ne-eqb}
 use Rattle.basics.specs.Lists.{laid}
-use Rattle.basics.specs.Laws.Lists.{length-laid, laid-out, laid-in}
+use Rattle.basics.specs.Laws.Lists.{laid-out, laid-in}
 use Rattle.basics.specs.Laws.Tests.{compare, cases}
 use Rattle.places.specs.Limits.{chapterPages, chapterParagraphs}
 use Rattle.places.specs.declared.Console.{Console}
@@ -30,10 +30,6 @@ pub switched-all : (h v j : ℕ) (t m : List ℕ) → j ≤ halfPageParagraphs �
     → t ≡ laid (halfPageParagraphs * h) j (numberFrom v) m → t ≡ switched h v m
 unfolding switched
 switched-all h v j t m a b q = let d : j ≡ halfPageParagraphs = omega arith in rw d at q
-
-pub length-switched : (h v : ℕ) (m : List ℕ) → length (switched h v m) ≡ length m
-unfolding switched
-length-switched h v m = length-laid (halfPageParagraphs * h) (numberFrom v) m halfPageParagraphs
 
 -- by its rule: entry p, number p % 8 of its half-page, takes its number where the half-page is h, or keeps its own
 module _ (h v : ℕ) (m : List ℕ) (p : ℕ) where

@@ -1,7 +1,7 @@
 -- The first byte of a text that passes a test of it and of the next: what it is, and that it is found place by place.
 use Prim.Native.Nat.{ℕ, zero, suc, _+_, _<_, _≤_}
 use mathlib.Core.List.{List, [], _∷_}
-use mathlib.Core.Path.{_≡_, refl, ap, _∙_, sym}
+use mathlib.Core.Path.{_≡_, ap, _∙_, sym}
 use mathlib.Core.Bool.{Bool, true, false, cond}
 use native.Mathlib.Omega.{arith}
 use native.Mathlib.Numerals.{add-one}
@@ -35,12 +35,6 @@ module _ (f : ℕ → ℕ → Bool) where
   until-before (b ∷ s) (suc i) h =
       cases (f b (getD s 0 0)) (λ e. let l : suc i < 0 = rw e at h in absurd (omega arith))
       (λ e. let l : suc i < suc (until f s) = rw e at h in until-before s i (omega arith))
-
-  pub until-only : (s : List ℕ) (at : ℕ) → at < length s → passesAt f s at ≡ true → ((i : ℕ) → i < at → passesAt f s i ≡ false) → until f s ≡ at
-  unfolding until
-  until-only [] at w p g = absurd (omega arith)
-  until-only (b ∷ s) zero w p g = rw p
-  until-only (b ∷ s) (suc at) w p g = rw (g 0 (omega arith)) (ap suc (until-only s at (omega arith) p (λ i l. g (suc i) (omega arith))))
 
 -- a loop that has come to place i, and x is the place that it looks for; n is the byte behind i
 module _ (f : ℕ → ℕ → Bool) (s : List ℕ) (i x : ℕ) (so : x ≡ i + until f (drop i s)) where
