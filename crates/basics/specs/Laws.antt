@@ -4,6 +4,7 @@ pub mod Lists
 pub mod Bytes
 pub mod Tables
 pub mod Counts
+pub mod Joined
 pub mod Rows
 pub mod Refusals
 pub mod Numbered

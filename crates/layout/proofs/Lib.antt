@@ -1,4 +1,3 @@
-pub mod Joined
 pub mod Claiming
 pub mod Surveying
 pub mod Numbering

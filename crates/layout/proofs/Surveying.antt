@@ -14,7 +14,7 @@ use Rattle.switches.specs.Flips.{firstK}
 use Rattle.lines.specs.declared.Line.{Line}
 use Rattle.lines.specs.Kinds.{kindBy, kindOf}
 use Rattle.layout.specs.Code.Survey.{noLine, kindIn, underIn, Few}
-use Rattle.layout.proofs.Joined.{Everywhere, everywhere-none, everywhere-more, everywhere-all}
+use Rattle.basics.specs.Laws.Joined.{Everywhere, everywhere-none, everywhere-more, everywhere-all}
 
 -- a number's line is one of the lines
 pub few-place : (o : List ℕ) → Few o → (p i : ℕ) → p < paragraphs → i ≡ getD o p 0 - 1 → i < lineLimit

@@ -2,22 +2,22 @@
 use Prim.Native.Nat.{_%_, _*_, _+_, _/_, _-_, _<_, _≤_, max, suc, ℕ}
 use mathlib.Core.List.{List, [], _++_, _∷_, append-assoc, append-nil}
 use mathlib.Core.Path.{_∙_, _≡_, ap, refl, sym}
-use mathlib.Core.Bool.{Bool, _||_, cond, false, not, true}
+use mathlib.Core.Bool.{Bool, _||_, false, not, true}
 use native.Mathlib.Omega.{arith}
 use native.Mathlib.Numerals.{add-one}
-use lib.ListN.{List·getD-eq-default, drop, drop-of-length-le, getD, length-drop, length, length-append, length-set, set, take}
+use lib.ListN.{List·getD-eq-default, drop, getD, length-drop, length, length-append, length-set, set, take}
 use lib.Dec.{eqb}
-use lib.Seq.{drop-append-seam, drop-drop, length-take-le, take-all, take-append-seam, take-suc}
+use lib.Seq.{length-take-le, take-all, take-suc}
 use borrow.Author.Tests.{eq-eqb, eqb-false, eqb-true, ne-eqb}
 use borrow.Rule.Slice.PartMut.{putMid}
 use Rattle.basics.specs.Laws.Each.{joined-append, joined-more}
-use Rattle.basics.specs.Laws.Puts.{put-room, put-short, put-wrote}
+use Rattle.basics.specs.Laws.Puts.{put-behind, put-room, put-short, put-wrote}
 use Rattle.basics.specs.Laws.Tables.{getD-table, length-table}
 use Rattle.basics.specs.Laws.Tests.{cases, not-false, not-true}
 use Rattle.basics.specs.Laws.Wrote.{Wrote, wrote-all, wrote-long, wrote-none, wrote-part, wrote-set}
 use Rattle.basics.specs.Lists.{flat, joined, putFront}
 use Rattle.places.specs.Limits.{chapterPages, flipEntries, paragraphSize, paragraphs}
-use Rattle.plan.specs.Plan.{Plan, hasPage}
+use Rattle.plan.specs.Plan.{hasPage}
 use Rattle.canon.specs.Bin.{be16, canonicalBin, canonicalWords, orZero, pagePlace, pagedWords, plainPlace, romWords, wordsFrom}
 use Rattle.canon.specs.Canonical.{isRom, pageWords}
 use Rattle.canon.specs.Laws.Bin.{all-long, binSize, length-bin, length-bytes, rising}
@@ -218,24 +218,6 @@ module _ (ks : List ℕ) (ps : List Bool) (ram : List ℕ) where
 
     pub page-long : length out ≡ length out₀
     page-long = c .long
-
--- what is put at the front of what lies behind what was put
-put-behind : (x y out₀ out ys : List ℕ) (a k : ℕ) → length x + length y ≤ length out₀ → a ≡ length x → k ≡ length out - a → out ≡ putFront x out₀
-    → ys ≡ putFront y (take k (drop a out)) → putMid a k out ys ≡ putFront (x ++ y) out₀
-put-behind x y out₀ out ys a k fits ea ek eo ey =
-    let is : out ≡ x ++ drop (length x) out₀ = eo ∙ put-room x out₀ (omega arith) in
-    let r : List ℕ = drop (length x) out₀ in
-    let lr : length r ≡ length out₀ - length x = length-drop (length x) out₀ in
-    let lo : length out ≡ length x + length r = ap length is ∙ length-append x r in
-    let t : take a out ≡ x = rw ea (ap (take (length x)) is ∙ take-append-seam x r) in
-    let d : drop a out ≡ r = rw ea (ap (drop (length x)) is ∙ drop-append-seam x r) in
-    let n : drop k r ≡ [] = drop-of-length-le r {i = k} (omega arith) in
-    let g : take k r ≡ r = take-all k r (omega arith) in
-    let y₁ : ys ≡ y ++ drop (length y) r = ey ∙ rw (d, g) (put-room y r (omega arith)) in
-    rw (t, d, n, y₁)
-    (ap (_++_ x) (append-nil (y ++ drop (length y) r)) ∙ sym (append-assoc x y (drop (length y) r))
-    ∙ ap (_++_ (x ++ y)) (drop-drop (length y) (length x) out₀ ∙ ap (λ (j : ℕ). drop j out₀) (sym (length-append x y)))
-    ∙ sym (put-room (x ++ y) out₀ (omega (arith, length-append x y))))
 
 -- nothing
 put-none : (out : List ℕ) → putFront [] out ≡ out

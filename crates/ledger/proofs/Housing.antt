@@ -1,40 +1,30 @@
 -- The Locutus pages of a plan's chapters, counted.
-use Prim.Native.Nat.{_%_, _*_, _+_, _/_, _<_, _≤_, suc, ℕ}
+use Prim.Native.Nat.{_%_, _*_, _+_, _/_, _<_, _≤_, ℕ}
 use mathlib.Core.List.{List}
 use mathlib.Core.Path.{_∙_, _≡_, ap, refl, sym}
-use mathlib.Core.Bool.{Bool, _&&_, _||_, cond, false, not}
+use mathlib.Core.Bool.{Bool, _&&_, cond, false, not}
 use native.Mathlib.Omega.{arith}
 use native.Mathlib.Numerals.{add-one}
 use lib.Dec.{eqb}
 use lib.ListN.{getD}
-use Rattle.basics.specs.Counts.{any, count}
-use Rattle.basics.specs.Laws.Counts.{any-more, any-none, count-last}
+use Rattle.basics.specs.Counts.{count}
+use Rattle.basics.specs.Laws.Counts.{count-last}
+use Rattle.basics.specs.Laws.Joined.{Somewhere, somewhere-all}
 use Rattle.places.specs.Limits.{chapterPages, chapterParagraphs, chapters, pageParagraphs, paragraphSize}
 use Rattle.switches.specs.Flips.{firstK}
 use Rattle.plan.specs.Image.{base, holdsRam, pageAt, ramCoveredOf, size}
-use Rattle.plan.specs.Plan.{Plan, hasPlain}
+use Rattle.plan.specs.Plan.{hasPlain}
 use Rattle.plan.specs.Valid.{isRamKind}
 use Rattle.canon.specs.Bin.{pagePlace, plainPlace}
 use Rattle.ledger.specs.Held.{planIn}
 
 -- plain paragraphs among the first k
-pub record Plains (ks : List ℕ) (x : ℕ) (r : Bool) (k : ℕ) : Type 0 where
-  pub up : k ≤ chapterParagraphs
-  pub is : r ≡ any k (λ i. not (eqb (getD ks (chapterParagraphs * x + i) 0) 0))
+abbrev pub plain : List ℕ → ℕ → ℕ → Bool
+plain ks x i = not (eqb (getD ks (chapterParagraphs * x + i) 0) 0)
 
-module _ (ks : List ℕ) (ps : List Bool) (x : ℕ) where
-  abbrev plain : ℕ → Bool
-  plain i = not (eqb (getD ks (chapterParagraphs * x + i) 0) 0)
-
-  pub plains-none : Plains ks x false 0
-  plains-none = record { up = omega arith; is = any-none plain }
-
-  pub plains-more : (r : Bool) (k : ℕ) (v : Bool) → Plains ks x r k → k < chapterParagraphs → v ≡ (plain k || r) → Plains ks x v (k + 1)
-  plains-more r k v c h e = record { up = omega arith; is = any-more plain k (plain k) r v (c .is) refl e }
-
-  pub plains-all : (r : Bool) (k : ℕ) → Plains ks x r k → chapterParagraphs ≤ k → r ≡ hasPlain (planIn ks ps x)
-  unfolding hasPlain
-  plains-all r k c h = let z : k ≡ chapterParagraphs = omega (arith, c .up) in c .is ∙ ap (λ (m : ℕ). any m plain) z
+pub plains-all : (ks : List ℕ) (ps : List Bool) (x : ℕ) (r : Bool) (k : ℕ) → Somewhere chapterParagraphs (plain ks x) k r → chapterParagraphs ≤ k → r ≡ hasPlain (planIn ks ps x)
+unfolding hasPlain
+plains-all ks ps x r k c h = somewhere-all chapterParagraphs (plain ks x) k r c h
 
 -- pages among the first i
 pub record Below (ks : List ℕ) (ps : List Bool) (x y n i : ℕ) : Type 0 where
@@ -107,22 +97,12 @@ module _ (ks : List ℕ) (ps : List Bool) (p : ℕ) where
 
 -- RAM of a chapter, and of one of the first k
 module _ (ks : List ℕ) (ps : List Bool) (p : ℕ) where
-  abbrev ramIn : ℕ → Bool
+  abbrev pub ramIn : ℕ → Bool
   ramIn x = holdsRam (planIn ks ps x) (base (planIn ks ps) x) p
 
   pub ram-in : (x b : ℕ) (k r : Bool) → b ≡ base (planIn ks ps) x → k ≡ isRamKind (getD ks (16 * x + p % 16) 0) → r ≡ (eqb (p / 16) b && k) → r ≡ ramIn x
   unfolding holdsRam
   ram-in x b k r eb ek er = er ∙ rw (eb, ek)
 
-  pub record Rams (r : Bool) (x : ℕ) : Type 0 where
-    pub up : x ≤ chapters
-    pub is : r ≡ any x ramIn
-
-  pub rams-none : Rams false 0
-  rams-none = record { up = omega arith; is = any-none ramIn }
-
-  pub rams-more : (r : Bool) (x : ℕ) (b v : Bool) → Rams r x → x < chapters → b ≡ ramIn x → v ≡ (b || r) → Rams v (x + 1)
-  rams-more r x b v c h eb ev = record { up = omega arith; is = any-more ramIn x b r v (c .is) eb ev }
-
-  pub rams-all : (r : Bool) (x : ℕ) → Rams r x → chapters ≤ x → r ≡ ramCoveredOf (planIn ks ps) p
-  rams-all r x c h = let z : x ≡ chapters = omega (arith, c .up) in c .is ∙ ap (λ (m : ℕ). any m ramIn) z
+  pub rams-all : (r : Bool) (x : ℕ) → Somewhere chapters ramIn x r → chapters ≤ x → r ≡ ramCoveredOf (planIn ks ps) p
+  rams-all r x c h = somewhere-all chapters ramIn x r c h

@@ -9,28 +9,14 @@ use lib.Dec.{eqb, leb}
 use lib.ListN.{List·getD-eq-default, getD, length}
 use Rattle.basics.specs.Counts.{any, count}
 use Rattle.basics.specs.Laws.Counts.{any-more, any-none, count-last}
-use Rattle.places.specs.Limits.{chapterPages, chapterParagraphs}
+use Rattle.places.specs.Limits.{chapterPages}
 use Rattle.switches.specs.Flips.{firstK}
 use Rattle.plan.specs.Image.{size}
 use Rattle.plan.specs.Plan.{Chapter, hasPlain}
 use Rattle.plan.specs.Valid.{allowed, mayFlip}
 use Rattle.behind.specs.Behind.{absent, hasEntries, hidden, kindShown}
-use Rattle.retrace.specs.Code.Shown.{chapterOf, markedIn, rowIn, shownAt}
+use Rattle.retrace.specs.Code.Shown.{chapterOf, rowIn, shownAt}
 use Rattle.retrace.specs.declared.row.Shown.{Shown}
-
--- some of the first k of sixteen places passes
-pub record Some (f : ℕ → Bool) (r : Bool) (k : ℕ) : Type 0 where
-  pub up : k ≤ 16
-  pub is : r ≡ any k f
-
-pub some-none : (f : ℕ → Bool) → Some f false 0
-some-none f = record { up = omega arith; is = any-none f }
-
-pub some-more : (f : ℕ → Bool) (r : Bool) (k : ℕ) (v : Bool) → Some f r k → k < 16 → v ≡ (f k || r) → Some f v (k + 1)
-some-more f r k v c h e = record { up = omega arith; is = any-more f k (f k) r v (c .is) refl e }
-
-pub some-all : (f : ℕ → Bool) (r : Bool) (k : ℕ) → Some f r k → 16 ≤ k → r ≡ any 16 f
-some-all f r k c h = let z : k ≡ 16 = omega (arith, c .up) in c .is ∙ ap (λ (m : ℕ). any m f) z
 
 -- past the last place
 pub past-marks : (ms : List Bool) (p : ℕ) → length ms ≤ p → false ≡ getD ms p false

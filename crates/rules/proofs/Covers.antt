@@ -1,8 +1,8 @@
 -- Rule 28: the kinds of the paragraphs, line by line; a chapter's paragraphs, one by one; and the search for the lowest chapter.
-use Prim.Native.Nat.{ℕ, zero, suc, _≤_, _<_, _+_, _-_, _*_}
-use mathlib.Core.List.{List, []}
+use Prim.Native.Nat.{ℕ, suc, _≤_, _<_, _+_, _-_, _*_}
+use mathlib.Core.List.{List}
 use mathlib.Core.Bool.{Bool, true, false, cond, _&&_, _||_}
-use mathlib.Core.Path.{_≡_, refl, sym, _∙_, ap}
+use mathlib.Core.Path.{_≡_, refl, sym, _∙_}
 use native.Mathlib.Omega.{arith}
 use lib.Dec.{eqb, ltb}
 use lib.ListN.{take, length, getD, replicate}
@@ -20,7 +20,7 @@ use Rattle.owners.specs.Laws.Owners.{nobody, claimed-more}
 use Rattle.rules.specs.Chapters.{kindAt}
 use Rattle.rules.specs.Code.Chapters.{allIn}
 use Rattle.rules.specs.Laws.Chapters.{kind-first}
-use Rattle.rules.proofs.Joined.{Everywhere, everywhere-none, everywhere-more, everywhere-all}
+use Rattle.basics.specs.Laws.Joined.{Everywhere, everywhere-none, everywhere-more, everywhere-all}
 use Rattle.rules.proofs.Lists.{noLine, passed-line}
 
 -- the kinds that the first k lines give

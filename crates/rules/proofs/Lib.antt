@@ -1,6 +1,5 @@
 pub mod Tests
 pub mod Lists
-pub mod Joined
 pub mod Checked
 pub mod Clashes
 pub mod Covers

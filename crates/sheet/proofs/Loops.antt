@@ -1,14 +1,14 @@
 -- The lines of a section, one after the other; and the two sections.
 use Prim.Native.Nat.{_+_, _*_, _-_, _<_, _≤_, min, suc, ℕ}
-use mathlib.Core.List.{List, [], _++_, _∷_, append-assoc, append-nil}
+use mathlib.Core.List.{List, [], _++_, _∷_}
 use mathlib.Core.Path.{_∙_, _≡_, ap, refl, sym}
 use native.Mathlib.Omega.{arith}
 use native.Mathlib.Numerals.{add-one}
-use lib.ListN.{drop, drop-of-length-le, getD, length, length-append, length-drop, replicate, set, take}
-use lib.Seq.{drop-append-seam, drop-drop, getD-drop, getD-take, length-take-le, take-all, take-append-seam, take-suc}
+use lib.ListN.{drop, getD, length, length-append, length-drop, replicate, set, take}
+use lib.Seq.{getD-drop, getD-take, length-take-le, take-suc}
 use borrow.Rule.Slice.PartMut.{putMid}
 use Rattle.basics.specs.Laws.Each.{joined-more}
-use Rattle.basics.specs.Laws.Puts.{Copying, copy-all, copy-more, copy-none, put-all, put-room, put-wrote}
+use Rattle.basics.specs.Laws.Puts.{Copying, copy-all, copy-more, copy-none, put-all, put-behind, put-wrote}
 use Rattle.basics.specs.Laws.Wrote.{Wrote, wrote-none, wrote-part, wrote-long}
 use Rattle.basics.specs.Lists.{joined, putFront}
 use Rattle.places.specs.Limits.{lineLimit}
@@ -116,24 +116,6 @@ module _ (ls : List Line) (from n : ℕ) (out₀ out : List ℕ) (at i : ℕ) (c
 
     pub lining-put : out ≡ putFront (upTo ls from n) out₀
     lining-put = put-wrote out₀ out (upTo ls from i) (c .wrote) ∙ ap (λ (k : ℕ). putFront (upTo ls from k) out₀) all-up
-
--- what is put at the front of what lies behind what was put
-pub put-behind : (x y out₀ out ys : List ℕ) (a k : ℕ) → length x + length y ≤ length out₀ → a ≡ length x → k ≡ length out - a → out ≡ putFront x out₀
-    → ys ≡ putFront y (take k (drop a out)) → putMid a k out ys ≡ putFront (x ++ y) out₀
-put-behind x y out₀ out ys a k fits ea ek eo ey =
-    let is : out ≡ x ++ drop (length x) out₀ = eo ∙ put-room x out₀ (omega arith) in
-    let r : List ℕ = drop (length x) out₀ in
-    let lr : length r ≡ length out₀ - length x = length-drop (length x) out₀ in
-    let lo : length out ≡ length x + length r = ap length is ∙ length-append x r in
-    let t : take a out ≡ x = rw ea (ap (take (length x)) is ∙ take-append-seam x r) in
-    let d : drop a out ≡ r = rw ea (ap (drop (length x)) is ∙ drop-append-seam x r) in
-    let n : drop k r ≡ [] = drop-of-length-le r {i = k} (omega arith) in
-    let g : take k r ≡ r = take-all k r (omega arith) in
-    let y₁ : ys ≡ y ++ drop (length y) r = ey ∙ rw (d, g) (put-room y r (omega arith)) in
-    rw (t, d, n, y₁)
-    (ap (_++_ x) (append-nil (y ++ drop (length y) r)) ∙ sym (append-assoc x y (drop (length y) r))
-    ∙ ap (_++_ (x ++ y)) (drop-drop (length y) (length x) out₀ ∙ ap (λ (j : ℕ). drop j out₀) (sym (length-append x y)))
-    ∙ sym (put-room (x ++ y) out₀ (omega (arith, length-append x y))))
 
 -- a section
 module _ (name : List ℕ) (ls : List Line) (from n : ℕ) where

@@ -1,11 +1,11 @@
 -- What is put at the front of a buffer, and of a part of it; and bytes and words that a loop puts there one after the other.
-use Prim.Native.Nat.{ℕ, _≤_, _*_, _<_, _+_, _%_, _/_}
+use Prim.Native.Nat.{ℕ, _≤_, _*_, _<_, _+_, _-_, _%_, _/_}
 use mathlib.Core.List.{List, _++_, _∷_, [], append-assoc, append-nil}
 use mathlib.Core.Path.{_≡_, ap, _∙_, sym, refl}
 use native.Mathlib.Omega.{arith}
 use native.Mathlib.Numerals.{add-one}
 use lib.ListN.{length, take, getD, set, drop, length-set, length-append, drop-of-length-le, length-drop}
-use lib.Seq.{take-all, length-take-le, take-suc}
+use lib.Seq.{drop-append-seam, drop-drop, take-all, take-append-seam, length-take-le, take-suc}
 use borrow.Rule.Slice.PartMut.{putMid}
 use borrow.Author.Tests.{lt-ltb, le-ltb}
 use Rattle.basics.specs.Lists.{putFront}
@@ -37,6 +37,24 @@ wrote-put out₀ out x a k ys y c ea ek h ey =
     let l : length (take k (drop a out)) ≡ k =
     length-take-le k (drop a out) (omega (arith, length-drop a out, wrote-long out₀ out x c)) in
     wrote-part out₀ out x a k ys y c ea ek h (ey ∙ put-all y (take k (drop a out)) (l ∙ ek))
+
+-- what is put at the front of what lies behind what was put
+pub put-behind : (x y out₀ out ys : List ℕ) (a k : ℕ) → length x + length y ≤ length out₀ → a ≡ length x → k ≡ length out - a → out ≡ putFront x out₀
+    → ys ≡ putFront y (take k (drop a out)) → putMid a k out ys ≡ putFront (x ++ y) out₀
+put-behind x y out₀ out ys a k fits ea ek eo ey =
+    let is : out ≡ x ++ drop (length x) out₀ = eo ∙ put-room x out₀ (omega arith) in
+    let r : List ℕ = drop (length x) out₀ in
+    let lr : length r ≡ length out₀ - length x = length-drop (length x) out₀ in
+    let lo : length out ≡ length x + length r = ap length is ∙ length-append x r in
+    let t : take a out ≡ x = rw ea (ap (take (length x)) is ∙ take-append-seam x r) in
+    let d : drop a out ≡ r = rw ea (ap (drop (length x)) is ∙ drop-append-seam x r) in
+    let n : drop k r ≡ [] = drop-of-length-le r {i = k} (omega arith) in
+    let g : take k r ≡ r = take-all k r (omega arith) in
+    let y₁ : ys ≡ y ++ drop (length y) r = ey ∙ rw (d, g) (put-room y r (omega arith)) in
+    rw (t, d, n, y₁)
+    (ap (_++_ x) (append-nil (y ++ drop (length y) r)) ∙ sym (append-assoc x y (drop (length y) r))
+    ∙ ap (_++_ (x ++ y)) (drop-drop (length y) (length x) out₀ ∙ ap (λ (j : ℕ). drop j out₀) (sym (length-append x y)))
+    ∙ sym (put-room (x ++ y) out₀ (omega (arith, length-append x y))))
 
 -- the first i of the words are put, k bytes each, by f
 pub record Putting (k : ℕ) (f : List ℕ → List ℕ) (ws out₀ out : List ℕ) (i : ℕ) : Type 0 where

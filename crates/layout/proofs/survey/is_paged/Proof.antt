@@ -5,7 +5,7 @@ use native.Mathlib.Numerals.{add-one}
 use lib.ListN.{getD}
 use borrow.Author.Needs.{needs}
 use Rattle.places.specs.Limits.{chapterPages, layers}
-use Rattle.layout.proofs.Joined.{Somewhere, somewhere-none, somewhere-more, somewhere-all}
+use Rattle.basics.specs.Laws.Joined.{Somewhere, somewhere-none, somewhere-more, somewhere-all}
 use Rattle.layout.specs.Code.Survey.{pagedIn}
 use Rattle.layout.proofs.survey.is_paged.Statement.{statement}
 use Rattle.layout.proofs.survey.is_paged.Tie as tie

@@ -5,7 +5,7 @@ use lib.Dec.{eqb}
 use lib.ListN.{getD}
 use borrow.Author.Needs.{needs}
 use Rattle.places.specs.Limits.{chapterParagraphs, paragraphs}
-use Rattle.layout.proofs.Joined.{Somewhere, somewhere-none, somewhere-more, somewhere-all}
+use Rattle.basics.specs.Laws.Joined.{Somewhere, somewhere-none, somewhere-more, somewhere-all}
 use Rattle.layout.specs.Code.Survey.{usedIn}
 use Rattle.layout.proofs.survey.is_used.Statement.{statement}
 use Rattle.layout.proofs.survey.is_used.Tie as tie

@@ -2,21 +2,22 @@
 use borrow.Author.Needs.{needs}
 use Prim.Native.Nat.{_-_}
 use Rattle.places.specs.Limits.{chapters}
-use Rattle.ledger.proofs.Housing.{Rams, rams-none, rams-more, rams-all}
+use Rattle.basics.specs.Laws.Joined.{Somewhere, somewhere-none, somewhere-by}
+use Rattle.ledger.proofs.Housing.{ramIn, rams-all}
 use Rattle.ledger.proofs.homes.holds_ram.Statement.{statement}
 use Rattle.ledger.proofs.homes.holds_ram.Tie as tie
 
 abbrev Inv-loop : tie.InvT-loop
-Inv-loop kinds pages p r₀ x₀ r x = Rams kinds pages p r x
+Inv-loop kinds pages p r₀ x₀ r x = Somewhere chapters (ramIn kinds pages p) x r
 
 abbrev μ-loop : tie.MeasureT-loop
 μ-loop kinds pages p r₀ x₀ r x = chapters - x
 
 loop-holds : tie.Need-loop-holds Inv-loop μ-loop
-loop-holds c = search (needs, rams-none)
+loop-holds c = search (needs, somewhere-none)
 
 loop-again : tie.Need-loop-again Inv-loop μ-loop
-loop-again c = rams-more _ _ _ _ _ _ _ (c .before .before .before .loop .inv) (c .before .before .loop-test .taken) (c .before .in-ram .ensures) (c .either .ensures)
+loop-again c = somewhere-by _ _ _ _ _ _ (c .before .before .before .loop .inv) (c .before .before .loop-test .taken) (c .before .in-ram .ensures) (c .either .ensures)
 
 returns : tie.Need-returns Inv-loop μ-loop
 returns c = search (needs, rams-all)

@@ -5,24 +5,24 @@ use mathlib.Core.Bool.{not}
 use lib.Dec.{eqb}
 use Rattle.places.specs.Limits.{chapterPages}
 use Rattle.retrace.specs.Code.Shown.{rowIn}
-use Rattle.retrace.proofs.Rows.{Some, some-none, some-more, some-all}
+use Rattle.basics.specs.Laws.Joined.{Somewhere, somewhere-none, somewhere-more, somewhere-all}
 use Rattle.retrace.proofs.row.has_some.Statement.{statement}
 use Rattle.retrace.proofs.row.has_some.Tie as tie
 
 abbrev Inv-loop : tie.InvT-loop
-Inv-loop flips x r₀ y₀ r y = Some (λ i. not (eqb (rowIn flips x i) 0)) r y
+Inv-loop flips x r₀ y₀ r y = Somewhere chapterPages (λ i. not (eqb (rowIn flips x i) 0)) y r
 
 abbrev μ-loop : tie.MeasureT-loop
 μ-loop flips x r₀ y₀ r y = chapterPages - y
 
 loop-holds : tie.Need-loop-holds Inv-loop μ-loop
-loop-holds c = search (needs, some-none)
+loop-holds c = search (needs, somewhere-none)
 
 loop-again : tie.Need-loop-again Inv-loop μ-loop
-loop-again c = search (needs, some-more)
+loop-again c = search (needs, somewhere-more)
 
 returns : tie.Need-returns Inv-loop μ-loop
-returns c = search (needs, some-all)
+returns c = search (needs, somewhere-all)
 
 pub has-some-spec : {M : Type 1} → statement M
 has-some-spec =

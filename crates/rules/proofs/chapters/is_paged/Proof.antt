@@ -6,7 +6,7 @@ use lib.ListN.{getD}
 use borrow.Author.Needs.{needs}
 use Rattle.places.specs.Limits.{chapterPages}
 use Rattle.rules.specs.Code.Chapters.{pagedIn}
-use Rattle.rules.proofs.Joined.{Somewhere, somewhere-none, somewhere-more, somewhere-all}
+use Rattle.basics.specs.Laws.Joined.{Somewhere, somewhere-none, somewhere-more, somewhere-all}
 use Rattle.rules.proofs.chapters.is_paged.Statement.{statement}
 use Rattle.rules.proofs.chapters.is_paged.Tie as tie
 
