@@ -1,4 +1,4 @@
--- A line by its kind: there is one where the kind is not 0.
+-- A line by its kind: no entry has the kind 0, and there is a line where the kind is not 0.
 use mathlib.Core.Path.{_≡_, refl}
 use mathlib.Core.Bool.{not, false}
 use mathlib.Core.Option.{Option, none, some}
@@ -10,7 +10,7 @@ use Rattle.lines.specs.declared.Line.{Line}
 use Rattle.lines.specs.declared.Width.the-variants.{Sixteen, Eight}
 use Rattle.lines.specs.Kinds.{kindBy, kindOf}
 
-kind-some : (e : Entry) → eqb (kindBy e) 0 ≡ false
+pub kind-some : (e : Entry) → eqb (kindBy e) 0 ≡ false
 kind-some (Rom lo hi at) = refl
 kind-some (Paged lo hi at y) = refl
 kind-some (Ram lo hi Sixteen) = refl

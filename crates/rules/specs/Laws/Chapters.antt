@@ -1,17 +1,17 @@
 -- Rule 28 by arrays: in lines that passed 25 and 26 the owners of a chapter's pages tell whether it has PAGE lines.
-use Prim.Native.Nat.{ℕ, _≤_, _<_, _*_, _+_, _/_, _%_, suc}
+use Prim.Native.Nat.{ℕ, _<_, _*_, _+_, _/_, _%_, suc}
 use mathlib.Core.List.{List, [], _∷_}
 use mathlib.Core.Path.{_≡_, refl, sym, ap, _∙_}
 use mathlib.Core.Bool.{Bool, true, false, cond, not, _&&_, _||_}
 use mathlib.Core.Option.{some}
 use native.Mathlib.Omega.{arith}
-use lib.Dec.{eqb, ltb, leb}
+use lib.Dec.{eqb, ltb}
 use lib.ListN.{getD}
-use borrow.Author.Tests.{eqb-true, eqb-false, eq-eqb, ne-eqb}
+use borrow.Author.Tests.{eqb-true, eq-eqb, ne-eqb}
 use Rattle.basics.specs.Lists.{Each, none, also}
 use Rattle.basics.specs.Options.{isSome}
 use Rattle.basics.specs.Tables.{table}
-use Rattle.basics.specs.Laws.Tests.{cases, same-test, and-left, and-right, and-true}
+use Rattle.basics.specs.Laws.Tests.{same-test, and-left, and-right, and-true}
 use Rattle.basics.specs.Laws.Counts.{any-same, all-same}
 use Rattle.basics.specs.Laws.Tables.{getD-table}
 use Rattle.places.specs.Limits.{paragraphs, paragraphSize, flipEntries, chapters, chapterParagraphs, chapterPages, chapterSize}
@@ -21,6 +21,7 @@ use Rattle.lines.specs.declared.Entry.{Entry}
 use Rattle.lines.specs.declared.Line.{Line}
 use Rattle.lines.specs.Kinds.{kindBy, kindOf}
 use Rattle.lines.specs.Lines.{layer, first, last, holds}
+use Rattle.lines.specs.Laws.Kinds.{kind-some}
 use Rattle.lines.specs.Laws.Lines.{Within, within, holding}
 use Rattle.lines.specs.Typed.{All, nil, cons}
 use Rattle.owners.specs.Owners.{claimsPage, claimsParagraph, only, orElse, firstHas, pageOwner}
@@ -29,7 +30,7 @@ use Rattle.rules.specs.Rules.{breaksPlain}
 use Rattle.rules.specs.Code.Shapes.{Fine, PageShape}
 use Rattle.rules.specs.Code.Clashes.{Numbered, Allowed}
 use Rattle.rules.specs.Code.Chapters.{pagedIn, allIn, breaksIn}
-use Rattle.rules.specs.Laws.Rules.{page-line, chapter-of, page-held, uses-page, some-kind}
+use Rattle.rules.specs.Laws.Rules.{page-line, chapter-of, uses-page}
 
 -- the kind of a paragraph is that of the first line that claims it
 kind-by : (b : Bool) (k n : ℕ) → eqb k 0 ≡ false → orElse (only b k) n ≡ cond b k n
@@ -43,7 +44,7 @@ kind-cond false l ls p = refl
 pub kind-first : (lines : List Line) (p : ℕ) → firstHas (λ l. kindBy (l .entry)) (claimsParagraph p) lines ≡ kindAt lines p
 kind-first [] p = refl
 kind-first (l ∷ ls) p =
-    kind-by (claimsParagraph p (l .entry)) (kindBy (l .entry)) (firstHas (λ m. kindBy (m .entry)) (claimsParagraph p) ls) (some-kind (l .entry))
+    kind-by (claimsParagraph p (l .entry)) (kindBy (l .entry)) (firstHas (λ m. kindBy (m .entry)) (claimsParagraph p) ls) (kind-some (l .entry))
     ∙ ap (cond (claimsParagraph p (l .entry)) (kindBy (l .entry))) (kind-first ls p)
     ∙ sym (kind-cond (claimsParagraph p (l .entry)) l ls p)
 

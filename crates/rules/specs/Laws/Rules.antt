@@ -32,6 +32,7 @@ use Rattle.lines.specs.Typed.{All, nil, cons}
 use Rattle.lines.specs.Bin.{binWords}
 use Rattle.lines.specs.Kinds.{kindBy, kindOf}
 use Rattle.lines.specs.Lines.{first, last, holds, layer, lineAt, isRam}
+use Rattle.lines.specs.Laws.Kinds.{kind-some}
 use Rattle.lines.specs.Laws.Lines.{Within, within, holding, same-line, Found, found, one-found, all-map, all-at as line-at}
 use Rattle.rules.specs.Chapters.{lineIn, uses, paged, throughout, under, bare}
 use Rattle.rules.specs.Rules.{meets, shares, sharesEarlier, breaksPlain, notAllowed, lineRows, shareRows, chapterRows}
@@ -315,19 +316,13 @@ rom-kind (Paged lo hi at y) h = refl
 rom-kind (Ram lo hi Sixteen) h = true-is-not-false h refl
 rom-kind (Ram lo hi Eight) h = true-is-not-false h refl
 
-pub some-kind : (e : Entry) → eqb (kindBy e) 0 ≡ false
-some-kind (Rom lo hi at) = refl
-some-kind (Paged lo hi at y) = refl
-some-kind (Ram lo hi Sixteen) = refl
-some-kind (Ram lo hi Eight) = refl
-
 rom-is : (o : Option Line) → eqb (kindOf o) 1 ≡ true → RomIs o
 rom-is none e = true-is-not-false e refl
 rom-is (some l) e = record { line = l; found = refl; rom = rom-kind (l .entry) e }
 
 no-line : (o : Option Line) → eqb (kindOf o) 0 ≡ true → o ≡ none
 no-line none e = refl
-no-line (some l) e = true-is-not-false e (some-kind (l .entry))
+no-line (some l) e = true-is-not-false e (kind-some (l .entry))
 
 module _ {lines : List Line} (g : Good lines) where
   -- in a chapter with PAGE lines
