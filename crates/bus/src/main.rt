@@ -110,12 +110,6 @@ fn refused(r: Refusal) {
     files::line(b"at=", r.place as u64);
 }
 
-// The upper-case hex digit of a number's lowest four bits.
-fn glyph(n: u32) -> u8 {
-    let d = (n % 16) as u8;
-    if d < 10 { b'0' + d } else { b'A' - 10 + d }
-}
-
 fn show_answer(n: u32) {
     if n == cart::SILENCE {
         files::say(b"word=silence\n");
@@ -127,10 +121,10 @@ fn show_answer(n: u32) {
         b'r',
         b'd',
         b'=',
-        glyph(n / 0x1000),
-        glyph(n / 0x100),
-        glyph(n / 0x10),
-        glyph(n),
+        text::upper_digit(n / 0x1000),
+        text::upper_digit(n / 0x100),
+        text::upper_digit(n / 0x10),
+        text::upper_digit(n),
         b'\n',
     ];
     files::say(&line);

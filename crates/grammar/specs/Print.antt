@@ -1,17 +1,13 @@
 -- An entry as a CFG line has it when one is written (02, W-213): 01's form, upper case, five digits for offsets, four for addresses.
-use Prim.Native.Nat.{_%_, _+_, _-_, _/_, ℕ}
+use Prim.Native.Nat.{_%_, _/_, ℕ}
 use Prim.Native.Char.{code}
 use mathlib.Core.List.{List, [], _++_, _∷_}
-use mathlib.Core.Bool.{cond}
-use lib.Dec.{ltb}
 use Rattle.text.specs.Bytes.{text}
+use Rattle.text.specs.Spelling.{upperDigit}
 use Rattle.lines.specs.declared.Entry.{Entry}
 use Rattle.lines.specs.declared.Entry.the-variants.{Paged, Ram, Rom}
 use Rattle.lines.specs.declared.Width.{Width}
 use Rattle.lines.specs.declared.Width.the-variants.{Eight, Sixteen}
-
-unfoldable pub upperDigit : ℕ → ℕ
-upperDigit d = cond (ltb d 10) (code "0" + d) (code "A" + (d - 10))
 
 -- `$` and four digits, `$` and five
 abbrev pub fourDigits : ℕ → List ℕ

@@ -63,12 +63,6 @@ fn refused(r: Refusal) {
     files::line(b"at=", r.place as u64);
 }
 
-// The upper-case hex digit of a number's lowest four bits.
-fn glyph(n: usize) -> u8 {
-    let d = (n % 16) as u8;
-    if d < 10 { b'0' + d } else { b'A' - 10 + d }
-}
-
 fn sign_of(s: Shown) -> u8 {
     match s {
         Shown::Silent => b'.',
@@ -86,7 +80,7 @@ fn show_chapter(c: Cartridge, x: usize)
 {
     let mut line = [b' '; CHAPTER_LINE];
     line[0] = b'$';
-    line[1] = glyph(x);
+    line[1] = text::upper_digit(x as u32);
     line[CHAPTER_LINE - 1] = b'\n';
     for k in 0..CHAPTER_PARAGRAPHS {
         line[SIGNS_AT + 2 * k] = sign_of(chart::shown_at(c, (CHAPTER_PARAGRAPHS * x + k) as u8));
@@ -109,7 +103,10 @@ fn pair_of(l: Leaf) -> Pair {
     match l {
         Leaf::Idle => Pair(b'-', b'-'),
         Leaf::Silent => Pair(b'.', b'.'),
-        Leaf::Page(n) => Pair(glyph(n as usize / 16), glyph(n as usize)),
+        Leaf::Page(n) => Pair(
+            text::upper_digit(n as u32 / 16),
+            text::upper_digit(n as u32),
+        ),
     }
 }
 
@@ -119,7 +116,7 @@ fn show_pages(flips: &[u16; FLIP_ENTRIES], x: usize)
 {
     let mut line = [b' '; PAGES_LINE];
     line[0] = b'$';
-    line[1] = glyph(x);
+    line[1] = text::upper_digit(x as u32);
     line[PAGES_LINE - 1] = b'\n';
     for y in 0..CHAPTER_PAGES {
         let pair = pair_of(chart::leaf_at(flips, (CHAPTER_PAGES * x + y) as u8));

@@ -3,7 +3,6 @@ ghost use mathlib.Core.Path.{_≡_};
 ghost use Prim.Native.Nat.{_%_};
 ghost use Rattle.lines.specs.declared.Width.the-variants.{Sixteen, Eight};
 ghost use Rattle.grammar.specs.Grammar.{rom, paged, ram};
-ghost use Rattle.grammar.specs.Print.{upperDigit};
 ghost use Rattle.print.specs.Cfg.{entryLine};
 ghost use Rattle.print.specs.Code.Texts.{digitsOf, padded, textOf};
 use lines::Entry;
@@ -27,26 +26,15 @@ pub struct Digits {
     pub e: u8,
 }
 
-// Upper case.
-fn digit(n: u32) -> u8
-    ensures { λ r. ⌜ r ≡ upperDigit (n % 16) ⌝ }
-{
-    let d = (n % 16) as u8;
-    if d < 10 {
-        return b'0' + d;
-    }
-    b'A' + (d - 10)
-}
-
 fn hex_of(n: u32) -> Digits
     ensures { λ r. ⌜ r ≡ digitsOf n ⌝ }
 {
     Digits {
-        a: digit(n / 65536),
-        b: digit(n / 4096),
-        c: digit(n / 256),
-        d: digit(n / 16),
-        e: digit(n),
+        a: text::upper_digit(n / 65536),
+        b: text::upper_digit(n / 4096),
+        c: text::upper_digit(n / 256),
+        d: text::upper_digit(n / 16),
+        e: text::upper_digit(n),
     }
 }
 
@@ -104,7 +92,7 @@ fn paged_text(lo: u32, hi: u32, at: u32, y: u32) -> Text
     let l = hex_of(lo);
     let h = hex_of(hi);
     let a = hex_of(at);
-    let d = digit(y);
+    let d = text::upper_digit(y);
     let bytes = [
         b'$',
         l.a,

@@ -1,21 +1,18 @@
 -- A text as a shelf label shows it, so that no control byte reaches a screen: bytes 0x20 to 0x7E as they stand, but the backslash as two, and
 -- any other byte as a backslash, an x and its two hexadecimal digits (02, W-204).
-use Prim.Native.Nat.{ℕ, _+_, _/_, _%_}
+use Prim.Native.Nat.{ℕ, _/_, _%_}
 use mathlib.Core.List.{List, [], _∷_, _++_}
 use mathlib.Core.Bool.{Bool, cond, _||_}
 use lib.ListN.{length, drop}
 use lib.Dec.{eqb, ltb}
 use Rattle.basics.specs.Lists.{joined}
+use Rattle.text.specs.Spelling.{upperDigit}
 
 abbrev pub backslash : ℕ
 backslash = 92
 
--- 0 to 9, then A to F
-abbrev pub hexDigit : ℕ → ℕ
-hexDigit d = cond (ltb d 10) (48 + d) (55 + d)
-
 abbrev pub byDigits : ℕ → List ℕ
-byDigits b = backslash ∷ 120 ∷ hexDigit (b / 16 % 16) ∷ hexDigit (b % 16) ∷ []
+byDigits b = backslash ∷ 120 ∷ upperDigit (b / 16 % 16) ∷ upperDigit (b % 16) ∷ []
 
 -- below 0x20 or above 0x7E
 abbrev pub unseen : ℕ → Bool

@@ -1,9 +1,9 @@
 // A text as a shelf label shows it: no byte of it that a screen would act on (02, "W-204").
-ghost use Prim.Native.Nat.{_%_, _*_, _≤_};
+ghost use Prim.Native.Nat.{_*_, _≤_};
 ghost use mathlib.Core.Path.{_≡_};
 ghost use mathlib.Core.List.{_++_};
 ghost use lib.ListN.{length, take, drop};
-ghost use Rattle.shelf.specs.Escaped.{hexDigit, byDigits, escapedByte, escaped, escapedLength, escapedIn};
+ghost use Rattle.shelf.specs.Escaped.{byDigits, escapedByte, escaped, escapedLength, escapedIn};
 
 const BACKSLASH: u8 = 92;
 
@@ -23,21 +23,18 @@ struct Signs {
     bytes: [u8; 4],
 }
 
-// The hexadecimal digit of a number's lowest four bits.
-fn digit(x: u8) -> u8
-    ensures { λ r. ⌜ r ≡ hexDigit (x % 16) ⌝ }
-{
-    let d = x % 16;
-    if d < 10 { 48 + d } else { 55 + d }
-}
-
 // A byte by its two digits.
 fn by_digits(b: u8) -> Signs
     ensures { λ r. ⌜ (r .n ≡ 4) × (r .bytes ≡ byDigits b) ⌝ }
 {
     Signs {
         n: 4,
-        bytes: [BACKSLASH, LETTER_X, digit(b / 16), digit(b)],
+        bytes: [
+            BACKSLASH,
+            LETTER_X,
+            text::upper_digit(b as u32 / 16),
+            text::upper_digit(b as u32),
+        ],
     }
 }
 

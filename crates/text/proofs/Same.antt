@@ -11,6 +11,7 @@ use Rattle.text.proofs.past_end.Reads as past-end
 use Rattle.text.proofs.next_line.Reads as next-line
 use Rattle.text.proofs.same_text.Reads as same-text
 use Rattle.text.proofs.digit_of.Reads as digit-of
+use Rattle.text.proofs.upper_digit.Reads as upper-digit
 
 pub one-is-cr-lf : OneAnswer is-cr-lf.Learnt
 one-is-cr-lf κs a y z e f = same
@@ -41,3 +42,6 @@ one-same-text κs a y z e f = same
 
 pub one-digit-of : OneAnswer digit-of.Learnt
 one-digit-of κs a y z e f p q = same (p .0) (q .0)
+
+pub one-upper-digit : OneAnswer upper-digit.Learnt
+one-upper-digit κs a y z e f = same

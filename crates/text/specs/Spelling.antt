@@ -1,10 +1,10 @@
--- How a text is spelt, and the values of hex digits (01, What a CFG may say: upper case, lower case, either case).
+-- How a text is spelt, the values of hex digits (01, What a CFG may say: upper case, lower case, either case), and the digit of a value.
 use Prim.Native.Nat.{ℕ, _-_, _+_}
 use Prim.Native.Char.{code}
 use Prim.Native.String.{String}
 use mathlib.Core.Bool.{Bool, true, false, cond, _&&_}
 use mathlib.Core.List.{List, [], _∷_}
-use lib.Dec.{leb, eqb}
+use lib.Dec.{leb, ltb, eqb}
 use Rattle.text.specs.Bytes.{text}
 
 -- two texts are the same
@@ -23,3 +23,7 @@ digitOf b =
     cond (leb (code "0") b && leb b (code "9")) (b - code "0")
     (cond (leb (code "A") b && leb b (code "F")) (b - code "A" + 10)
     (cond (leb (code "a") b && leb b (code "f")) (b - code "a" + 10) 16))
+
+-- the hex digit of a value below 16 as it is written, in upper case (02, W-213)
+unfoldable pub upperDigit : ℕ → ℕ
+upperDigit d = cond (ltb d 10) (code "0" + d) (code "A" + (d - 10))

@@ -1,9 +1,9 @@
 // Texts: the bytes that may stand in one, its lines, its spelling, and hex digits. A CFG is one (01, "What a CFG may say").
-ghost use Prim.Native.Nat.{_≤_};
+ghost use Prim.Native.Nat.{_%_, _≤_};
 ghost use mathlib.Core.Path.{_≡_};
 ghost use Rattle.text.specs.Bytes.{crLf, allowed, firstForeign};
 ghost use Rattle.text.specs.Lines.{lineOf, ends, lineEnd, pastEnd, nextLine};
-ghost use Rattle.text.specs.Spelling.{same, digitOf};
+ghost use Rattle.text.specs.Spelling.{same, digitOf, upperDigit};
 
 // A reader: a text, and the place in it where the next line starts. A loop that reads line by line holds one, tests it and
 // moves it on to `next_line`.
@@ -145,4 +145,15 @@ pub fn digit_of(b: u8) -> u32
         b'f' => 15,
         _ => 16,
     }
+}
+
+// The hex digit of a number's lowest four bits, in upper case.
+pub fn upper_digit(n: u32) -> u8
+    ensures { λ r. ⌜ r ≡ upperDigit (n % 16) ⌝ }
+{
+    let d = (n % 16) as u8;
+    if d < 10 {
+        return b'0' + d;
+    }
+    b'A' + (d - 10)
 }

@@ -8,11 +8,11 @@ use lib.Dec.{ltb}
 use borrow.Author.Tests.{le-leb, lt-leb, ltb-false, ltb-true, ne-eqb}
 use Rattle.basics.specs.Laws.Tests.{cases}
 use Rattle.text.specs.Bytes.{text}
-use Rattle.text.specs.Spelling.{digitOf, same}
+use Rattle.text.specs.Spelling.{digitOf, same, upperDigit}
 use Rattle.lines.specs.declared.Width.{Width}
 use Rattle.lines.specs.declared.Width.the-variants.{Eight, Sixteen}
 use Rattle.grammar.specs.Grammar.{_>>=_, bits, dollar, headingLine, hexFrom, lineSays, mappingLine, memattrLine, oneDigit, paged, pagedLine, ram, ramLine, rom, romLine, wordsSay}
-use Rattle.grammar.specs.Print.{entryText, fiveDigits, fourDigits, upperDigit}
+use Rattle.grammar.specs.Print.{entryText, fiveDigits, fourDigits}
 use Rattle.grammar.specs.Words.{Cut, cut, wordsAfter}
 use Rattle.grammar.specs.declared.Number.the-variants.{Is}
 use Rattle.grammar.specs.declared.Says.the-variants.{Claims, Heading}

@@ -5,7 +5,7 @@ use lib.ListN.{length, replicate}
 use Rattle.places.specs.Places.{page}
 use Rattle.lines.specs.declared.Entry.{Entry}
 use Rattle.lines.specs.declared.Entry.the-variants.{Paged, Ram, Rom}
-use Rattle.grammar.specs.Print.{upperDigit}
+use Rattle.text.specs.Spelling.{upperDigit}
 use Rattle.print.specs.Cfg.{entryLine}
 use Rattle.print.specs.declared.Digits.{Digits}
 use Rattle.print.specs.declared.Text.{Text}

@@ -12,11 +12,12 @@ use Rattle.basics.specs.Laws.Each.{each-append}
 use Rattle.basics.specs.Laws.Tests.{and-left, and-right, and-true, cases, or-cases, or-left}
 use Rattle.basics.specs.Lists.{Each, also, none}
 use Rattle.text.specs.Bytes.{firstForeign, foreign, lf, text, until}
+use Rattle.text.specs.Spelling.{upperDigit}
 use Rattle.lines.specs.declared.Entry.{Entry}
 use Rattle.lines.specs.declared.Entry.the-variants.{Paged, Ram, Rom}
 use Rattle.lines.specs.declared.Width.{Width}
 use Rattle.lines.specs.declared.Width.the-variants.{Eight, Sixteen}
-use Rattle.grammar.specs.Print.{entryText, fiveDigits, fourDigits, upperDigit, widthText}
+use Rattle.grammar.specs.Print.{entryText, fiveDigits, fourDigits, widthText}
 use Rattle.print.specs.Cfg.{InMapping, InMemattr, lineText}
 
 abbrev pub isShown : ℕ → Bool

@@ -1,23 +1,23 @@
 -- What a label shows of a text: no byte that a screen would act on, and at most four bytes for each.
-use Prim.Native.Nat.{ℕ, _+_, _*_, _/_, _%_, _≤_, _<_}
-use mathlib.Core.Path.{_≡_, refl, sym, ap, _∙_}
-use mathlib.Core.List.{List, [], _∷_, _++_}
-use mathlib.Core.Bool.{Bool, true, false, cond, _||_}
+use Prim.Native.Nat.{ℕ, _*_, _/_, _%_, _≤_, _<_}
+use mathlib.Core.List.{List, [], _∷_}
 use native.Mathlib.Omega.{arith}
 use lib.ListN.{length, length-append}
 use lib.Dec.{eqb, ltb}
-use borrow.Author.Tests.{eqb-true, eqb-false, ltb-true, ltb-false}
+use borrow.Author.Tests.{ltb-true, ltb-false}
 use Rattle.basics.specs.Lists.{joined, Each, none, also}
 use Rattle.basics.specs.Laws.Each.{each-append}
 use Rattle.basics.specs.Laws.Tests.{cases, or-false-left, or-false-right}
-use Rattle.shelf.specs.Escaped.{hexDigit, unseen, escapedByte, escaped}
+use Rattle.text.specs.Spelling.{upperDigit}
+use Rattle.shelf.specs.Escaped.{unseen, escapedByte, escaped}
 
 -- a byte that a screen shows, and takes for nothing else
 pub record Seen (b : ℕ) : Type 0 where
   pub from : 0x20 ≤ b
   pub to : b ≤ 0x7E
 
-digit-seen : (d : ℕ) → d < 16 → Seen (hexDigit d)
+digit-seen : (d : ℕ) → d < 16 → Seen (upperDigit d)
+unfolding upperDigit
 digit-seen d h =
     cases (ltb d 10)
     (λ e. let l : d < 10 = ltb-true _ _ e in rw e (record { from = omega arith; to = omega arith }))
