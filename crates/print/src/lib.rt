@@ -3,8 +3,9 @@ ghost use mathlib.Core.Path.{_≡_};
 ghost use Prim.Native.Nat.{_%_};
 ghost use Rattle.lines.specs.declared.Width.the-variants.{Sixteen, Eight};
 ghost use Rattle.grammar.specs.Grammar.{rom, paged, ram};
+ghost use Rattle.grammar.specs.Print.{entryText};
 ghost use Rattle.print.specs.Cfg.{entryLine};
-ghost use Rattle.print.specs.Code.Texts.{digitsOf, padded, textOf};
+ghost use Rattle.print.specs.Code.Texts.{digitsOf, filled, padded, ramFront, textOf};
 use lines::Entry;
 use lines::Width;
 
@@ -38,14 +39,14 @@ fn hex_of(n: u32) -> Digits
     }
 }
 
-// `$lo - $hi = $addr`
-fn rom_text(lo: u32, hi: u32, at: u32) -> Text
-    ensures { λ r. ⌜ r ≡ padded (entryLine (rom lo hi at)) ⌝ }
+// `$lo - $hi = $addr`, and zeros behind it.
+fn rom_front(lo: u32, hi: u32, at: u32) -> [u8; TEXT_SIZE]
+    ensures { λ r. ⌜ r ≡ filled (entryText (rom lo hi at)) ⌝ }
 {
     let l = hex_of(lo);
     let h = hex_of(hi);
     let a = hex_of(at);
-    let bytes = [
+    [
         b'$',
         l.a,
         l.b,
@@ -69,7 +70,6 @@ fn rom_text(lo: u32, hi: u32, at: u32) -> Text
         a.c,
         a.d,
         a.e,
-        b'\n',
         0,
         0,
         0,
@@ -78,7 +78,15 @@ fn rom_text(lo: u32, hi: u32, at: u32) -> Text
         0,
         0,
         0,
-    ];
+        0,
+    ]
+}
+
+fn rom_text(lo: u32, hi: u32, at: u32) -> Text
+    ensures { λ r. ⌜ r ≡ padded (entryLine (rom lo hi at)) ⌝ }
+{
+    let mut bytes = rom_front(lo, hi, at);
+    bytes[23] = b'\n';
     Text {
         bytes: bytes,
         length: 24,
@@ -89,57 +97,28 @@ fn rom_text(lo: u32, hi: u32, at: u32) -> Text
 fn paged_text(lo: u32, hi: u32, at: u32, y: u32) -> Text
     ensures { λ r. ⌜ r ≡ padded (entryLine (paged lo hi at (y % 16))) ⌝ }
 {
-    let l = hex_of(lo);
-    let h = hex_of(hi);
-    let a = hex_of(at);
-    let d = text::upper_digit(y);
-    let bytes = [
-        b'$',
-        l.a,
-        l.b,
-        l.c,
-        l.d,
-        l.e,
-        b' ',
-        b'-',
-        b' ',
-        b'$',
-        h.a,
-        h.b,
-        h.c,
-        h.d,
-        h.e,
-        b' ',
-        b'=',
-        b' ',
-        b'$',
-        a.b,
-        a.c,
-        a.d,
-        a.e,
-        b' ',
-        b'P',
-        b'A',
-        b'G',
-        b'E',
-        b' ',
-        d,
-        b'\n',
-        0,
-    ];
+    let mut bytes = rom_front(lo, hi, at);
+    bytes[23] = b' ';
+    bytes[24] = b'P';
+    bytes[25] = b'A';
+    bytes[26] = b'G';
+    bytes[27] = b'E';
+    bytes[28] = b' ';
+    bytes[29] = text::upper_digit(y);
+    bytes[30] = b'\n';
     Text {
         bytes: bytes,
         length: 31,
     }
 }
 
-// `$lo - $hi = RAM 16`
-fn ram_16_text(lo: u32, hi: u32) -> Text
-    ensures { λ r. ⌜ r ≡ padded (entryLine (ram lo hi Sixteen)) ⌝ }
+// `$lo - $hi = RAM ` and zeros behind it.
+fn ram_front(lo: u32, hi: u32) -> [u8; TEXT_SIZE]
+    ensures { λ r. ⌜ r ≡ filled (ramFront lo hi) ⌝ }
 {
     let l = hex_of(lo);
     let h = hex_of(hi);
-    let bytes = [
+    [
         b'$',
         l.b,
         l.c,
@@ -160,9 +139,6 @@ fn ram_16_text(lo: u32, hi: u32) -> Text
         b'A',
         b'M',
         b' ',
-        b'1',
-        b'6',
-        b'\n',
         0,
         0,
         0,
@@ -172,7 +148,20 @@ fn ram_16_text(lo: u32, hi: u32) -> Text
         0,
         0,
         0,
-    ];
+        0,
+        0,
+        0,
+    ]
+}
+
+// `$lo - $hi = RAM 16`
+fn ram_16_text(lo: u32, hi: u32) -> Text
+    ensures { λ r. ⌜ r ≡ padded (entryLine (ram lo hi Sixteen)) ⌝ }
+{
+    let mut bytes = ram_front(lo, hi);
+    bytes[20] = b'1';
+    bytes[21] = b'6';
+    bytes[22] = b'\n';
     Text {
         bytes: bytes,
         length: 23,
@@ -183,42 +172,9 @@ fn ram_16_text(lo: u32, hi: u32) -> Text
 fn ram_8_text(lo: u32, hi: u32) -> Text
     ensures { λ r. ⌜ r ≡ padded (entryLine (ram lo hi Eight)) ⌝ }
 {
-    let l = hex_of(lo);
-    let h = hex_of(hi);
-    let bytes = [
-        b'$',
-        l.b,
-        l.c,
-        l.d,
-        l.e,
-        b' ',
-        b'-',
-        b' ',
-        b'$',
-        h.b,
-        h.c,
-        h.d,
-        h.e,
-        b' ',
-        b'=',
-        b' ',
-        b'R',
-        b'A',
-        b'M',
-        b' ',
-        b'8',
-        b'\n',
-        0,
-        0,
-        0,
-        0,
-        0,
-        0,
-        0,
-        0,
-        0,
-        0,
-    ];
+    let mut bytes = ram_front(lo, hi);
+    bytes[20] = b'8';
+    bytes[21] = b'\n';
     Text {
         bytes: bytes,
         length: 22,

@@ -1,22 +1,11 @@
--- `print::ram_16_text` meets its contract, by what its callees ensure.
+-- `print::ram_16_text` meets its contract, by the front that it ends.
 use borrow.Author.Needs.{needs}
+use Rattle.print.specs.Laws.Texts.{ram-16-ends}
 use Rattle.print.proofs.ram_16_text.Statement.{statement}
 use Rattle.print.proofs.ram_16_text.Tie as tie
-use Rattle.print.proofs.ram_16_text.Reads as reads
-use Rattle.print.proofs.ram_16_text.Lts as lts
-use Rattle.print.proofs.hex_of.Reads as hex-of-reads
 
--- src/lib.rt:80:9
-hex-of-requires : tie.Need-hex-of-requires
-hex-of-requires c κs = search needs
-
--- src/lib.rt:81:9
-hex-of-requires-2 : tie.Need-hex-of-requires-2
-hex-of-requires-2 c κs = search needs
-
--- src/lib.rt:77:1
 returns : tie.Need-returns
-returns c = rw (c .hex-of2 .ensures, c .before .hex-of .ensures)
+returns c = search (needs, ram-16-ends)
 
 pub ram-16-text-spec : {M : Type 1} → statement M
-ram-16-text-spec = tie.close (tie.spec hex-of-requires hex-of-requires-2 returns)
+ram-16-text-spec = tie.close (tie.spec (λ c κs. search needs) (λ c. search needs) (λ c. search needs) (λ c. search needs) returns)

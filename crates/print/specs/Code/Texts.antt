@@ -5,13 +5,22 @@ use lib.ListN.{length, replicate}
 use Rattle.places.specs.Places.{page}
 use Rattle.lines.specs.declared.Entry.{Entry}
 use Rattle.lines.specs.declared.Entry.the-variants.{Paged, Ram, Rom}
+use Rattle.text.specs.Bytes.{text}
 use Rattle.text.specs.Spelling.{upperDigit}
+use Rattle.grammar.specs.Print.{fourDigits}
 use Rattle.print.specs.Cfg.{entryLine}
 use Rattle.print.specs.declared.Digits.{Digits}
 use Rattle.print.specs.declared.Text.{Text}
 
+abbrev pub filled : List ℕ → List ℕ
+filled x = x ++ replicate (32 - length x) 0
+
 abbrev pub padded : List ℕ → Text
-padded x = record { bytes = x ++ replicate (32 - length x) 0; length = length x }
+padded x = record { bytes = filled x; length = length x }
+
+-- `$lo - $hi = RAM `, before the width
+abbrev pub ramFront : ℕ → ℕ → List ℕ
+ramFront lo hi = fourDigits lo ++ (text " - " ++ (fourDigits hi ++ text " = RAM "))
 
 -- the last five hex digits
 abbrev pub digitsOf : ℕ → Digits
