@@ -22,6 +22,7 @@ use places::LOCUTUS_PARAGRAPHS;
 use places::Locutus;
 use places::PARAGRAPH_SIZE;
 use places::PARAGRAPHS;
+use sums::TABLE_ENTRIES;
 
 // What writing answers: its refusal, and the image's length, also where the buffer is too short for it.
 pub struct Writing {
@@ -49,7 +50,7 @@ fn paragraph_of(ram: &[u16], p: usize) -> [u16; PARAGRAPH_SIZE]
 }
 
 // CRC32/4 of a block's payload, by its own tables.
-fn payload_sum(c324: &[u32; 2048], x: &[u8]) -> u32
+fn payload_sum(c324: &[u32; TABLE_ENTRIES], x: &[u8]) -> u32
     requires { ⌜ now c324 ≡ tablesOf c324Poly ⌝ }
     ensures { λ r. ⌜ r ≡ crc324Of (payloadIn (now (x .entry))) ⌝ }
 {
@@ -58,7 +59,7 @@ fn payload_sum(c324: &[u32; 2048], x: &[u8]) -> u32
 }
 
 // The frame of a block whose payload stands from byte 8 on.
-fn frame(out: &mut [u8], t: u8, c324: &[u32; 2048])
+fn frame(out: &mut [u8], t: u8, c324: &[u32; TABLE_ENTRIES])
     requires { ⌜ now c324 ≡ tablesOf c324Poly ⌝ }
     ensures { λ _. ⌜ now (out .exit) ≡ putFrame t (crc324Of (payloadIn (now (out .entry)))) (now (out .entry)) ⌝ }
 {
@@ -72,7 +73,7 @@ fn put_tables<'a>(
     mapping: &[u16; PARAGRAPHS],
     permissions: &'a [u8; PARAGRAPHS],
     flips: &'a [u16; PARAGRAPHS],
-    c324: &[u32; 2048],
+    c324: &[u32; TABLE_ENTRIES],
 )
     requires { ⌜ (now c324 ≡ tablesOf c324Poly) × (length (now out) ≡ frameSize + length (tablesPayload (tables (now mapping) (now permissions) (now flips)))) × (length (now out) ≤ blockLimit) ⌝ }
     ensures { λ _. ⌜ now (out .exit) ≡ tablesBlock (tables (now (mapping .entry)) (now (permissions .entry)) (now (flips .entry))) ⌝ }
@@ -82,7 +83,7 @@ fn put_tables<'a>(
 }
 
 // The block of a hunk, into a part of just its size.
-fn put_hunk(out: &mut [u8], at: Locutus, words: &[u16; PARAGRAPH_SIZE], c324: &[u32; 2048])
+fn put_hunk(out: &mut [u8], at: Locutus, words: &[u16; PARAGRAPH_SIZE], c324: &[u32; TABLE_ENTRIES])
     requires { ⌜ (now c324 ≡ tablesOf c324Poly) × (length (now out) ≡ frameSize + payloadSize (now words)) × (length (now out) ≤ blockLimit) ⌝ }
     ensures { λ _. ⌜ now (out .exit) ≡ hunkBlock (hunk at (now (words .entry))) ⌝ }
 {
@@ -111,7 +112,7 @@ fn put_front<'a>(
     mapping: &[u16; PARAGRAPHS],
     permissions: &'a [u8; PARAGRAPHS],
     flips: &'a [u16; PARAGRAPHS],
-    c324: &[u32; 2048],
+    c324: &[u32; TABLE_ENTRIES],
 )
     requires { ⌜ (now c324 ≡ tablesOf c324Poly) × (length (now out) ≡ frontSize (now flags) (now uid) (tables (now mapping) (now permissions) (now flips))) ⌝ }
     ensures { λ _. ⌜ now (out .exit) ≡ frontOf (now (flags .entry)) (now (uid .entry)) (tables (now (mapping .entry)) (now (permissions .entry)) (now (flips .entry))) ⌝ }
@@ -146,7 +147,12 @@ fn hunks_size(ram: &[u16], marks: &[bool; LOCUTUS_PARAGRAPHS]) -> usize
 }
 
 // A block for each marked paragraph, each in a part of its own, and the end.
-fn put_hunks(out: &mut [u8], ram: &[u16], marks: &[bool; LOCUTUS_PARAGRAPHS], c324: &[u32; 2048])
+fn put_hunks(
+    out: &mut [u8],
+    ram: &[u16],
+    marks: &[bool; LOCUTUS_PARAGRAPHS],
+    c324: &[u32; TABLE_ENTRIES],
+)
     requires { ⌜ (now c324 ≡ tablesOf c324Poly) × (length (now out) ≡ length (hunkBytes (now ram) (now marks)) + 1) ⌝ }
     ensures { λ _. ⌜ now (out .exit) ≡ hunkBytes (now (ram .entry)) (now (marks .entry)) ++ (endMark ∷ []) ⌝ }
 {

@@ -10,23 +10,23 @@ use lib.Bits.{bitXor}
 use lib.Seq.{drop-cons}
 use Rattle.basics.specs.Laws.Octets.{Bytes}
 use Rattle.basics.specs.Laws.Tables.{Filled, filled-more}
-use Rattle.sums.specs.Tables.{entryOf, byEights, byEight, byBytes, entryAt}
+use Rattle.sums.specs.Tables.{tableEntries, entryOf, byEights, byEight, byBytes, entryAt}
 use Rattle.sums.specs.Crc.{crcBits, crcByte, crcFrom, dowcrcOf}
 use Rattle.sums.specs.Laws.Crc.{dow-fits}
 use Rattle.sums.specs.Laws.Tables.{entry-first, entry-next}
 
 -- the first i entries of the tables of p stand in t
 abbrev pub Tabled : ℕ → ℕ → List ℕ → Type 0
-Tabled p i t = Filled 0 2048 (entryOf p) i t
+Tabled p i t = Filled 0 tableEntries (entryOf p) i t
 
 module _ (p i : ℕ) (t : List ℕ) (h : Tabled p i t) where
   pub first-next : (v : ℕ) → i < 256 → v ≡ crcBits p 8 i → Tabled p (i + 1) (set t i v)
-  first-next v l e = filled-more 0 2048 (entryOf p) i v t h (omega arith) (e ∙ entry-first p i l)
+  first-next v l e = filled-more 0 tableEntries (entryOf p) i v t h (omega arith) (e ∙ entry-first p i l)
 
-  pub tables-next : 256 ≤ i → i < 2048 → Tabled p (i + 1) (set t i (bitXor (getD t (i - 256) 0 / 256) (getD t (getD t (i - 256) 0 % 256) 0)))
+  pub tables-next : 256 ≤ i → i < tableEntries → Tabled p (i + 1) (set t i (bitXor (getD t (i - 256) 0 / 256) (getD t (getD t (i - 256) 0 % 256) 0)))
   tables-next l m =
       let x = getD t (i - 256) 0 in
-      filled-more 0 2048 (entryOf p) i _ t h m
+      filled-more 0 tableEntries (entryOf p) i _ t h m
       (entry-next p i x (getD t (x % 256) 0) l (h .each (i - 256) (omega arith)) (h .each (x % 256) (omega arith)))
 
 module _ (t : List ℕ) (c : ℕ) (s : List ℕ) where

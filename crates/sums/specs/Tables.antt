@@ -6,12 +6,15 @@ use lib.Bits.{bitXor}
 use Rattle.basics.specs.Tables.{table}
 use Rattle.sums.specs.Crc.{crcBits}
 
+abbrev pub tableEntries : ℕ
+tableEntries = 2048
+
 -- eight tables of 256 in one list: entry k of table j is what a byte k comes to when j bytes follow it
 abbrev pub entryOf : ℕ → ℕ → ℕ
 entryOf p i = crcBits p (8 * (i / 256) + 8) (i % 256)
 
 unfoldable pub tablesOf : ℕ → List ℕ
-tablesOf p = table 2048 (entryOf p)
+tablesOf p = table tableEntries (entryOf p)
 
 -- what table j has for the byte b and the low byte of c
 unfoldable pub entryAt : List ℕ → ℕ → ℕ → ℕ → ℕ

@@ -4,7 +4,7 @@ ghost use mathlib.Core.Path.{_≡_};
 ghost use lib.ListN.{length};
 ghost use Rattle.basics.specs.Laws.Tables.{Filled};
 ghost use Rattle.sums.specs.Crc.{crcBit, crcBits, crcByte, crcFrom, dowcrcOf, crc324Of, crc32Of};
-ghost use Rattle.sums.specs.Tables.{entryOf, tablesOf, entryAt, byBytes, byEight, byEights, byTables};
+ghost use Rattle.sums.specs.Tables.{tableEntries, entryOf, tablesOf, entryAt, byBytes, byEight, byEights, byTables};
 
 // The polynomials.
 pub const DOW: u32 = 0x98;
@@ -12,6 +12,9 @@ pub const DOW: u32 = 0x98;
 pub const C324: u32 = 0x82F6_3B78;
 
 pub const IEEE: u32 = 0xEDB8_8320;
+
+// The entries of the eight tables of a polynomial.
+pub const TABLE_ENTRIES: usize = 2048;
 
 // One bit.
 fn bit(p: u32, c: u32) -> u32
@@ -50,10 +53,10 @@ fn bitwise(p: u32, c: u32, s: &[u8]) -> u32
 }
 
 // The first of the eight tables, before zeros.
-fn first(p: u32) -> [u32; 2048]
-    ensures { λ r. ⌜ Filled 0 2048 (entryOf p) 256 r ⌝ }
+fn first(p: u32) -> [u32; TABLE_ENTRIES]
+    ensures { λ r. ⌜ Filled 0 tableEntries (entryOf p) 256 r ⌝ }
 {
-    let mut t = [0u32; 2048];
+    let mut t = [0u32; TABLE_ENTRIES];
     for i in 0..256usize {
         t[i] = bits(p, i as u32);
     }
@@ -61,11 +64,11 @@ fn first(p: u32) -> [u32; 2048]
 }
 
 // The eight tables of a polynomial: each entry after the first table is a byte's step from the one 256 places before it.
-pub fn tables(p: u32) -> [u32; 2048]
+pub fn tables(p: u32) -> [u32; TABLE_ENTRIES]
     ensures { λ r. ⌜ r ≡ tablesOf p ⌝ }
 {
     let mut t = first(p);
-    for i in 256..2048usize {
+    for i in 256..TABLE_ENTRIES {
         let x = t[i - 256];
         let k = (x % 256) as usize;
         t[i] = (x >> 8) ^ t[k];
@@ -74,7 +77,7 @@ pub fn tables(p: u32) -> [u32; 2048]
 }
 
 // What table j has for the byte b and the low byte of c.
-fn entry(t: &[u32; 2048], j: usize, c: u32, b: u8) -> u32
+fn entry(t: &[u32; TABLE_ENTRIES], j: usize, c: u32, b: u8) -> u32
     requires { ⌜ j < 8 ⌝ }
     ensures { λ r. ⌜ r ≡ entryAt (now (t .entry)) j c b ⌝ }
 {
@@ -83,7 +86,7 @@ fn entry(t: &[u32; 2048], j: usize, c: u32, b: u8) -> u32
 }
 
 // Eight bytes of s from place i on.
-fn eight(t: &[u32; 2048], c: u32, s: &[u8], i: usize) -> u32
+fn eight(t: &[u32; TABLE_ENTRIES], c: u32, s: &[u8], i: usize) -> u32
     requires { ⌜ i + 8 ≤ length (now s) ⌝ }
     ensures { λ r. ⌜ r ≡ byEight (now (t .entry)) c (now (s .entry)) i ⌝ }
 {
@@ -97,7 +100,7 @@ fn eight(t: &[u32; 2048], c: u32, s: &[u8], i: usize) -> u32
 }
 
 // All eights of s.
-fn eights(t: &[u32; 2048], c: u32, s: &[u8]) -> u32
+fn eights(t: &[u32; TABLE_ENTRIES], c: u32, s: &[u8]) -> u32
     ensures { λ r. ⌜ r ≡ byEights (now (t .entry)) c (now (s .entry)) (length (now (s .entry)) / 8) ⌝ }
 {
     let mut x = c;
@@ -108,7 +111,7 @@ fn eights(t: &[u32; 2048], c: u32, s: &[u8]) -> u32
 }
 
 // The bytes of s, one at a time.
-fn bytes(t: &[u32; 2048], c: u32, s: &[u8]) -> u32
+fn bytes(t: &[u32; TABLE_ENTRIES], c: u32, s: &[u8]) -> u32
     ensures { λ r. ⌜ r ≡ byBytes (now (t .entry)) c (now (s .entry)) ⌝ }
 {
     let mut x = c;
@@ -119,7 +122,7 @@ fn bytes(t: &[u32; 2048], c: u32, s: &[u8]) -> u32
 }
 
 // The sum of s by lent tables, from the sum c of what stands before it.
-pub fn sum_by(t: &[u32; 2048], c: u32, s: &[u8]) -> u32
+pub fn sum_by(t: &[u32; TABLE_ENTRIES], c: u32, s: &[u8]) -> u32
     ensures { λ r. ⌜ r ≡ byTables (now (t .entry)) c (now (s .entry)) ⌝ }
 {
     let at = 8 * (s.len() / 8);
@@ -127,7 +130,7 @@ pub fn sum_by(t: &[u32; 2048], c: u32, s: &[u8]) -> u32
 }
 
 // DOWCRC by lent tables.
-pub fn dowcrc_by(t: &[u32; 2048], s: &[u8]) -> u8
+pub fn dowcrc_by(t: &[u32; TABLE_ENTRIES], s: &[u8]) -> u8
     ensures { λ r. ⌜ r ≡ byTables (now (t .entry)) 0 (now (s .entry)) % 256 ⌝ }
 {
     (sum_by(t, 0, s) % 256) as u8

@@ -5,7 +5,7 @@ use native.Mathlib.Omega.{arith}
 use borrow.Author.Needs.{needs}
 use Rattle.basics.specs.Laws.Tables.{filled-none}
 use Rattle.sums.proofs.Laws.{Tabled, first-next}
-use Rattle.sums.specs.Tables.{entryOf}
+use Rattle.sums.specs.Tables.{tableEntries, entryOf}
 use Rattle.sums.proofs.first.Statement.{statement}
 use Rattle.sums.proofs.first.Tie as tie
 
@@ -16,7 +16,7 @@ abbrev μ-loop : tie.MeasureT-loop
 μ-loop p t₀ i₀ t i = 256 - i
 
 loop-holds : tie.Need-loop-holds Inv-loop μ-loop
-loop-holds c = (search needs, filled-none 0 2048 (entryOf (c .args .p)) _ (search needs))
+loop-holds c = (search needs, filled-none 0 tableEntries (entryOf (c .args .p)) _ (search needs))
 
 returns : tie.Need-returns Inv-loop μ-loop
 returns c =

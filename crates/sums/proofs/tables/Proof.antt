@@ -3,15 +3,15 @@ use Prim.Native.Nat.{_≤_, _-_}
 use borrow.Author.Needs.{needs}
 use Rattle.basics.specs.Laws.Tables.{filled-all}
 use Rattle.sums.proofs.Laws.{Tabled, tables-next}
-use Rattle.sums.specs.Tables.{tablesOf}
+use Rattle.sums.specs.Tables.{tableEntries, tablesOf}
 use Rattle.sums.proofs.tables.Statement.{statement}
 use Rattle.sums.proofs.tables.Tie as tie
 
 abbrev Inv-loop : tie.InvT-loop
-Inv-loop p t₀ i₀ t i = (256 ≤ i) × ((i ≤ 2048) × Tabled p i t)
+Inv-loop p t₀ i₀ t i = (256 ≤ i) × ((i ≤ tableEntries) × Tabled p i t)
 
 abbrev μ-loop : tie.MeasureT-loop
-μ-loop p t₀ i₀ t i = 2048 - i
+μ-loop p t₀ i₀ t i = tableEntries - i
 
 returns : tie.Need-returns Inv-loop μ-loop
 unfolding tablesOf

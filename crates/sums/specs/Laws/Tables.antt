@@ -12,7 +12,7 @@ use Rattle.basics.specs.Laws.Tables.{getD-table}
 use Rattle.basics.specs.Laws.Octets.{Bytes, bytes-drop}
 use Rattle.basics.specs.Laws.Lists.{drop-one}
 use Rattle.sums.specs.Crc.{crcBits, crcFrom, crcByte, dowPoly, dowcrcOf, c324Poly, crc324Of, ieeePoly, crc32Of}
-use Rattle.sums.specs.Tables.{entryOf, entryAt, tablesOf, byBytes, byEight, byEights, byTables}
+use Rattle.sums.specs.Tables.{tableEntries, entryOf, entryAt, tablesOf, byBytes, byEight, byEights, byTables}
 use Rattle.sums.specs.Laws.Crc.{bits-split, bits-add, byte-table, from-peel, bits-lt, dow-fits}
 
 module _ (p : ℕ) where
@@ -36,11 +36,11 @@ module _ (p : ℕ) where
   unfolding tablesOf entryAt
   picked j c b h = at (bitXor c b % 256) (mod-lt (bitXor c b) (zero-lt-suc 255))
     where
-      at : (k : ℕ) → k < 256 → getD (table 2048 (entryOf p)) (256 * j + k) 0 ≡ crcBits p (8 * j + 8) k
+      at : (k : ℕ) → k < 256 → getD (table tableEntries (entryOf p)) (256 * j + k) 0 ≡ crcBits p (8 * j + 8) k
       at k l =
           let q : (256 * j + k) / 256 ≡ j = omega arith in
           let r : (256 * j + k) % 256 ≡ k = omega arith in
-          getD-table 0 2048 (entryOf p) (256 * j + k) (omega arith) ∙ ap₂ (λ (m n : ℕ). crcBits p (8 * m + 8) n) q r
+          getD-table 0 tableEntries (entryOf p) (256 * j + k) (omega arith) ∙ ap₂ (λ (m n : ℕ). crcBits p (8 * m + 8) n) q r
 
   -- byte by byte
   by-bytes : (c : ℕ) (s : List ℕ) → Bytes s → byBytes (tablesOf p) c s ≡ crcFrom p c s
