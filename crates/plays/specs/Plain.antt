@@ -5,6 +5,7 @@ use mathlib.Core.Option.{Option, none, some}
 use mathlib.Core.Bool.{Bool, _&&_, cond}
 use lib.Dec.{eqb}
 use Rattle.places.specs.declared.Console.{Console}
+use Rattle.places.specs.Limits.{chapterSize}
 use Rattle.cart.specs.declared.Answer.{Answer}
 use Rattle.cart.specs.declared.Answer.the-variants.{Silence, Word}
 use Rattle.cart.specs.Run.{Access, Read, Write, Reset}
@@ -44,17 +45,17 @@ answerBy bin ram none a = Silence
 answerBy bin ram (some l) a = Word (wordBy bin ram (l .entry) a)
 
 unfoldable pub plainRead : List ℕ → List Line → Plain → Console → Answer
-plainRead bin lines c a = answerBy bin (c .ram) (shownLine lines (c .number (a .0 / 4096)) a) a
+plainRead bin lines c a = answerBy bin (c .ram) (shownLine lines (c .number (a .0 / chapterSize)) a) a
 
 -- a write of $xA5y to $xFFF makes chapter x's number y
 abbrev pub isRequest : Console → ℕ → Bool
-isRequest a v = eqb (a .0 % 4096) 0xFFF && (eqb (v / 4096) (a .0 / 4096) && eqb (v / 16 % 256) 0xA5)
+isRequest a v = eqb (a .0 % chapterSize) 0xFFF && (eqb (v / 0x1000) (a .0 / chapterSize) && eqb (v / 16 % 256) 0xA5)
 
 abbrev pub renumbered : (ℕ → ℕ) → ℕ → ℕ → ℕ → ℕ
 renumbered number x y z = cond (eqb z x) y (number z)
 
 unfoldable pub numberAfter : (ℕ → ℕ) → Console → ℕ → ℕ → ℕ
-numberAfter number a v = cond (isRequest a v) (renumbered number (a .0 / 4096) (v % 16)) number
+numberAfter number a v = cond (isRequest a v) (renumbered number (a .0 / chapterSize) (v % 16)) number
 
 -- RAM takes every write to its words; RAM 8 holds the low 8 bits
 abbrev pub holding : (Console → ℕ) → Console → ℕ → Console → ℕ

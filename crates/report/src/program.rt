@@ -1,20 +1,26 @@
 // The program: reads an image from standard input, loads it into a RAM of zeros, and prints what the load did.
+ghost use Prim.Native.Nat.{_+_};
 ghost use mathlib.Core.Path.{_≡_};
 ghost use lib.ListN.{length};
+ghost use Rattle.places.specs.Limits.{cardLimit, cardWords};
 use crate::Report;
 use libc::STDIN_FILENO;
+use places::CARD_LIMIT;
+use places::CARD_WORDS;
 
 // Room for one byte more than the card takes: a longer file fills it, however long it is.
-fn file_room() -> [u8; 24577]
-    ensures { λ r. ⌜ 24577 ≡ length r ⌝ }
+const FILE_ROOM: usize = CARD_LIMIT + 1;
+
+fn file_room() -> [u8; FILE_ROOM]
+    ensures { λ r. ⌜ cardLimit + 1 ≡ length r ⌝ }
 {
-    [0; 24577]
+    [0; FILE_ROOM]
 }
 
-fn blank_ram() -> [u16; 16384]
-    ensures { λ r. ⌜ 16384 ≡ length r ⌝ }
+fn blank_ram() -> [u16; CARD_WORDS]
+    ensures { λ r. ⌜ cardWords ≡ length r ⌝ }
 {
-    [0; 16384]
+    [0; CARD_WORDS]
 }
 
 // What is printed of a load.

@@ -1,18 +1,23 @@
 // Salvages a damaged image: its name and that of the file to write are the arguments. Prints `kept=`, `dropped=` and `stopped=`, then
 // `drop=` with the place of each block left out; a refusal as the card does; or `result=stopped` with the file and the reason.
+ghost use Prim.Native.Nat.{_+_};
 ghost use mathlib.Core.Path.{_≡_};
 ghost use lib.ListN.{length};
+ghost use Rattle.places.specs.Limits.{cardLimit};
 use files::INPUTS;
 use files::Seen;
+use places::CARD_LIMIT;
 use recovery::Salvaging;
 use recovery::Stopped;
 
 // Room for one byte more than the card takes: a longer file fills it, however long it is. And a salvaged image has at most one byte more
 // than the image.
-fn file_room() -> [u8; 24577]
-    ensures { λ r. ⌜ 24577 ≡ length r ⌝ }
+const FILE_ROOM: usize = CARD_LIMIT + 1;
+
+fn file_room() -> [u8; FILE_ROOM]
+    ensures { λ r. ⌜ cardLimit + 1 ≡ length r ⌝ }
 {
-    [0; 24577]
+    [0; FILE_ROOM]
 }
 
 // Room for the places of all blocks that such a file can lose: each has eight bytes at least.

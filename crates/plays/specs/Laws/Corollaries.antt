@@ -11,6 +11,7 @@ use Rattle.basics.specs.Options.{isSome}
 use Rattle.basics.specs.Laws.Tables.{getD-table}
 use Rattle.basics.specs.Laws.Tests.{true-is-not-false}
 use Rattle.places.specs.declared.Console.{Console}
+use Rattle.places.specs.Limits.{chapterSize}
 use Rattle.switches.specs.Flips.{firstK}
 use Rattle.cart.specs.declared.Answer.the-variants.{Word, Silence}
 use Rattle.lines.specs.declared.Line.{Line}
@@ -55,15 +56,15 @@ module _ {bin : List ℕ} {lines : List Line} (accepted : Accepted bin lines) wh
   rom-word (Ram lo hi w) mem a h = true-is-not-false refl h
 
   -- in the flippable range, while a page is asked for that no line names: silence, or the plain ROM
-  module _ (c : Plain) (a : Console) (flips : paged lines (a .0 / 4096) ≡ true) (turns : firstK (a .0 / 4096) ≤ a .0 / 256 % 16)
-      (unnamed : uses lines (a .0 / 4096) (suc (c .number (a .0 / 4096))) ≡ false) where
-    no-page : (o : Option Line) → lineAt lines (suc (c .number (a .0 / 4096))) (a .0) ≡ o → o ≡ none
+  module _ (c : Plain) (a : Console) (flips : paged lines (a .0 / chapterSize) ≡ true) (turns : firstK (a .0 / chapterSize) ≤ a .0 / 256 % 16)
+      (unnamed : uses lines (a .0 / chapterSize) (suc (c .number (a .0 / chapterSize))) ≡ false) where
+    no-page : (o : Option Line) → lineAt lines (suc (c .number (a .0 / chapterSize))) (a .0) ≡ o → o ≡ none
     no-page none e = refl
-    no-page (some l) e = true-is-not-false (uses-of (good accepted .fine) (suc (c .number (a .0 / 4096))) (a .0) l e) unnamed
+    no-page (some l) e = true-is-not-false (uses-of (good accepted .fine) (suc (c .number (a .0 / chapterSize))) (a .0) l e) unnamed
 
     by-plain : plainRead bin lines c a ≡ answerBy bin (c .ram) (lineAt lines 0 (a .0)) a
     unfolding plainRead shownLine
-    by-plain = rw (no-page (lineAt lines (suc (c .number (a .0 / 4096))) (a .0)) refl)
+    by-plain = rw (no-page (lineAt lines (suc (c .number (a .0 / chapterSize))) (a .0)) refl)
 
     pub unnamed-page : (plainRead bin lines c a ≡ Silence) ⊎ (ReadsRom c a)
     unnamed-page =
@@ -78,4 +79,4 @@ module _ {bin : List ℕ} {lines : List Line} (accepted : Accepted bin lines) wh
           reads = by-plain ∙ rw (r .found, rom-word (r .line .entry) (c .ram) a (r .rom));
         }))
         (λ h. inl (by-plain ∙ rw (bare-none (good accepted) (a .0) turns h)))
-        (under-or-bare (good accepted) (a .0 / 4096) flips)
+        (under-or-bare (good accepted) (a .0 / chapterSize) flips)

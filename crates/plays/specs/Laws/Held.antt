@@ -12,7 +12,7 @@ use borrow.Author.Tests.{eqb-true, eq-eqb, eqb-false, ne-eqb}
 use Rattle.basics.specs.Laws.Tests.{true-is-not-false}
 use Rattle.basics.specs.Options.{isSome}
 use Rattle.places.specs.declared.Console.{Console}
-use Rattle.places.specs.Limits.{lent}
+use Rattle.places.specs.Limits.{chapterSize, lent, pageSize}
 use Rattle.lines.specs.declared.Entry.{Entry}
 use Rattle.lines.specs.declared.Entry.the-variants.{Rom, Paged, Ram}
 use Rattle.lines.specs.declared.Width.the-variants.{Sixteen, Eight}
@@ -107,7 +107,7 @@ module _ (bin : List ℕ) {lines : List Line} (all : All Fine lines) where
       getD ram (placeOf lines t a .0) 0 ≡ writtenBy bin (l .entry) a
   unfolding placeOf
   loaded-word ram h t a l e =
-      let q : 4096 * pageOf lines (a .0 / 4096) t + a .0 % 4096 ≡ 256 * paragraphOf all t (a .0) + a .0 % 256 = omega arith in
+      let q : pageSize * pageOf lines (a .0 / chapterSize) t + a .0 % chapterSize ≡ 256 * paragraphOf all t (a .0) + a .0 % 256 = omega arith in
       rw q
       (h .words (paragraphOf all t (a .0)) (a .0 % 256) (ap isSome (line-there all t (a .0) l e)) (omega arith)
       ∙ word-there all t (a .0) l e bin)

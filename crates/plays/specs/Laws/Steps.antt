@@ -12,7 +12,7 @@ use Rattle.basics.specs.Laws.Tables.{past-table}
 use Rattle.basics.specs.Laws.Tests.{true-is-not-false, cases, and-left, and-right}
 use Rattle.basics.specs.Laws.Options.{some-is-not-none}
 use Rattle.places.specs.declared.Console.{Console}
-use Rattle.places.specs.Limits.{lentLimit, lent, paragraphs, chapters, flipEntries}
+use Rattle.places.specs.Limits.{chapterSize, lentLimit, lent, paragraphs, chapters, flipEntries}
 use Rattle.switches.specs.declared.Request.the-variants.{Entry}
 use Rattle.switches.specs.Flips.{firstK, asks}
 use Rattle.switches.specs.Banks.{BANKSW}
@@ -87,7 +87,7 @@ module _ {bin : List ℕ} {lines : List Line} (g : Good lines) (c : Cartridge) (
     (t : Tabled lines c number) (h : Held bin lines ram mem) (at : Console) where
   -- the line shown at the address
   abbrev shown : Option Line
-  shown = shownLine lines (number (at .0 / 4096)) at
+  shown = shownLine lines (number (at .0 / chapterSize)) at
 
   -- the cell that the address reaches
   abbrev reached : Cell
@@ -100,22 +100,22 @@ module _ {bin : List ℕ} {lines : List Line} (g : Good lines) (c : Cartridge) (
       (λ n s. flip-past g (n / 16) (n % 16) (omega arith))
 
   -- what the machine finds at the address: the permissions and the place of the line shown
-  chapter : at .0 / 256 / 16 ≡ at .0 / 4096
+  chapter : at .0 / 256 / 16 ≡ at .0 / chapterSize
   chapter = omega arith
 
   permissions-there : getD (c .permissions) (paragraph at) 0 ≡ kindOf shown
-  permissions-there = tabled-permissions g c number t (at .0 / 256) ∙ rw chapter (shows g (number (at .0 / 4096)) at .permissions)
+  permissions-there = tabled-permissions g c number t (at .0 / 256) ∙ rw chapter (shows g (number (at .0 / chapterSize)) at .permissions)
 
   module _ (l : Line) (e : shown ≡ some l) where
     line-there : lineAt lines (layer (l .entry)) (at .0) ≡ some l
-    line-there = shown-line g (number (at .0 / 4096)) at l e
+    line-there = shown-line g (number (at .0 / chapterSize)) at l e
 
     place-there : locate (getD (c .mapping) (paragraph at) 0) at .0 ≡ placeOf lines (layer (l .entry)) at .0
     place-there =
-        let m : getD (c .mapping) (at .0 / 256) 0 ≡ mappingAt lines (number (at .0 / 4096)) (at .0 / 256) =
+        let m : getD (c .mapping) (at .0 / 256) 0 ≡ mappingAt lines (number (at .0 / chapterSize)) (at .0 / 256) =
         t .mapping (at .0 / 256) (omega (arith, found-below (g .fine) (layer (l .entry)) (at .0) l line-there)) ∙ rw chapter in
-        let p : mappingAt lines (number (at .0 / 4096)) (at .0 / 256) * 256 + at .0 % 256 ≡ placeOf lines (layer (l .entry)) at .0 =
-        shows g (number (at .0 / 4096)) at .mapping l e in
+        let p : mappingAt lines (number (at .0 / chapterSize)) (at .0 / 256) * 256 + at .0 % 256 ≡ placeOf lines (layer (l .entry)) at .0 =
+        shows g (number (at .0 / chapterSize)) at .mapping l e in
         let b : placeOf lines (layer (l .entry)) at .0 < needed lines = place-below (g .fine) (layer (l .entry)) at l line-there in
         let s : placeOf lines (layer (l .entry)) at .0 % lentLimit ≡ placeOf lines (layer (l .entry)) at .0 = omega (arith, h .room) in
         rw (m, p, s)
@@ -158,7 +158,7 @@ module _ {bin : List ℕ} {lines : List Line} (g : Good lines) (c : Cartridge) (
   kept v f =
       kept-at v (lineAt lines 0 (at .0))
       (λ l q.
-      cases (isRam (l .entry)) (λ r. f l (ram-shown g (number (at .0 / 4096)) at l q r)) (λ r. r))
+      cases (isRam (l .entry)) (λ r. f l (ram-shown g (number (at .0 / chapterSize)) at l q r)) (λ r. r))
 
   -- and by the line that is shown
   Stores : ℕ → Type 0
@@ -221,19 +221,19 @@ module _ {bin : List ℕ} {lines : List Line} (g : Good lines) (c : Cartridge) (
     takes-nothing e = not-switched ∙ simp e
 
     entry : ℕ
-    entry = at .0 / 4096 * 16 + v % 16
+    entry = at .0 / chapterSize * 16 + v % 16
 
     asks-entry : isRequest at v ≡ true → asks at v ≡ Entry entry
     unfolding asks entry
     asks-entry e =
-        let q : v / 4096 ≡ at .0 / 4096 = eqb-true _ _ (and-left (eqb (v / 4096) (at .0 / 4096)) _ (and-right (eqb (at .0 % 4096) 0xFFF) _ e)) in
+        let q : v / 0x1000 ≡ at .0 / chapterSize = eqb-true _ _ (and-left (eqb (v / 0x1000) (at .0 / chapterSize)) _ (and-right (eqb (at .0 % chapterSize) 0xFFF) _ e)) in
         rw (e, q)
 
-    entry-small : paged lines (at .0 / 4096) ≡ true → entry < flipEntries
+    entry-small : paged lines (at .0 / chapterSize) ≡ true → entry < flipEntries
     unfolding entry
-    entry-small p = omega (arith, paged-below (g .fine) (at .0 / 4096) p)
+    entry-small p = omega (arith, paged-below (g .fine) (at .0 / chapterSize) p)
 
-    entry-chapter : entry / 16 ≡ at .0 / 4096
+    entry-chapter : entry / 16 ≡ at .0 / chapterSize
     unfolding entry
     entry-chapter = omega arith
 
@@ -241,42 +241,42 @@ module _ {bin : List ℕ} {lines : List Line} (g : Good lines) (c : Cartridge) (
     unfolding entry
     entry-page = omega arith
 
-    takes-by : isRequest at v ≡ true → taker ≡ cond (paged lines (at .0 / 4096) && leb 2 (at .0 / 4096)) (Flip entry) (Ram reached)
+    takes-by : isRequest at v ≡ true → taker ≡ cond (paged lines (at .0 / chapterSize) && leb 2 (at .0 / chapterSize)) (Flip entry) (Ram reached)
     takes-by e = not-switched ∙ simp (asks-entry e, flip-at entry, entry-chapter, pfe-is)
 
-    takes-flip : isRequest at v ≡ true → paged lines (at .0 / 4096) ≡ true → taker ≡ Flip entry
-    takes-flip e p = takes-by e ∙ simp (p, le-leb _ _ (paged-above (g .fine) (at .0 / 4096) p))
+    takes-flip : isRequest at v ≡ true → paged lines (at .0 / chapterSize) ≡ true → taker ≡ Flip entry
+    takes-flip e p = takes-by e ∙ simp (p, le-leb _ _ (paged-above (g .fine) (at .0 / chapterSize) p))
 
-    takes-ram : isRequest at v ≡ true → paged lines (at .0 / 4096) ≡ false → taker ≡ Ram reached
+    takes-ram : isRequest at v ≡ true → paged lines (at .0 / chapterSize) ≡ false → taker ≡ Ram reached
     takes-ram e p = takes-by e ∙ simp p
 
     -- what a write leaves of the tables and of the RAM, by its case
-    tables-by : (b q : Bool) → isRequest at v ≡ b → paged lines (at .0 / 4096) ≡ q → Tabled lines (writeOf c at v) (numberAfter number at v)
+    tables-by : (b q : Bool) → isRequest at v ≡ b → paged lines (at .0 / chapterSize) ≡ q → Tabled lines (writeOf c at v) (numberAfter number at v)
     unfolding leaves leavesReadable numberAfter
     tables-by true true e p =
         rw (takes-flip e p, e, not-accelerated, ← entry-chapter, ← entry-page) (tabled-flip t entry _ (entry-small p) (rw entry-chapter p))
-    tables-by true false e p = rw (takes-ram e p, e, not-accelerated) (tabled-idle t (at .0 / 4096) (v % 16) p)
+    tables-by true false e p = rw (takes-ram e p, e, not-accelerated) (tabled-idle t (at .0 / chapterSize) (v % 16) p)
     tables-by false q e p = rw (takes-nothing e, e, not-accelerated) t
 
-    request-last : isRequest at v ≡ true → at .0 % 4096 ≡ 0xFFF
-    request-last e = eqb-true (at .0 % 4096) 0xFFF (and-left (eqb (at .0 % 4096) 0xFFF) _ e)
+    request-last : isRequest at v ≡ true → at .0 % chapterSize ≡ 0xFFF
+    request-last e = eqb-true (at .0 % chapterSize) 0xFFF (and-left (eqb (at .0 % chapterSize) 0xFFF) _ e)
 
     -- what the taker leaves of the RAM, whatever flash is lent
     ram-by : (flash : List ℕ) (u : Taker) → taker ≡ u → writeRamOf c flash ram at v ≡ memoriesBy u (c .jlp .saves) (memories flash ram) at v .ram
     unfolding leavesRam
     ram-by flash u e = ap (λ (w : Taker). memoriesBy w (c .jlp .saves) (memories flash ram) at v .ram) e
 
-    ram-of : (flash : List ℕ) (b q : Bool) → isRequest at v ≡ b → paged lines (at .0 / 4096) ≡ q →
+    ram-of : (flash : List ℕ) (b q : Bool) → isRequest at v ≡ b → paged lines (at .0 / chapterSize) ≡ q →
         Held bin lines (writeRamOf c flash ram at v) (ramAfter (lineAt lines 0 (at .0)) mem at v)
     unfolding Stores
     ram-of flash true true e p =
-        let f : firstK (at .0 / 4096) ≤ at .0 / 256 % 16 = omega (arith, request-last e, first-small (at .0 / 4096)) in
+        let f : firstK (at .0 / chapterSize) ≤ at .0 / 256 % 16 = omega (arith, request-last e, first-small (at .0 / chapterSize)) in
         rw (ram-by flash (Flip entry) (takes-flip e p), kept-at v (lineAt lines 0 (at .0)) (λ l q. not-ram g (at .0) f p l q)) h
     ram-of flash true false e p = rw (ram-by flash (Ram reached) (takes-ram e p)) (held-write v)
     ram-of flash false q e p = rw (ram-by flash (Ram reached) (takes-nothing e)) (held-write v)
 
     pub tables-after : Tabled lines (writeOf c at v) (numberAfter number at v)
-    tables-after = tables-by (isRequest at v) (paged lines (at .0 / 4096)) refl refl
+    tables-after = tables-by (isRequest at v) (paged lines (at .0 / chapterSize)) refl refl
 
     pub ram-after : (flash : List ℕ) → Held bin lines (writeRamOf c flash ram at v) (ramAfter (lineAt lines 0 (at .0)) mem at v)
-    ram-after flash = ram-of flash (isRequest at v) (paged lines (at .0 / 4096)) refl refl
+    ram-after flash = ram-of flash (isRequest at v) (paged lines (at .0 / chapterSize)) refl refl
