@@ -105,9 +105,7 @@ fn given_limit() -> Limit {
 }
 
 fn refused(r: Refusal) {
-    files::say(b"result=refused\n");
-    files::line(b"code=", r.number as u64);
-    files::line(b"at=", r.place as u64);
+    files::refused(r.number as u64, r.place as u64);
 }
 
 fn show_answer(n: u32) {

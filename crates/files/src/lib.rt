@@ -20,6 +20,7 @@ pub use rule::kind_of;
 pub use rule::same_file;
 pub use rule::verdict;
 pub use saying::line;
+pub use saying::refused;
 pub use saying::say;
 pub use saying::stopped;
 pub use saying::stops;

@@ -91,3 +91,10 @@ pub fn stopped(file: &[u8], s: Stop) {
     say_why(why);
     line(b"error=", s.error as u64);
 }
+
+// A refusal: its number and its place.
+pub fn refused(number: u64, place: u64) {
+    say(b"result=refused\n");
+    line(b"code=", number);
+    line(b"at=", place);
+}

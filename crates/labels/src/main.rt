@@ -118,12 +118,6 @@ fn show_twice(label: &[u8], image: &[u8]) {
     }
 }
 
-fn refused(number: u64, place: u64) {
-    files::say(b"result=refused\n");
-    files::line(b"code=", number);
-    files::line(b"at=", place);
-}
-
 fn shelf_label<'a>(label: &'a [u8], image: &'a [u8]) {
     files::say(b"result=shown\n");
     let mut texts = 0;
@@ -140,11 +134,11 @@ fn shelf_label<'a>(label: &'a [u8], image: &'a [u8]) {
 fn answer<'a>(label: &'a [u8], image: &'a [u8]) {
     let r = lookup::refusal_of(label, image);
     if r.number != 0 {
-        refused(r.number as u64, r.place as u64);
+        files::refused(r.number as u64, r.place as u64);
         return;
     }
     if PAYLOAD_LIMIT < label.len() {
-        refused(12, 0);
+        files::refused(12, 0);
         return;
     }
     shelf_label(label, image);

@@ -58,9 +58,7 @@ fn flash_words(image: &[u8], most: usize) -> usize
 }
 
 fn refused(r: Refusal) {
-    files::say(b"result=refused\n");
-    files::line(b"code=", r.number as u64);
-    files::line(b"at=", r.place as u64);
+    files::refused(r.number as u64, r.place as u64);
 }
 
 fn sign_of(s: Shown) -> u8 {

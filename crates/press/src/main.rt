@@ -67,9 +67,7 @@ fn answer_of(b: Building) -> Answer {
 }
 
 fn refused(a: Answer, bin: &[u8], cfg: &[u8]) {
-    files::say(b"result=refused\n");
-    files::line(b"code=", a.number);
-    files::line(b"at=", a.place);
+    files::refused(a.number, a.place);
     if a.number == 27 {
         files::line(b"with=", rival_of(bin, cfg));
     }

@@ -48,9 +48,7 @@ fn show(s: Shown) {
         files::line(b"blocks=", s.blocks);
         files::line(b"words=", s.words);
     } else {
-        files::say(b"result=refused\n");
-        files::line(b"code=", s.number);
-        files::line(b"at=", s.place);
+        files::refused(s.number, s.place);
     }
 }
 

@@ -51,12 +51,6 @@ fn shown_of(s: Salvaging) -> Shown {
     }
 }
 
-fn refused(s: Shown) {
-    files::say(b"result=refused\n");
-    files::line(b"code=", s.number);
-    files::line(b"at=", s.place);
-}
-
 fn stopped_at(w: Stopped) -> bool {
     match w {
         Stopped::Nowhere => files::say(b"stopped=none\n"),
@@ -98,7 +92,7 @@ fn salvage(image: &[u8], inputs: [Seen; INPUTS]) {
     let a = shown_of(recovery::answer(image, &mut out));
     let n = a.length;
     if a.number != 0 {
-        refused(a);
+        files::refused(a.number, a.place);
         return;
     }
     // never so: 29 would have come first

@@ -43,12 +43,6 @@ fn answer_of(u: Unbuilding) -> Answer {
     }
 }
 
-fn refused(a: Answer) {
-    files::say(b"result=refused\n");
-    files::line(b"code=", a.number);
-    files::line(b"at=", a.place);
-}
-
 fn written(a: Answer) {
     files::say(b"result=written\n");
     files::line(b"bin=", a.bin as u64);
@@ -77,7 +71,7 @@ fn unpress(image: &[u8], input: Seen) {
     let n = a.bin;
     let m = a.cfg;
     if a.number != 0 {
-        refused(a);
+        files::refused(a.number, a.place);
         return;
     }
     // never so: 29 would have come first
