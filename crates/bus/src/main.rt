@@ -19,38 +19,11 @@ fn file_room() -> [u8; 4194305]
     [0; 4194305]
 }
 
-fn blank_ram() -> [u16; 524288]
-    ensures { λ r. ⌜ 524288 ≡ length r ⌝ }
-{
-    [0; 524288]
-}
-
-// The most words that an image can ask for: 682 sectors of 768, all erased.
-fn erased_flash() -> [u16; 523776]
-    ensures { λ r. ⌜ 523776 ≡ length r ⌝ }
-{
-    [0xFFFF; 523776]
-}
-
 // Room for the answers of any list: a read takes 15 bytes with the end of its line.
 fn answer_room() -> [u32; 279620]
     ensures { λ r. ⌜ 279620 ≡ length r ⌝ }
 {
     [0; 279620]
-}
-
-// The words of flash that an image asks for, of so many at most; none where it is too short to ask.
-fn flash_words(image: &[u8], most: usize) -> usize
-    ensures { λ r. ⌜ r ≤ most ⌝ }
-{
-    if image.len() < header::UID_AT {
-        return 0;
-    }
-    let from = header::FLAGS_AT;
-    let to = header::UID_AT;
-    let j = tables::jlp_of(&image[from..to]);
-    let saves = j.saves;
-    basics::least(saves.sectors as usize * flash::SECTOR_WORDS, most)
 }
 
 // A limit that is given, or that what is given is none.
@@ -181,7 +154,7 @@ fn play(file: &mut [u8], ram: &mut [u16], flash: &mut [u16]) {
         files::stopped(b"IMAGE", t.stop);
         return;
     }
-    let f = flash_words(&file[..n], flash.len());
+    let f = lending::flash_words(&file[..n], flash.len());
     let loading = load::load(&file[..n], ram, &flash[..f]);
     let r = loading.refusal;
     if r.number != 0 {
@@ -194,7 +167,7 @@ fn play(file: &mut [u8], ram: &mut [u16], flash: &mut [u16]) {
 
 fn main() {
     let mut file = file_room();
-    let mut ram = blank_ram();
-    let mut flash = erased_flash();
+    let mut ram = lending::blank_ram();
+    let mut flash = lending::erased_flash();
     play(&mut file, &mut ram, &mut flash);
 }

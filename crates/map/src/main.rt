@@ -2,7 +2,7 @@
 // has some, then `words=`, `jlp=` and `flash=`. Or `result=refused` with number and place, where the load refuses; or `result=stopped` with the file and
 // the reason.
 ghost use mathlib.Core.Path.{_≡_};
-ghost use Prim.Native.Nat.{_<_, _≤_};
+ghost use Prim.Native.Nat.{_<_};
 ghost use lib.ListN.{length};
 ghost use Rattle.places.specs.Limits.{chapters};
 use basics::Refusal;
@@ -28,33 +28,6 @@ fn file_room() -> [u8; 2097153]
     ensures { λ r. ⌜ 2097153 ≡ length r ⌝ }
 {
     [0; 2097153]
-}
-
-fn blank_ram() -> [u16; 524288]
-    ensures { λ r. ⌜ 524288 ≡ length r ⌝ }
-{
-    [0; 524288]
-}
-
-// The most words that an image can ask for: 682 sectors of 768, all erased.
-fn erased_flash() -> [u16; 523776]
-    ensures { λ r. ⌜ 523776 ≡ length r ⌝ }
-{
-    [0xFFFF; 523776]
-}
-
-// The words of flash that an image asks for, of so many at most; none where it is too short to ask.
-fn flash_words(image: &[u8], most: usize) -> usize
-    ensures { λ r. ⌜ r ≤ most ⌝ }
-{
-    if image.len() < header::UID_AT {
-        return 0;
-    }
-    let from = header::FLAGS_AT;
-    let to = header::UID_AT;
-    let j = tables::jlp_of(&image[from..to]);
-    let saves = j.saves;
-    basics::least(saves.sectors as usize * flash::SECTOR_WORDS, most)
 }
 
 fn refused(r: Refusal) {
@@ -177,7 +150,7 @@ fn map(file: &mut [u8], ram: &mut [u16], flash: &[u16]) {
         files::stopped(b"IMAGE", t.stop);
         return;
     }
-    let f = flash_words(&file[..n], flash.len());
+    let f = lending::flash_words(&file[..n], flash.len());
     let loading = load::load(&file[..n], ram, &flash[..f]);
     let r = loading.refusal;
     if r.number != 0 {
@@ -189,7 +162,7 @@ fn map(file: &mut [u8], ram: &mut [u16], flash: &[u16]) {
 
 fn main() {
     let mut file = file_room();
-    let mut ram = blank_ram();
-    let flash = erased_flash();
+    let mut ram = lending::blank_ram();
+    let flash = lending::erased_flash();
     map(&mut file, &mut ram, &flash);
 }

@@ -1,0 +1,17 @@
+-- The flash that is lent to a load: as many words as the image asks for (02, W-209).
+use Prim.Native.Nat.{_*_, ℕ}
+use mathlib.Core.List.{List}
+use mathlib.Core.Bool.{cond}
+use lib.Dec.{ltb}
+use lib.ListN.{length}
+use Rattle.header.specs.Header.{flagsOf, uidAt}
+use Rattle.flash.specs.Flash.{sectorLimit, sectorWords}
+use Rattle.tables.specs.Tables.{sectorsOf}
+
+-- the most that an image can ask for: 682 sectors of 768 words
+abbrev pub flashLimit : ℕ
+flashLimit = sectorLimit * sectorWords
+
+-- what its flags ask for; none where it is too short to have flags
+unfoldable pub askedFlash : List ℕ → ℕ
+askedFlash image = cond (ltb (length image) uidAt) 0 (sectorsOf (flagsOf image) * sectorWords)

@@ -1,0 +1,2 @@
+-- What a program lends to a load.
+pub mod Lending
