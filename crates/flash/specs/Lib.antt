@@ -3,5 +3,4 @@ pub mod Flash
 pub mod Registers
 pub mod Plain
 pub mod Shown
-pub mod Kept
 pub mod Laws

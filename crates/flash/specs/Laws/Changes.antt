@@ -12,7 +12,6 @@ use Rattle.places.specs.declared.Console.{Console}
 use Rattle.flash.specs.declared.Command.{Command}
 use Rattle.flash.specs.declared.Command.the-variants.{Read, Write, Erase, Nothing}
 use Rattle.flash.specs.Flash.{rowWords, sectorRows, sectorWords, erasedWord, rowPlace, sectorPlace, ramPlace, rowLent, sectorLent, emptyAt, rowWord, ramWord, readable, writable, erasable, readRam, writtenFlash, erasedFlash, Memories, commandActs, acted, actedAll}
-use Rattle.flash.specs.Kept.{DropsRow}
 use Rattle.flash.specs.Laws.Lent.{row-in, row-past, row-short, sector-in, sector-row, ram-in, readable-ram, writable-row}
 
 -- a command that does not act is dropped: it changes no word of flash or RAM
@@ -22,6 +21,11 @@ dropped sectors m (Read row at) e = rw e
 dropped sectors m (Write row at) e = rw e
 dropped sectors m (Erase row) e = rw e
 dropped sectors m Nothing e = refl
+
+-- every command on a row is dropped, and changes nothing
+abbrev pub DropsRow : ℕ → Memories → ℕ → Type 0
+DropsRow sectors m row =
+    ((at : Console) → acted sectors m (Read row at) ≡ m) × ((at : Console) → acted sectors m (Write row at) ≡ m) × (acted sectors m (Erase row) ≡ m)
 
 -- a row that is not there drops every command: one out of range, and one that the lent flash does not hold whole
 module _ (sectors : ℕ) (m : Memories) (row : ℕ) where

@@ -1,8 +1,8 @@
--- What is kept: a row that no command touches, and one in use that is not erased; and what was written is read back.
+-- What is kept: a row that no command touches, and one in use that is not erased; and what was written is read back (02, W-209; 000, JF.wrcmd).
 use Prim.Native.Nat.{ℕ, _+_, _/_, _<_}
 use mathlib.Core.Path.{_≡_, refl, ap, _∙_}
 use mathlib.Core.List.{List, [], _∷_}
-use mathlib.Core.Bool.{true, false}
+use mathlib.Core.Bool.{Bool, true, false, _||_}
 use native.Mathlib.Omega.{arith}
 use lib.ListN.{length, getD}
 use lib.Dec.{eqb}
@@ -13,10 +13,34 @@ use Rattle.basics.specs.Laws.Tests.{cases, or-false-left}
 use Rattle.places.specs.declared.Console.{Console}
 use Rattle.flash.specs.declared.Command.{Command}
 use Rattle.flash.specs.declared.Command.the-variants.{Read, Write, Erase, Nothing}
-use Rattle.flash.specs.Flash.{rowWords, sectorRows, erasedWord, rowPlace, ramPlace, rowLent, ramLent, emptyAt, rowWord, readable, writable, Memories, commandActs, acted, actedAll}
-use Rattle.flash.specs.Kept.{erasesRow, touchesRow, SameRow, ReadBack}
+use Rattle.flash.specs.Flash.{rowWords, sectorRows, erasedWord, rowPlace, ramPlace, rowLent, ramLent, emptyAt, rowWord, ramWord, readable, writable, Memories, commandActs, acted, actedAll}
 use Rattle.flash.specs.Laws.Lent.{readable-of, writable-row}
 use Rattle.flash.specs.Laws.Changes.{dropped, erase-out, write-in, write-out, write-full, read-in, length-flash-all, length-ram-all}
+
+-- an erase of the row's sector; a write of the row; either
+abbrev pub erasesRow : ℕ → Command → Bool
+erasesRow row (Read r at) = false
+erasesRow row (Write r at) = false
+erasesRow row (Erase r) = eqb (row / sectorRows) (r / sectorRows)
+erasesRow row Nothing = false
+
+abbrev pub writesRow : ℕ → Command → Bool
+writesRow row (Read r at) = false
+writesRow row (Write r at) = eqb row r
+writesRow row (Erase r) = false
+writesRow row Nothing = false
+
+abbrev pub touchesRow : ℕ → Command → Bool
+touchesRow row c = writesRow row c || erasesRow row c
+
+-- two flashes hold the same row
+abbrev pub SameRow : ℕ → List ℕ → List ℕ → Type 0
+SameRow row s t = (i : ℕ) → i < rowWords → rowWord t row i ≡ rowWord s row i
+
+-- a row is written from one address; behind that and some more commands a read to another address gives the words that were written
+abbrev pub ReadBack : ℕ → Memories → ℕ → Console → List Command → Console → Type 0
+ReadBack sectors m row at cs to =
+    (i : ℕ) → i < rowWords → ramWord (acted sectors (actedAll sectors m (Write row at ∷ cs)) (Read row to) .ram) to i ≡ ramWord (m .ram) at i
 
 -- equal words are empty alike
 empty-as : (t : List ℕ) (b : ℕ) (s : List ℕ) (a : ℕ) → ((i : ℕ) → i < rowWords → getD t (b + i) 0 ≡ getD s (a + i) 0) → emptyAt t b ≡ emptyAt s a
