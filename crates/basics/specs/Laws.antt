@@ -16,6 +16,7 @@ pub mod Octets
 pub mod Xor
 pub mod Lay
 pub mod Each
+pub mod Listed
 pub mod Lowest
 pub mod Options
 pub mod Nth

@@ -3,6 +3,7 @@ pub mod Lists
 pub mod Bytes
 pub mod Tables
 pub mod Counts
+pub mod Listed
 pub mod Rows
 pub mod Refusals
 pub mod Same

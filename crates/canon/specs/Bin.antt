@@ -8,7 +8,7 @@ use Rattle.switches.specs.Flips.{firstK}
 use Rattle.plan.specs.Image.{base, pageAt}
 use Rattle.plan.specs.Plan.{Plan, hasPage}
 use Rattle.canon.specs.Canonical.{isRom, pageWords}
-use Rattle.canon.specs.Listed.{listed}
+use Rattle.basics.specs.Listed.{listed}
 
 -- Locutus words a to a + n - 1, where Locutus word i holds w i
 abbrev pub wordsFrom : (ℕ → ℕ) → ℕ → ℕ → List ℕ

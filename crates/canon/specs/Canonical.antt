@@ -16,7 +16,7 @@ use Rattle.lines.specs.declared.Width.the-variants.{Eight, Sixteen}
 use Rattle.plan.specs.Fewest.{starts}
 use Rattle.plan.specs.Plan.{Plan, hasPage, kinds}
 use Rattle.plan.specs.Valid.{isRamKind}
-use Rattle.canon.specs.Listed.{listed}
+use Rattle.basics.specs.Listed.{listed}
 
 -- how many of the n paragraphs from p on have p's kind, one after the other
 unfoldable pub reach : (ℕ → ℕ) → ℕ → ℕ → ℕ

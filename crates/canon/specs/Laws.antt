@@ -1,5 +1,4 @@
 -- Theorems over the definitions.
-pub mod Listed
 pub mod Runs
 pub mod Lines
 pub mod OfPlan

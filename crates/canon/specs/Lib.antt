@@ -1,5 +1,4 @@
 -- The canonical lines of a plan and their BIN, and that they build every image that some BIN and lines build.
-pub mod Listed
 pub mod Canonical
 pub mod Bin
 pub mod Made

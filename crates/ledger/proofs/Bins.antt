@@ -21,8 +21,8 @@ use Rattle.plan.specs.Plan.{hasPage}
 use Rattle.canon.specs.Bin.{be16, canonicalBin, canonicalWords, orZero, pagePlace, pagedWords, plainPlace, romWords, wordsFrom}
 use Rattle.canon.specs.Canonical.{isRom, pageWords}
 use Rattle.canon.specs.Laws.Bin.{all-long, binSize, length-bin, length-bytes, rising}
-use Rattle.canon.specs.Laws.Listed.{length-more}
-use Rattle.canon.specs.Listed.{listed}
+use Rattle.basics.specs.Laws.Listed.{length-more}
+use Rattle.basics.specs.Listed.{listed}
 use Rattle.ledger.specs.Held.{planIn, wordsIn}
 use Rattle.ledger.specs.Laws.Held.{kind-in, page-in}
 

@@ -16,8 +16,8 @@ use Rattle.lines.specs.declared.Line.{Line}
 use Rattle.plan.specs.Plan.{Plan, hasPage}
 use Rattle.canon.specs.Canonical.{mappingEntries, pageEntry, ramEntry, romEntry, startsRam, startsRom}
 use Rattle.canon.specs.Laws.Lines.{canonicalLines, line, memattrLine, pageLine, ramLine, romLine}
-use Rattle.canon.specs.Laws.Listed.{length-listed}
-use Rattle.canon.specs.Listed.{listed}
+use Rattle.basics.specs.Laws.Listed.{length-listed}
+use Rattle.basics.specs.Listed.{listed}
 use Rattle.ledger.specs.Code.Lists.{added, listOf, listingOf, mappingLines, romLines, shown}
 use Rattle.ledger.specs.Held.{planIn}
 use Rattle.ledger.specs.Laws.Held.{page-in}

@@ -6,13 +6,14 @@ use mathlib.Core.Bool.{Bool, true, false}
 use native.Mathlib.Omega.{arith}
 use lib.ListN.{length, getD, set, length-append, length-set}
 use borrow.Rule.Slice.PartMut.{putMid}
+use Rattle.basics.specs.Listed.{listed}
 use Rattle.basics.specs.Lists.{joined}
 use Rattle.basics.specs.Laws.Wrote.{Wrote, wrote-none, wrote-long, wrote-all, wrote-set, wrote-part}
 use Rattle.places.specs.Places.{locutus}
 use Rattle.places.specs.Limits.{locutusParagraphs, paragraphSize}
 use Rattle.hunk.specs.Hunk.{hunk, payloadSize}
 use Rattle.blocks.specs.Blocks.{frameSize, endMark}
-use Rattle.save.specs.Chosen.{paragraphHunk, chosen, hunkBlock}
+use Rattle.save.specs.Chosen.{chosen, hunkBlock}
 use Rattle.save.specs.Writing.{isMarked, paragraphOf}
 use Rattle.save.specs.Code.Writing.{blockLimit, hunkBytes}
 use Rattle.save.specs.Laws.Chosen.{bytes-on, bytes-off, bytes-up, length-hunk-block}
@@ -45,7 +46,7 @@ pub record Summing (ram : List ℕ) (marks : List Bool) (long p : ℕ) : Type 0 
   pub is : long ≡ length (upTo ram marks p)
 
 pub sum-none : (ram : List ℕ) (marks : List Bool) → Summing ram marks 0 0
-unfolding chosen joined
+unfolding listed joined
 sum-none ram marks = record { up = omega arith; few = omega arith; is = refl }
 
 module _ (ram : List ℕ) (marks : List Bool) (long p : ℕ) (c : Summing ram marks long p) where
@@ -72,7 +73,7 @@ pub record Marking (ram : List ℕ) (marks : List Bool) (out₀ out : List ℕ) 
   pub place : at ≡ length (upTo ram marks p)
 
 pub mark-none : (ram : List ℕ) (marks : List Bool) (out : List ℕ) → length out ≡ length (hunkBytes ram marks) + 1 → Marking ram marks out out 0 0
-unfolding chosen joined
+unfolding listed joined
 mark-none ram marks out l = record { up = omega arith; fits = l; wrote = wrote-none out; place = refl }
 
 module _ (ram : List ℕ) (marks : List Bool) (out₀ out : List ℕ) (at p : ℕ) (c : Marking ram marks out₀ out at p) where

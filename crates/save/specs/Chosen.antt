@@ -1,10 +1,11 @@
 -- Which paragraphs of Locutus RAM an image names, and with which words: those that a test chooses, rising; and the blocks that they make
 -- (01, How an image is laid out by the builder).
-use Prim.Native.Nat.{ℕ, zero, suc, _*_}
+use Prim.Native.Nat.{ℕ, _*_}
 use mathlib.Core.List.{List, [], _∷_, _++_, map}
 use mathlib.Core.Path.{_≡_}
-use mathlib.Core.Bool.{Bool, cond}
+use mathlib.Core.Bool.{Bool}
 use lib.ListN.{length}
+use Rattle.basics.specs.Listed.{listed}
 use Rattle.places.specs.Places.{locutus}
 use Rattle.places.specs.Limits.{paragraphs, paragraphSize}
 use Rattle.header.specs.Header.{flagsSize, uidSize, headerOf}
@@ -18,9 +19,8 @@ abbrev pub paragraphHunk : ℕ → List ℕ → Hunk
 paragraphHunk p words = hunk (locutus (paragraphSize * p)) words
 
 -- a hunk for each paragraph below n that is chosen
-unfoldable pub chosen : ℕ → (ℕ → Bool) → (ℕ → List ℕ) → List Hunk
-chosen zero on words = []
-chosen (suc p) on words = chosen p on words ++ cond (on p) (paragraphHunk p (words p) ∷ []) []
+abbrev pub chosen : ℕ → (ℕ → Bool) → (ℕ → List ℕ) → List Hunk
+chosen n on words = listed n on (λ p. paragraphHunk p (words p))
 
 -- the blocks of an image: the tables, then the hunks
 abbrev pub tablesBlock : Tables → List ℕ

@@ -31,9 +31,9 @@ use Rattle.behind.specs.Laws.Counts.{count-all}
 use Rattle.canon.specs.Bin.{be16, canonicalBin, canonicalWords, orZero, pagePlace, pagedWords, plainPlace, romWords, wordsFrom}
 use Rattle.canon.specs.Canonical.{isRom, pageEntry, pageOffset, pageWords, ramEntry, romEntry, romOffset, runAt, startsRam, startsRom}
 use Rattle.canon.specs.Laws.Lines.{all-append, all-listed, canonicalLines, pageLine, ramLine, romLine}
-use Rattle.canon.specs.Laws.Listed.{length-more, word-listed}
+use Rattle.basics.specs.Laws.Listed.{length-more, word-listed}
 use Rattle.canon.specs.Laws.OfPlan.{OfPage, OfRun, page-of, ram-of, rom-of}
-use Rattle.canon.specs.Listed.{listed}
+use Rattle.basics.specs.Listed.{listed}
 
 -- how many words the lines have
 abbrev pub binSize : Plan → ℕ

@@ -34,9 +34,9 @@ use Rattle.behind.specs.Laws.Chapter.{has-pages}
 use Rattle.behind.specs.Laws.Star.{Same}
 use Rattle.canon.specs.Canonical.{isRom, startsRam, startsRom}
 use Rattle.canon.specs.Laws.Lines.{all-append, all-listed, canonicalLines, pageLine, ramLine, romLine}
-use Rattle.canon.specs.Laws.Listed.{length-listed}
+use Rattle.basics.specs.Laws.Listed.{length-listed}
 use Rattle.canon.specs.Laws.OfPlan.{Of, OfPage, OfRun, each-of, kind-allowed, kind-loud, kind-some, page-of, plan-of-lines, ram-above, ram-of, rom-of}
-use Rattle.canon.specs.Listed.{listed}
+use Rattle.basics.specs.Listed.{listed}
 
 -- shapes
 pub record Loud (p : ℕ) : Type 0 where

@@ -21,8 +21,8 @@ use Rattle.lines.specs.declared.Line.{Line}
 use Rattle.rules.specs.Code.Clashes.{Numbered}
 use Rattle.plan.specs.Plan.{Plan, hasPage}
 use Rattle.canon.specs.Canonical.{mappingEntries, pageEntry, ramEntry, romEntry, startsRam, startsRom}
-use Rattle.canon.specs.Laws.Listed.{each-listed}
-use Rattle.canon.specs.Listed.{listed}
+use Rattle.basics.specs.Laws.Listed.{each-listed}
+use Rattle.basics.specs.Listed.{listed}
 
 -- the first line names a section, the entries of [mapping] follow; then, in a line of its own, [memattr]
 abbrev pub line : ℕ → Entry → Line

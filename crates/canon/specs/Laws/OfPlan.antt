@@ -32,7 +32,7 @@ use Rattle.behind.specs.Laws.Star.{Same}
 use Rattle.canon.specs.Canonical.{ramWidth, runAt, startsRam, startsRom}
 use Rattle.canon.specs.Laws.Lines.{all-append, all-listed, canonicalLines, listed-some, pageLine, ramLine, romLine, some-append}
 use Rattle.canon.specs.Laws.Runs.{Run, reach-far, reach-most, reach-same, run-of}
-use Rattle.canon.specs.Listed.{listed}
+use Rattle.basics.specs.Listed.{listed}
 
 -- a line of a run; a line of a page
 pub record OfRun (q : Plan) (e : Entry) : Type 0 where

@@ -1,14 +1,14 @@
 -- The canonical BIN is one of the words that the plan covers: where two images agree on those, it is the same.
-use Prim.Native.Nat.{_%_, _*_, _+_, _/_, _<_, _≤_, suc, zero, ℕ}
+use Prim.Native.Nat.{_%_, _*_, _+_, _/_, _<_, _≤_, ℕ}
 use mathlib.Core.Path.{_∙_, _≡_, ap, ap₂, refl}
 use mathlib.Core.List.{List, _++_}
-use mathlib.Core.Bool.{Bool, _&&_, _||_, true}
+use mathlib.Core.Bool.{_&&_, _||_, true}
 use native.Mathlib.Omega.{arith}
 use lib.Dec.{eqb, leb}
 use borrow.Author.Tests.{eq-eqb, eqb-true, le-leb, ne-eqb}
 use Rattle.basics.specs.Laws.Counts.{any-of}
 use Rattle.basics.specs.Laws.Tables.{table-same}
-use Rattle.basics.specs.Laws.Tests.{and-true, cases, or-left, or-right}
+use Rattle.basics.specs.Laws.Tests.{and-true, or-left, or-right}
 use Rattle.basics.specs.Lists.{flat, joined}
 use Rattle.switches.specs.Flips.{firstK}
 use Rattle.switches.specs.Laws.Flips.{first-small}
@@ -16,14 +16,7 @@ use Rattle.plan.specs.Image.{base, coveredOf, holdsPage, holdsPlain, pageAt}
 use Rattle.plan.specs.Plan.{Plan, hasPage, kinds}
 use Rattle.canon.specs.Bin.{be16, canonicalBin, canonicalWords, orZero, pagePlace, pagedWords, plainPlace, romWords, wordsFrom}
 use Rattle.canon.specs.Canonical.{isRom, pageWords}
-use Rattle.canon.specs.Listed.{listed}
-
-listed-same : {A : Type 0} (n : ℕ) (on : ℕ → Bool) (f g : ℕ → A) → ((j : ℕ) → j < n → on j ≡ true → f j ≡ g j) → listed n on f ≡ listed n on g
-unfolding listed
-listed-same zero on f g h = refl
-listed-same (suc n) on f g h =
-    ap₂ _++_ (listed-same n on f g (λ j l. h j (omega arith)))
-    (cases (on n) (λ e. rw (e, h n (omega arith) e)) (λ e. rw e))
+use Rattle.basics.specs.Laws.Listed.{listed-same}
 
 module _ (q : Plan) where
   -- a word of plain ROM, and of a page, is in a paragraph that is covered
@@ -60,14 +53,16 @@ module _ (q : Plan) where
     roms : romWords q w ≡ romWords q v
     roms =
         ap flat
-        (listed-same 256 (isRom q) (λ p. wordsFrom w (plainPlace q p) 256) (λ p. wordsFrom v (plainPlace q p) 256)
+        (listed-same 256 (isRom q) (isRom q) (λ p. wordsFrom w (plainPlace q p) 256) (λ p. wordsFrom v (plainPlace q p) 256)
+        (λ p h. refl)
         (λ p h e.
         table-same 0 256 (λ i. w (plainPlace q p + i)) (λ i. v (plainPlace q p + i)) (λ i l. same (plainPlace q p + i) (plain-covered p i h e l))))
 
     pages : pagedWords q w ≡ pagedWords q v
     pages =
         ap flat
-        (listed-same 256 (hasPage q) (λ n. wordsFrom w (pagePlace q n) (pageWords (n / 16))) (λ n. wordsFrom v (pagePlace q n) (pageWords (n / 16)))
+        (listed-same 256 (hasPage q) (hasPage q) (λ n. wordsFrom w (pagePlace q n) (pageWords (n / 16))) (λ n. wordsFrom v (pagePlace q n) (pageWords (n / 16)))
+        (λ n h. refl)
         (λ n h e.
         table-same 0 (pageWords (n / 16)) (λ i. w (pagePlace q n + i)) (λ i. v (pagePlace q n + i)) (λ i l. same (pagePlace q n + i) (page-covered n i h e l))))
 

@@ -11,7 +11,7 @@ use Rattle.lines.specs.declared.Line.{Line}
 use Rattle.plan.specs.Plan.{Plan, hasPage}
 use Rattle.canon.specs.Canonical.{mappingEntries, startsRom}
 use Rattle.canon.specs.Laws.Lines.{canonicalLines, pageLine, romLine}
-use Rattle.canon.specs.Listed.{listed}
+use Rattle.basics.specs.Listed.{listed}
 use Rattle.ledger.specs.declared.Found.{Found}
 use Rattle.ledger.specs.declared.Listing.{Listing}
 

@@ -1,18 +1,18 @@
 -- The chosen paragraphs: one more of them, how many they are, and what holds of each; the bytes of their blocks; and the length of
 -- an image as the sum of its header, its blocks and its end.
 use Prim.Native.Nat.{ℕ, zero, suc, _+_, _*_, _≤_, _<_}
-use mathlib.Core.List.{List, [], _∷_, _++_, append-nil, append-assoc}
-use mathlib.Core.Path.{_≡_, refl, ap, _∙_}
-use mathlib.Core.Bool.{Bool, true, false, cond}
+use mathlib.Core.List.{List, [], _∷_, _++_, append-assoc}
+use mathlib.Core.Path.{_≡_, ap, _∙_}
+use mathlib.Core.Bool.{Bool, true, false}
 use mathlib.Core.Logic.{⊎-elim}
 use native.Mathlib.Omega.{arith}
-use native.Mathlib.Numerals.{add-one}
 use native.Mathlib.Nat.{eq-or-lt-of-le}
 use lib.ListN.{length, length-append}
-use Rattle.basics.specs.Lists.{joined, flat, Each, none, also}
+use Rattle.basics.specs.Lists.{joined, flat, Each}
 use Rattle.basics.specs.Counts.{count}
-use Rattle.basics.specs.Laws.Each.{joined-append, joined-more, flat-map, each-append}
-use Rattle.basics.specs.Laws.Tests.{cases}
+use Rattle.basics.specs.Laws.Each.{joined-append, joined-more, flat-map}
+use Rattle.basics.specs.Laws.Listed.{listed-on, listed-off, length-listed, each-listed, listed-same}
+use Rattle.basics.specs.Listed.{listed}
 use Rattle.places.specs.Limits.{paragraphSize}
 use Rattle.header.specs.Header.{headerSize, headerOf}
 use Rattle.header.specs.Laws.Header.{length-header}
@@ -28,28 +28,18 @@ use Rattle.save.specs.Chosen.{paragraphHunk, chosen, tablesBlock, hunkBl
 module _ (on : ℕ → Bool) (words : ℕ → List ℕ) where
   -- one paragraph more
   pub chosen-on : (p : ℕ) → on p ≡ true → chosen (p + 1) on words ≡ chosen p on words ++ (paragraphHunk p (words p) ∷ [])
-  unfolding chosen
-  chosen-on p e = rw (add-one, e)
+  chosen-on p e = listed-on on (λ q. paragraphHunk q (words q)) p e
 
   pub chosen-off : (p : ℕ) → on p ≡ false → chosen (p + 1) on words ≡ chosen p on words
-  unfolding chosen
-  chosen-off p e = rw (add-one, e) (append-nil (chosen p on words))
+  chosen-off p e = listed-off on (λ q. paragraphHunk q (words q)) p e
 
   -- as many as the test passes
   pub length-chosen : (n : ℕ) → length (chosen n on words) ≡ count on n
-  unfolding chosen count
-  length-chosen zero = refl
-  length-chosen (suc n) =
-      length-append (chosen n on words) (cond (on n) (paragraphHunk n (words n) ∷ []) [])
-      ∙ cases (on n) (λ e. rw e (omega (arith, length-chosen n))) (λ e. rw e (omega (arith, length-chosen n)))
+  length-chosen n = length-listed n on (λ p. paragraphHunk p (words p))
 
   -- what holds of each paragraph that is chosen
   pub chosen-each : {P : Hunk → Type 0} (n : ℕ) → ((p : ℕ) → p < n → on p ≡ true → P (paragraphHunk p (words p))) → Each P (chosen n on words)
-  unfolding chosen
-  chosen-each zero h = none
-  chosen-each (suc n) h =
-      each-append (chosen n on words) (cond (on n) (paragraphHunk n (words n) ∷ []) []) (chosen-each n (λ p l e. h p (omega arith) e))
-      (cases (on n) (λ e. rw e (also (h n (omega arith) e) none)) (λ e. rw e none))
+  chosen-each n h = each-listed n on (λ p. paragraphHunk p (words p)) h
 
   -- the bytes of their blocks: one more, none more, and fewer for fewer paragraphs
   pub bytes-on : (p : ℕ) → on p ≡ true → joined hunkBlock (chosen (p + 1) on words) ≡ joined hunkBlock (chosen p on words) ++ hunkBlock (paragraphHunk p (words p))
@@ -59,7 +49,7 @@ module _ (on : ℕ → Bool) (words : ℕ → List ℕ) where
   bytes-off p e = ap (joined hunkBlock) (chosen-off p e)
 
   bytes-next : (n : ℕ) → length (joined hunkBlock (chosen n on words)) ≤ length (joined hunkBlock (chosen (suc n) on words))
-  unfolding chosen
+  unfolding listed
   bytes-next n = rw (joined-append, length-append) (omega arith)
 
   pub bytes-up : (p n : ℕ) → p ≤ n → length (joined hunkBlock (chosen p on words)) ≤ length (joined hunkBlock (chosen n on words))
@@ -68,11 +58,8 @@ module _ (on : ℕ → Bool) (words : ℕ → List ℕ) where
 
 -- paragraphs chosen by tests that agree, with words that agree where they are chosen
 pub chosen-same : (n : ℕ) (on on′ : ℕ → Bool) (w w′ : ℕ → List ℕ) → ((p : ℕ) → p < n → on p ≡ on′ p) → ((p : ℕ) → p < n → on′ p ≡ true → w p ≡ w′ p) → chosen n on w ≡ chosen n on′ w′
-unfolding chosen
-chosen-same zero on on′ w w′ h k = refl
-chosen-same (suc n) on on′ w w′ h k =
-    rw (h n (omega arith), chosen-same n on on′ w w′ (λ p l. h p (omega arith)) (λ p l e. k p (omega arith) e))
-    (cases (on′ n) (λ e. rw (e, k n (omega arith) e)) (λ e. rw e))
+chosen-same n on on′ w w′ h k =
+    listed-same n on on′ (λ p. paragraphHunk p (w p)) (λ p. paragraphHunk p (w′ p)) h (λ p l e. ap (paragraphHunk p) (k p l e))
 
 -- a hunk has a paragraph's words, and they lie in n words of RAM
 pub record Lies (n : ℕ) (h : Hunk) : Type 0 where

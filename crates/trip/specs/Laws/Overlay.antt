@@ -9,6 +9,7 @@ use native.Mathlib.Numerals.{add-one}
 use lib.ListN.{length, getD}
 use lib.Dec.{ltb, eqb}
 use borrow.Author.Tests.{ltb-true, ltb-false, eqb-true, eqb-false}
+use Rattle.basics.specs.Listed.{listed}
 use Rattle.basics.specs.Lists.{lay}
 use Rattle.basics.specs.Laws.Lay.{lay-out, lay-in}
 use Rattle.basics.specs.Laws.Tests.{cases, true-is-not-false}
@@ -53,7 +54,7 @@ module _ (on : ℕ → Bool) (words : ℕ → List ℕ) (ram : List ℕ) where
 
   module _ (n : ℕ) where
     over-out : (p k : ℕ) → EachLies n p on words → (on (k / 256) ≡ false) ⊎ (p ≤ k / 256) → getD (over p) k 0 ≡ getD ram k 0
-    unfolding over chosen overlay
+    unfolding over listed overlay
     over-out zero k c h = refl
     over-out (suc p) k c h =
         let one : suc p ≡ p + 1 = sym (add-one p) in

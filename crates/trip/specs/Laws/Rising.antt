@@ -7,6 +7,7 @@ use mathlib.Core.Logic.{inl}
 use native.Mathlib.Omega.{arith}
 use lib.ListN.{length, getD}
 use lib.Seq.{ext-getD}
+use Rattle.basics.specs.Listed.{listed}
 use Rattle.basics.specs.Lists.{lay, Each, none as no-hunks, also as and-hunk}
 use Rattle.basics.specs.Laws.Lay.{lay-in, lay-out, length-lay}
 use Rattle.basics.specs.Laws.Tests.{cases}
@@ -77,7 +78,7 @@ rising-more {a} h (none l) k j = let i : a ≤ h .address .0 = omega arith in al
 rising-more h (also l r) k j = also l (rising-more h r k j)
 
 pub rising-chosen : (on : ℕ → Bool) (words : ℕ → List ℕ) (n : ℕ) → ((p : ℕ) → p < n → on p ≡ true → length (words p) ≡ paragraphSize) → Rising 0 (chosen n on words) (paragraphSize * n)
-unfolding chosen
+unfolding listed
 rising-chosen on words zero w = let k : 0 ≤ paragraphSize * 0 = omega arith in none k
 rising-chosen on words (suc n) w =
     let r : Rising 0 (chosen n on words) (paragraphSize * n) = rising-chosen on words n (λ p h e. w p (omega arith) e) in

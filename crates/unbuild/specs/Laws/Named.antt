@@ -8,6 +8,7 @@ use native.Mathlib.Omega.{arith}
 use lib.Dec.{eqb, leb, ltb}
 use lib.ListN.{length, length-replicate}
 use borrow.Author.Tests.{eq-eqb, eqb-true, le-leb, le-ltb, leb-true, lt-ltb, ltb-true, ne-eqb}
+use Rattle.basics.specs.Listed.{listed}
 use Rattle.basics.specs.Laws.Tests.{and-left, and-right, and-true, cases, compare, or-assoc, or-cases, or-none, same-test, true-is-not-false}
 use Rattle.places.specs.Limits.{lent, lentLimit}
 use Rattle.hunk.specs.Hunk.{Hunk}
@@ -77,7 +78,7 @@ paragraph-names p words i e =
 
 pub named-chosen : (on : ℕ → Bool) (words : ℕ → List ℕ) (n i : ℕ) → ((p : ℕ) → p < n → on p ≡ true → length (words p) ≡ 256)
     → named (chosen n on words) i ≡ ltb (i / 256) n && on (i / 256)
-unfolding chosen
+unfolding listed
 named-chosen on words zero i w = rw (le-ltb (i / 256) 0 (omega arith))
 named-chosen on words (suc n) i w =
     named-append (chosen n on words) (cond (on n) (paragraphHunk n (words n) ∷ []) []) i

@@ -28,9 +28,9 @@ use Rattle.canon.specs.Canonical.{isRom, mappingEntries, memattrEntries, pageEn
 use Rattle.canon.specs.Laws.Bin.{page-rise, rising}
 use Rattle.canon.specs.Laws.Good.{length-lines}
 use Rattle.canon.specs.Laws.Lines.{canonicalLines, line, pageLine, ramLine, romLine}
-use Rattle.canon.specs.Laws.Listed.{each-listed, length-listed}
+use Rattle.basics.specs.Laws.Listed.{each-listed, length-listed}
 use Rattle.canon.specs.Laws.OfPlan.{OfRun, ram-of, rom-of}
-use Rattle.canon.specs.Listed.{listed}
+use Rattle.basics.specs.Listed.{listed}
 use Rattle.unbuild.specs.Behind.{cfgOf}
 
 -- entries numbered one after the other are the lines that count them

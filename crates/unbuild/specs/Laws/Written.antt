@@ -16,7 +16,7 @@ use Rattle.sheet.specs.Code.Sheets.{cfgLines, cfgOfLines, entriesIn}
 use Rattle.plan.specs.Plan.{Plan, hasPage}
 use Rattle.canon.specs.Canonical.{mappingEntries, memattrEntries, pageEntry, ramEntry, romEntry, startsRam, startsRom}
 use Rattle.canon.specs.Laws.Lines.{canonicalLines, pageLine, ramLine, romLine}
-use Rattle.canon.specs.Listed.{listed}
+use Rattle.basics.specs.Listed.{listed}
 use Rattle.ledger.specs.Code.Lists.{listingOf, mappingLines, romLines, shown}
 use Rattle.rebuild.specs.Laws.Retraced.{take-shown}
 use Rattle.unbuild.specs.Behind.{cfgOf}

@@ -1,19 +1,31 @@
--- What places that pass a test give: how many, a fact of each, and lists of words one behind the other.
+-- What places that pass a test give: one place more, how many, a fact of each, what agrees; and lists of words one behind the other.
 use Prim.Native.Nat.{_+_, _<_, _≤_, suc, zero, ℕ}
 use mathlib.Core.Path.{_∙_, _≡_, ap, refl, sym}
 use mathlib.Core.List.{List, [], _++_, _∷_, append-nil}
 use mathlib.Core.Bool.{Bool, cond, false, true}
 use native.Mathlib.Omega.{arith}
+use native.Mathlib.Numerals.{add-one}
 use lib.Dec.{eqb}
 use lib.ListN.{List·getD-append, getD, length, length-append}
 use lib.Seq.{getD-append-add}
 use borrow.Author.Tests.{eqb-false, eqb-true}
 use Rattle.basics.specs.Counts.{count}
 use Rattle.basics.specs.Laws.Each.{each-append, joined-append}
 use Rattle.basics.specs.Laws.Tests.{cases}
 use Rattle.basics.specs.Lists.{Each, also, flat, joined, none}
-use Rattle.canon.specs.Listed.{listed}
+use Rattle.basics.specs.Listed.{listed}
 
+-- one place more
+module _ {A : Type 0} (on : ℕ → Bool) (f : ℕ → A) (n : ℕ) where
+  pub listed-on : on n ≡ true → listed (n + 1) on f ≡ listed n on f ++ (f n ∷ [])
+  unfolding listed
+  listed-on e = rw (add-one, e)
+
+  pub listed-off : on n ≡ false → listed (n + 1) on f ≡ listed n on f
+  unfolding listed
+  listed-off e = rw (add-one, e) (append-nil (listed n on f))
+
+-- as many as pass
 pub length-listed : {A : Type 0} (n : ℕ) (on : ℕ → Bool) (f : ℕ → A) → length (listed n on f) ≡ count on n
 unfolding listed count
 length-listed zero on f = refl
@@ -32,6 +44,15 @@ each-listed zero on f h = none
 each-listed {P = P} (suc n) on f h =
     each-append (listed n on f) (cond (on n) (f n ∷ []) []) (each-listed n on f (λ j l. h j (omega arith)))
     (cases (on n) (λ e. rw e (also (h n (omega arith) e) none)) (λ e. rw e none))
+
+-- by tests that agree, and what agrees where they pass
+pub listed-same : {A : Type 0} (n : ℕ) (on on′ : ℕ → Bool) (f g : ℕ → A) → ((j : ℕ) → j < n → on j ≡ on′ j) → ((j : ℕ) → j < n → on′ j ≡ true → f j ≡ g j)
+    → listed n on f ≡ listed n on′ g
+unfolding listed
+listed-same zero on on′ f g h k = refl
+listed-same (suc n) on on′ f g h k =
+    rw (h n (omega arith), listed-same n on on′ f g (λ j l. h j (omega arith)) (λ j l e. k j (omega arith) e))
+    (cases (on′ n) (λ e. rw (e, k n (omega arith) e)) (λ e. rw e))
 
 -- words one behind the other: those of place j stand behind those of the places before it
 flat-more : (n : ℕ) (on : ℕ → Bool) (f : ℕ → List ℕ) → flat (listed (suc n) on f) ≡ flat (listed n on f) ++ cond (on n) (f n) []
