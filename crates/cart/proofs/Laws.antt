@@ -1,12 +1,13 @@
 -- One law for each return that makes a cartridge or a count, its premises as the code's calls give them.
 use Prim.Native.Nat.{ℕ, _%_, _<_}
-use mathlib.Core.Path.{_≡_, ap, _∙_}
+use mathlib.Core.Path.{_≡_, refl, ap, _∙_}
 use mathlib.Core.Bool.{cond}
 use mathlib.Core.List.{List}
 use native.Mathlib.Omega.{arith}
 use lib.ListN.{length, getD}
 use Rattle.places.specs.Limits.{paragraphs, flipEntries}
 use Rattle.places.specs.declared.Console.{Console}
+use Rattle.places.specs.declared.Locutus.{Locutus}
 use Rattle.switches.specs.Flips.{Active, active, flipFrom, flipSize, flipped}
 use Rattle.flash.specs.declared.Command.{Command}
 use Rattle.flash.specs.declared.Saves.{Saves}
@@ -15,11 +16,19 @@ use Rattle.flash.specs.Registers.{commandOf}
 use Rattle.jlp.specs.declared.Jlp.{Jlp}
 use Rattle.jlp.specs.Accelerators.{resetJlp, writtenJlp}
 use Rattle.cart.specs.declared.Cartridge.{Cartridge}
-use Rattle.cart.specs.Cells.{READ}
+use Rattle.cart.specs.declared.Rights.{Rights}
+use Rattle.cart.specs.declared.Taker.{Taker}
+use Rattle.cart.specs.Cells.{READ, paragraph, locate, rightsOf, cellAt}
 use Rattle.cart.specs.Laws.Readable.{flip-readable}
 use Rattle.cart.specs.Readable.{readableIn, readableOf, recounted}
-use Rattle.cart.specs.Writes.{leaves, assigned, leavesReadable}
+use Rattle.cart.specs.Laws.Writes.{by-mapping, by-permissions, by-ram, by-flash, by-readable, by-assigned}
+use Rattle.cart.specs.Writes.{takerOf, leftBy, readableBy, assignedBy, leaves, assigned, leavesReadable}
 use Rattle.cart.specs.Cartridges.{assembled, initialOf, activeOf, fresh, withActive, writtenOf, resetOf}
+
+-- a cell, of the two entries of its paragraph
+pub cell-is : (a : Active) (at : Console) (l : Locutus) (r : Rights) → l ≡ locate (getD (a .mapping) (paragraph at) 0) at
+    → r ≡ rightsOf (getD (a .permissions) (paragraph at) 0) → record { location = l; rights = r } ≡ cellAt a at
+cell-is a at l r e f = rw (e, f)
 
 -- a cartridge as loaded, and one that is reset, each with its count
 pub fresh-is : (j : Jlp) (m p f : List ℕ) (k : ℕ) (r : Cartridge) → k ≡ readableOf p → r ≡ assembled (active m p) (active m p) f k j → r ≡ fresh j m p f
@@ -60,3 +69,19 @@ module _ (s : Saves) (m : Memories) (at : Console) (v : ℕ) (c : Command) (x : 
 
   pub command-ram : x ≡ acted (s .sectors) m c .ram → x ≡ acted (s .sectors) m (commandOf s at v) .ram
   command-ram f = f ∙ ap (λ (d : Command). acted (s .sectors) m d .ram) e
+
+-- what a write leaves that `shift` has given to its taker
+module _ (j : Jlp) (a : Active) (flips : List ℕ) (at : Console) (v : ℕ) (t : Taker) (h : t ≡ takerOf j a flips at v) where
+  pub given-mapping : (x : List ℕ) → x ≡ leftBy t a flips .mapping → x ≡ leaves j a flips at v .mapping
+  given-mapping x g = by-mapping j a flips at v t t h refl x g
+
+  pub given-permissions : (x : List ℕ) → x ≡ leftBy t a flips .permissions → x ≡ leaves j a flips at v .permissions
+  given-permissions x g = by-permissions j a flips at v t t h refl x g
+
+  pub given-readable : (kept x : ℕ) → x ≡ readableBy t a flips kept → x ≡ leavesReadable j a flips kept at v
+  given-readable kept x g = by-readable j a flips at v t t h refl kept x g
+
+  pub given-assigned : (x : ℕ) → x ≡ assignedBy t → x ≡ assigned j a flips at v
+  given-assigned x g = by-assigned j a flips at v t t h refl x g
+
+pub ruleset given = (given-mapping, given-permissions, given-readable, given-assigned, by-ram, by-flash)

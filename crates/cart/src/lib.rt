@@ -460,7 +460,7 @@ fn shift<'a>(
         Taker::Accelerators => 0,
         Taker::Bank(p, first) => switches::bankswitch(mapping, p, first),
         Taker::Flip(n) => flip_counted(mapping, permissions, flips, readable, n),
-        Taker::Ram(cell) => 0,
+        Taker::Ram(_) => 0,
     }
 }
 
@@ -492,7 +492,8 @@ pub fn write_by<'a>(
         × (now (ram .exit) ≡ leavesRam j (active (now (mapping .entry)) (now (permissions .entry))) (now (flips .entry)) (now (flash .entry)) (now (ram .entry)) at value)
         × (now (flash .exit) ≡ leavesFlash j (active (now (mapping .entry)) (now (permissions .entry))) (now (flips .entry)) (now (flash .entry)) (now (ram .entry)) at value) ⌝ }
 {
-    match taker_of(mapping, permissions, flips, j, at, value) {
+    let t = taker_of(mapping, permissions, flips, j, at, value);
+    match t {
         Taker::Ram(cell) => {
             store(cell, ram, value);
             0
@@ -501,14 +502,8 @@ pub fn write_by<'a>(
             command(j.saves, ram, flash, at, value);
             0
         }
-        Taker::Bank(p, first) => shift(
-            mapping,
-            permissions,
-            flips,
-            readable,
-            Taker::Bank(p, first),
-        ),
-        Taker::Flip(n) => shift(mapping, permissions, flips, readable, Taker::Flip(n)),
+        Taker::Bank(_, _) => shift(mapping, permissions, flips, readable, t),
+        Taker::Flip(_) => shift(mapping, permissions, flips, readable, t),
     }
 }
 
