@@ -62,16 +62,9 @@ pub fn line(key: &[u8], value: u64) -> bool {
     basics::both(named, basics::both(counted, ended))
 }
 
-fn say_why(why: Why) -> bool {
+// Why a file is not written, where that is why.
+fn say_why_unwritten(why: Why) -> bool {
     match why {
-        Why::Nothing => say(b"why=nothing\n"),
-        Why::Argument => say(b"why=argument\n"),
-        Why::Closed => say(b"why=closed\n"),
-        Why::Open => say(b"why=open\n"),
-        Why::Read => say(b"why=read\n"),
-        Why::Look => say(b"why=look\n"),
-        Why::Link => say(b"why=link\n"),
-        Why::Kind => say(b"why=kind\n"),
         Why::Input => say(b"why=input\n"),
         Why::Protected => say(b"why=protected\n"),
         Why::Create => say(b"why=create\n"),
@@ -79,6 +72,21 @@ fn say_why(why: Why) -> bool {
         Why::Write => say(b"why=write\n"),
         Why::Sync => say(b"why=sync\n"),
         Why::Move => say(b"why=move\n"),
+        _ => say(b"why=nothing\n"),
+    }
+}
+
+// Why a file is not read, or not written.
+fn say_why(why: Why) -> bool {
+    match why {
+        Why::Argument => say(b"why=argument\n"),
+        Why::Closed => say(b"why=closed\n"),
+        Why::Open => say(b"why=open\n"),
+        Why::Read => say(b"why=read\n"),
+        Why::Look => say(b"why=look\n"),
+        Why::Link => say(b"why=link\n"),
+        Why::Kind => say(b"why=kind\n"),
+        _ => say_why_unwritten(why),
     }
 }
 

@@ -1,7 +1,6 @@
 -- `names::ended` meets its contract: the last byte is stored as 0, behind what was copied.
 use native.Mathlib.Omega.{arith}
 use lib.ListN.{length-take}
-use borrow.Author.Needs.{needs}
 use Rattle.files.proofs.Loops.{ended-last}
 use Rattle.files.proofs.names.ended.Statement.{statement}
 use Rattle.files.proofs.names.ended.Tie as tie
@@ -26,13 +25,13 @@ pub ended-spec : {M : Type 1} → statement M
 ended-spec =
     tie.close
     (tie.spec
-    (λ c κs. search needs)
-    (λ c. search needs)
-    (λ c κs. search needs)
-    (λ c. search needs)
+    (λ c κs. tt)
+    (λ c. omega arith)
+    (λ c κs. tt)
+    (λ c. omega arith)
     slice-aggregate-put
     slice-aggregate-put-2
     put-requires
-    (λ c. search needs)
-    (λ c. search needs)
+    (λ c. omega arith)
+    (λ c. omega arith)
     returns)

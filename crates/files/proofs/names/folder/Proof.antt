@@ -1,4 +1,5 @@
 -- `names::folder` meets its contract. The loop's invariant: k is the place behind the last `/` of the first i bytes.
+use native.Mathlib.Omega.{arith}
 use Prim.Native.Nat.{_-_}
 use mathlib.Core.Logic.{⊎-elim}
 use lib.ListN.{length}
@@ -23,4 +24,4 @@ returns : tie.Need-returns Inv-loop μ-loop
 returns c = (search (needs, behind-all), counted _ _ (search (needs, behind-within)))
 
 pub folder-spec : {M : Type 1} → statement M
-folder-spec = tie.close (tie.spec Inv-loop μ-loop loop-holds (λ c. search needs) (λ c. search needs) (λ c. search needs) (λ c. search needs) loop-again returns)
+folder-spec = tie.close (tie.spec Inv-loop μ-loop loop-holds (λ c. omega arith) (λ c. record { fits = omega arith }) (λ c. record { fits = omega arith }) (λ c. omega arith) loop-again returns)

@@ -1,4 +1,5 @@
 -- `names::is_name` meets its contract. The loop's invariant: none of the first i bytes is 0.
+use native.Mathlib.Omega.{arith}
 use Prim.Native.Nat.{_-_, _≤_}
 use mathlib.Core.Bool.{true}
 use mathlib.Core.Path.{_≡_}
@@ -38,9 +39,9 @@ is-name-spec =
     μ-loop
     returns
     loop-holds
-    (λ c. search needs)
+    (λ c. omega arith)
     returns-2
-    (λ c. search needs)
-    (λ c. search needs)
+    (λ c. record { fits = omega arith })
+    (λ c. omega arith)
     loop-again
     returns-3)

@@ -29,12 +29,12 @@ pub part-name-spec : {M : Type 1} → statement M
 part-name-spec =
     tie.close
     (tie.spec
-    (λ c κs. search needs)
+    (λ c κs. tt)
     returns
-    (λ c. search needs)
+    (λ c. omega arith)
     returns-2
-    (λ c. search needs)
-    (λ c. search needs)
+    (λ c. record { fits = omega arith })
+    (λ c. omega arith)
     slice-aggregate-put-part
     put-part-requires
     (λ c. search needs)

@@ -32,16 +32,16 @@ put-hex-spec =
     Inv-loop
     μ-loop
     loop-holds
-    (λ c. search needs)
-    (λ c κs. search needs)
-    (λ c. search needs)
-    (λ c. search needs)
-    (λ c κs. search needs)
-    (λ c. search needs)
-    (λ c. search needs)
+    (λ c. omega arith)
+    (λ c κs. tt)
+    (λ c. record { fits = omega arith })
+    (λ c. omega arith)
+    (λ c κs. tt)
+    (λ c. record { fits = omega arith })
+    (λ c. record { fits = omega arith })
     slice-write-out-2
-    (λ c. search needs)
-    (λ c. search needs)
+    (λ c. record { fits = omega arith })
+    (λ c. omega arith)
     loop-again
     (λ c. search needs)
     returns)

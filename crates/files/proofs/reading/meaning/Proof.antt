@@ -19,4 +19,4 @@ returns-3 : tie.Need-returns-3
 returns-3 c = (read-end _ _ (c .before .before .fits .answer) (c .before .if1 .left) (c .if2 .left), search needs)
 
 pub meaning-spec : {M : Type 1} → statement M
-meaning-spec = tie.close (tie.spec returns cast-least (λ c κs. search needs) returns-2 returns-3)
+meaning-spec = tie.close (tie.spec returns cast-least (λ c κs. tt) returns-2 returns-3)

@@ -1,5 +1,4 @@
 -- `rule::same_file` meets its contract: the three conjunctions of its definition.
-use borrow.Author.Needs.{needs}
 use Rattle.files.proofs.rule.same_file.Statement.{statement}
 use Rattle.files.proofs.rule.same_file.Tie as tie
 
@@ -7,4 +6,4 @@ returns : tie.Need-returns
 returns c = cc
 
 pub same-file-spec : {M : Type 1} → statement M
-same-file-spec = tie.close (tie.spec (λ c κs. search needs) (λ c κs. search needs) (λ c κs. search needs) returns)
+same-file-spec = tie.close (tie.spec (λ c κs. tt) (λ c κs. tt) (λ c κs. tt) returns)

@@ -28,9 +28,9 @@ verdict-spec =
     (tie.spec
     returns
     returns-2
-    (λ c κs. search needs)
+    (λ c κs. tt)
     returns-3
     returns-4
-    (λ c κs. search needs)
+    (λ c κs. tt)
     returns-5
     returns-6)
