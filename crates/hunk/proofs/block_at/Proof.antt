@@ -1,4 +1,5 @@
 -- `hunk::block_at` meets its contract: one law for each return.
+use native.Mathlib.Omega.{arith}
 use borrow.Author.Needs.{needs}
 use Rattle.hunk.proofs.ByForm.{blocks, count-small}
 use Rattle.hunk.proofs.block_at.Statement.{statement}
@@ -24,14 +25,14 @@ block-at-spec =
     tie.close
     (tie.spec
     returns
-    (λ c. search needs)
-    (λ c κs. search needs)
-    (λ c κs. search needs)
-    (λ c κs. search needs)
+    (λ c. omega arith)
+    (λ c κs. tt)
+    (λ c κs. tt)
+    (λ c κs. tt)
     returns-2
     (λ c κs. search needs)
     size-of-requires
-    (λ c. search needs)
+    (λ c. omega arith)
     returns-3
-    (λ c. search needs)
+    (λ c. record { fits = omega arith })
     returns-4)

@@ -1,4 +1,5 @@
 -- `hunk::check` meets its contract. The loop's invariant: the data blocks before p are whole, and their n words lie in the RAM.
+use native.Mathlib.Omega.{arith}
 use Prim.Native.Nat.{_-_}
 use lib.ListN.{length}
 use borrow.Author.Needs.{needs}
@@ -43,16 +44,16 @@ check-spec =
     Inv-loop
     μ-loop
     returns
-    (λ c κs. search needs)
+    (λ c κs. omega arith)
     loop-holds
-    (λ c κs. search needs)
+    (λ c κs. tt)
     (λ c. search needs)
     returns-2
     (λ c. search needs)
     returns-3
     (λ c. search needs)
     add-n
-    (λ c κs. search needs)
+    (λ c κs. tt)
     returns-4
     loop-less
     loop-again)

@@ -1,4 +1,5 @@
 -- `hunk::write` meets its contract: the address at the front, and the data blocks behind it.
+use native.Mathlib.Omega.{arith}
 use borrow.Author.Needs.{needs}
 use Rattle.hunk.proofs.Written.{write-short, write-three, write-front, write-room, write-all}
 use Rattle.hunk.proofs.write.Statement.{statement}
@@ -26,9 +27,9 @@ pub write-spec : {M : Type 1} → statement M
 write-spec =
     tie.close
     (tie.spec
-    (λ c κs. search needs)
+    (λ c κs. tt)
     returns
-    (λ c. search needs)
+    (λ c. omega arith)
     (λ c. search needs)
     part-put-address-end
     (λ c κs. search needs)

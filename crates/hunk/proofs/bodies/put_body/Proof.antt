@@ -31,7 +31,7 @@ put-body-spec =
     (λ c. search needs)
     put-decles-requires
     (λ c. search needs)
-    (λ c κs. search needs)
+    (λ c κs. tt)
     (λ c. search needs)
     (λ c. search needs)
     returns

@@ -1,4 +1,5 @@
 -- `hunk::bodies::put_decles` meets its contract: whole packets, and the short one where there is one.
+use native.Mathlib.Omega.{arith}
 use borrow.Author.Needs.{needs}
 use Rattle.hunk.proofs.Packed.{packets-whole, packets-short}
 use Rattle.hunk.proofs.bodies.put_decles.Statement.{statement}
@@ -14,12 +15,12 @@ pub put-decles-spec : {M : Type 1} → statement M
 put-decles-spec =
     tie.close
     (tie.spec
-    (λ c κs. search needs)
-    (λ c. search needs)
+    (λ c κs. omega arith)
+    (λ c. record { fits = omega arith })
     (λ c. search needs)
     returns
-    (λ c. search needs)
-    (λ c. search needs)
-    (λ c κs. search needs)
+    (λ c. record { fits = omega arith })
+    (λ c. record { fits = omega arith })
+    (λ c κs. omega arith)
     (λ c. search needs)
     returns-2)

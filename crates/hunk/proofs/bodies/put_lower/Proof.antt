@@ -1,4 +1,5 @@
 -- `hunk::bodies::put_lower` meets its contract. The loop's invariant: the lower bytes of j words are laid.
+use native.Mathlib.Omega.{arith}
 use Prim.Native.Nat.{_≤_, _-_}
 use mathlib.Core.Path.{_≡_}
 use lib.ListN.{length, drop}
@@ -34,14 +35,14 @@ put-lower-spec =
     μ-loop
     (λ c. search needs)
     loop-holds
-    (λ c. search needs)
-    (λ c. search needs)
-    (λ c. search needs)
-    (λ c κs. search needs)
-    (λ c. search needs)
-    (λ c. search needs)
-    (λ c. search needs)
-    (λ c. search needs)
+    (λ c. record { fits = omega arith })
+    (λ c. record { fits = omega arith })
+    (λ c. omega arith)
+    (λ c κs. tt)
+    (λ c. record { fits = omega arith })
+    (λ c. omega arith)
+    (λ c. record { fits = omega arith })
+    (λ c. omega arith)
     loop-again
     (λ c. search needs)
     returns)

@@ -19,36 +19,36 @@ slice-write-out-5 : tie.Need-slice-write-out-5
 slice-write-out-5 c = simp length-set (omega arith)
 
 returns : tie.Need-returns
-returns c = search (needs, packet-put)
+returns c = search packet-put
 
 pub put-packet-spec : {M : Type 1} → statement M
 put-packet-spec =
     tie.close
     (tie.spec
-    (λ c. search needs)
-    (λ c. search needs)
-    (λ c. search needs)
-    (λ c. search needs)
-    (λ c. search needs)
-    (λ c. search needs)
-    (λ c. search needs)
-    (λ c. search needs)
-    (λ c. search needs)
-    (λ c. search needs)
-    (λ c. search needs)
-    (λ c κs. search needs)
-    (λ c. search needs)
-    (λ c κs. search needs)
-    (λ c. search needs)
+    (λ c. record { fits = omega arith })
+    (λ c. omega arith)
+    (λ c. record { fits = omega arith })
+    (λ c. record { fits = omega arith })
+    (λ c. omega arith)
+    (λ c. record { fits = omega arith })
+    (λ c. record { fits = omega arith })
+    (λ c. omega arith)
+    (λ c. record { fits = omega arith })
+    (λ c. record { fits = omega arith })
+    (λ c. omega arith)
+    (λ c κs. tt)
+    (λ c. omega arith)
+    (λ c κs. tt)
+    (λ c. record { fits = omega arith })
     slice-write-out-2
-    (λ c κs. search needs)
-    (λ c. search needs)
+    (λ c κs. tt)
+    (λ c. record { fits = omega arith })
     slice-write-out-3
-    (λ c κs. search needs)
-    (λ c. search needs)
+    (λ c κs. tt)
+    (λ c. record { fits = omega arith })
     slice-write-out-4
-    (λ c κs. search needs)
-    (λ c. search needs)
+    (λ c κs. tt)
+    (λ c. record { fits = omega arith })
     slice-write-out-5
     (λ c. search needs)
     returns)

@@ -1,4 +1,5 @@
 -- `hunk::choice::largest_of` meets its contract. The loop's invariant: top is the largest of the first i words.
+use native.Mathlib.Omega.{arith}
 use Prim.Native.Nat.{_≤_, _-_}
 use mathlib.Core.Path.{_≡_}
 use Rattle.hunk.specs.Smallest.{largest}
@@ -29,10 +30,10 @@ largest-of-spec =
     Inv-loop
     μ-loop
     loop-holds
-    (λ c. search needs)
-    (λ c. search needs)
-    (λ c κs. search needs)
-    (λ c. search needs)
-    (λ c. search needs)
+    (λ c. record { fits = omega arith })
+    (λ c. omega arith)
+    (λ c κs. tt)
+    (λ c. record { fits = omega arith })
+    (λ c. omega arith)
     loop-again
     returns)

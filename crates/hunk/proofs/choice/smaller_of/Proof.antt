@@ -1,4 +1,5 @@
 -- `hunk::choice::smaller_of` meets its contract: its test is the definition's.
+use native.Mathlib.Omega.{arith}
 use borrow.Author.Needs.{needs}
 use Rattle.hunk.proofs.Chosen.{takes-first, takes-second}
 use Rattle.hunk.proofs.choice.smaller_of.Statement.{statement}
@@ -14,11 +15,11 @@ pub smaller-of-spec : {M : Type 1} → statement M
 smaller-of-spec =
     tie.close
     (tie.spec
-    (λ c κs. search needs)
-    (λ c κs. search needs)
-    (λ c κs. search needs)
-    (λ c κs. search needs)
-    (λ c κs. search needs)
-    (λ c κs. search needs)
+    (λ c κs. omega arith)
+    (λ c κs. omega arith)
+    (λ c κs. tt)
+    (λ c κs. tt)
+    (λ c κs. tt)
+    (λ c κs. tt)
     returns
     returns-2)

@@ -1,4 +1,5 @@
 -- `hunk::data::cuts_size` meets its contract. The loop's invariant: the bytes of the data blocks of the words before i are counted.
+use native.Mathlib.Omega.{arith}
 use Prim.Native.Nat.{_-_}
 use lib.ListN.{length}
 use borrow.Author.Needs.{needs}
@@ -40,17 +41,17 @@ cuts-size-spec =
     Inv-loop
     μ-loop
     loop-holds
-    (λ c. search needs)
-    (λ c κs. search needs)
-    (λ c. search needs)
-    (λ c. search needs)
-    (λ c. search needs)
+    (λ c. omega arith)
+    (λ c κs. tt)
+    (λ c. record { fits = omega arith })
+    (λ c. record { fits = omega arith })
+    (λ c. omega arith)
     (λ c. search needs)
     part-form-for-end
     form-for-requires
-    (λ c. search needs)
+    (λ c. omega arith)
     size-of-requires
     add-long
-    (λ c. search needs)
+    (λ c. omega arith)
     loop-again
     returns)

@@ -1,4 +1,5 @@
 -- `hunk::data::put_address` meets its contract: three stores are the three bytes.
+use native.Mathlib.Omega.{arith}
 use borrow.Author.Needs.{needs}
 use Rattle.hunk.proofs.Written.{address-put}
 use Rattle.hunk.proofs.data.put_address.Statement.{statement}
@@ -11,11 +12,11 @@ pub put-address-spec : {M : Type 1} → statement M
 put-address-spec =
     tie.close
     (tie.spec
+    (λ c. record { fits = omega arith })
+    (λ c. omega arith)
+    (λ c. record { fits = omega arith })
     (λ c. search needs)
-    (λ c. search needs)
-    (λ c. search needs)
-    (λ c. search needs)
-    (λ c. search needs)
+    (λ c. record { fits = omega arith })
     (λ c. search needs)
     (λ c. search needs)
     returns)

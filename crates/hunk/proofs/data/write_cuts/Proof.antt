@@ -1,4 +1,5 @@
 -- `hunk::data::write_cuts` meets its contract. The loop's invariant: the data blocks of the words before i are written.
+use native.Mathlib.Omega.{arith}
 use Prim.Native.Nat.{_-_}
 use lib.ListN.{length}
 use borrow.Author.Needs.{needs}
@@ -52,26 +53,26 @@ write-cuts-spec =
     Inv-loop
     μ-loop
     loop-holds
-    (λ c. search needs)
-    (λ c κs. search needs)
-    (λ c. search needs)
-    (λ c. search needs)
-    (λ c. search needs)
+    (λ c. omega arith)
+    (λ c κs. tt)
+    (λ c. record { fits = omega arith })
+    (λ c. record { fits = omega arith })
+    (λ c. omega arith)
     (λ c. search needs)
     part-form-for-end
     form-for-requires
-    (λ c. search needs)
+    (λ c. omega arith)
     size-of-requires
     add-e
-    (λ c. search needs)
+    (λ c. omega arith)
     (λ c. search needs)
     part-write-data-end
-    (λ c. search needs)
-    (λ c. search needs)
+    (λ c. record { fits = omega arith })
+    (λ c. omega arith)
     (λ c. search needs)
     part-write-data-end-2
     write-data-requires
-    (λ c. search needs)
+    (λ c. omega arith)
     loop-again
     same-length
     returns)

@@ -1,4 +1,5 @@
 -- `hunk::data::write_data` meets its contract: the start byte, and what stands behind it.
+use native.Mathlib.Omega.{arith}
 use borrow.Author.Needs.{needs}
 use Rattle.hunk.proofs.Written.{data-some, data-begins, data-behind, data-written, data-same}
 use Rattle.hunk.proofs.data.write_data.Statement.{statement}
@@ -26,7 +27,7 @@ pub write-data-spec : {M : Type 1} → statement M
 write-data-spec =
     tie.close
     (tie.spec
-    (λ c κs. search needs)
+    (λ c κs. omega arith)
     slice-write-out
     sub-put-behind
     part-put-behind-start

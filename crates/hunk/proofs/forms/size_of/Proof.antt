@@ -1,4 +1,5 @@
 -- `hunk::forms::size_of` meets its contract: each arm is the definition's.
+use native.Mathlib.Omega.{arith}
 use borrow.Author.Needs.{needs}
 use Rattle.hunk.proofs.forms.size_of.Statement.{statement}
 use Rattle.hunk.proofs.forms.size_of.Tie as tie
@@ -17,14 +18,14 @@ size-of-spec =
     tie.close
     (tie.spec
     (λ c. search needs)
+    (λ c. record { fits = omega arith })
     (λ c. search needs)
+    (λ c. record { fits = omega arith })
+    (λ c. record { fits = omega arith })
+    (λ c. record { fits = omega arith })
     (λ c. search needs)
-    (λ c. search needs)
-    (λ c. search needs)
-    (λ c. search needs)
-    (λ c. search needs)
-    (λ c. search needs)
-    (λ c. search needs)
+    (λ c. record { fits = omega arith })
+    (λ c. record { fits = omega arith })
     (λ c. search needs)
     returns
     returns-2

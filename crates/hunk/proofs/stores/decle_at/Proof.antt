@@ -1,4 +1,5 @@
 -- `hunk::stores::decle_at` meets its contract: one law for each decle of a packet.
+use native.Mathlib.Omega.{arith}
 use borrow.Author.Needs.{needs}
 use Rattle.hunk.proofs.Stored.{decles}
 use Rattle.hunk.proofs.stores.decle_at.Statement.{statement}
@@ -20,21 +21,21 @@ pub decle-at-spec : {M : Type 1} → statement M
 decle-at-spec =
     tie.close
     (tie.spec
-    (λ c. search needs)
-    (λ c κs. search needs)
-    (λ c. search needs)
-    (λ c. search needs)
-    (λ c. search needs)
-    (λ c κs. search needs)
-    (λ c. search needs)
-    (λ c. search needs)
+    (λ c. omega arith)
+    (λ c κs. tt)
+    (λ c. record { fits = omega arith })
+    (λ c. record { fits = omega arith })
+    (λ c. omega arith)
+    (λ c κs. tt)
+    (λ c. record { fits = omega arith })
+    (λ c. record { fits = omega arith })
     returns
-    (λ c. search needs)
-    (λ c. search needs)
+    (λ c. record { fits = omega arith })
+    (λ c. record { fits = omega arith })
     returns-2
-    (λ c. search needs)
-    (λ c. search needs)
+    (λ c. record { fits = omega arith })
+    (λ c. record { fits = omega arith })
     returns-3
-    (λ c. search needs)
-    (λ c. search needs)
+    (λ c. record { fits = omega arith })
+    (λ c. record { fits = omega arith })
     returns-4)

@@ -1,4 +1,5 @@
 -- `hunk::stores::packets` meets its contract. The loop's invariant: the decles of j packets are laid.
+use native.Mathlib.Omega.{arith}
 use Prim.Native.Nat.{_≤_, _*_, _-_}
 use mathlib.Core.Path.{_≡_}
 use lib.ListN.{length}
@@ -32,13 +33,13 @@ packets-spec =
     Inv-loop
     μ-loop
     loop-holds
-    (λ c. search needs)
-    (λ c. search needs)
-    (λ c. search needs)
-    (λ c. search needs)
+    (λ c. record { fits = omega arith })
+    (λ c. record { fits = omega arith })
+    (λ c. record { fits = omega arith })
+    (λ c. record { fits = omega arith })
     (λ c κs. search needs)
-    (λ c. search needs)
-    (λ c. search needs)
+    (λ c. record { fits = omega arith })
+    (λ c. omega arith)
     loop-again
     (λ c. search needs)
     returns)

@@ -1,4 +1,5 @@
 -- `hunk::stores::store_block` meets its contract: one law for each form, for its words and for where its bytes lie.
+use native.Mathlib.Omega.{arith}
 use borrow.Author.Needs.{needs}
 use Rattle.hunk.proofs.Stored.{room-begins, rooms, stores}
 use Rattle.hunk.proofs.stores.store_block.Statement.{statement}
@@ -32,10 +33,10 @@ pub store-block-spec : {M : Type 1} → statement M
 store-block-spec =
     tie.close
     (tie.spec
-    (λ c. search needs)
+    (λ c. record { fits = omega arith })
     shared-slice-read-wide
-    (λ c κs. search needs)
-    (λ c κs. search needs)
+    (λ c κs. tt)
+    (λ c κs. tt)
     (λ c. search needs)
     store-bytes-requires
     (λ c. search needs)

@@ -1,4 +1,5 @@
 -- `hunk::stores::store_bytes` meets its contract. The loop's invariant: i of the n words are laid.
+use native.Mathlib.Omega.{arith}
 use Prim.Native.Nat.{_<_, _-_}
 use mathlib.Core.Path.{_≡_}
 use lib.ListN.{length}
@@ -33,22 +34,22 @@ store-bytes-spec =
     Inv-loop
     μ-loop
     loop-holds
+    (λ c. record { fits = omega arith })
+    (λ c. record { fits = omega arith })
+    (λ c. record { fits = omega arith })
     (λ c. search needs)
+    (λ c κs. tt)
+    (λ c. record { fits = omega arith })
+    (λ c. record { fits = omega arith })
     (λ c. search needs)
-    (λ c. search needs)
-    (λ c. search needs)
-    (λ c κs. search needs)
-    (λ c. search needs)
-    (λ c. search needs)
-    (λ c. search needs)
-    (λ c. search needs)
+    (λ c. record { fits = omega arith })
     (λ c. search needs)
     loop-again
-    (λ c. search needs)
-    (λ c. search needs)
+    (λ c. record { fits = omega arith })
+    (λ c. record { fits = omega arith })
     (λ c κs. search needs)
-    (λ c. search needs)
-    (λ c. search needs)
+    (λ c. record { fits = omega arith })
+    (λ c. record { fits = omega arith })
     (λ c. search needs)
     (λ c. search needs)
     returns)
