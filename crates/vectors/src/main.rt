@@ -51,8 +51,6 @@ fn agrees(
     ieee: &[u32; 2048],
     a: &mut [u8],
     b: &mut [u8],
-    cfg: &mut [u8],
-    label: &mut [u8],
     ram: &mut [u16],
     flash: &mut [u16],
 ) -> bool {
@@ -60,12 +58,10 @@ fn agrees(
         Family::Sums => checksums::sums_agree(rec, a),
         Family::Load => loads::load_agrees(rec, ieee, a, b, ram, flash),
         Family::Card => card::card_agrees(rec, ieee, a, b, ram),
-        Family::Machine => loads::machine_agrees(rec, ieee, a, b, ram, flash),
-        Family::Jlp => loads::machine_agrees(rec, ieee, a, b, ram, flash),
+        Family::Machine | Family::Jlp => loads::machine_agrees(rec, ieee, a, b, ram, flash),
         Family::Write => writes::write_agrees(rec, ieee, a, b, ram),
-        Family::Cfg => titles::build_agrees(rec, ieee, a, cfg, label, b),
-        Family::Build => titles::build_agrees(rec, ieee, a, cfg, label, b),
-        Family::Bus => titles::bus_agrees(rec, ieee, a, cfg, b, ram),
+        Family::Cfg | Family::Build => titles::build_agrees(rec, ieee, a, b),
+        Family::Bus => titles::bus_agrees(rec, ieee, a, b, ram),
     }
 }
 
@@ -75,8 +71,6 @@ fn run(
     ieee: &[u32; 2048],
     a: &mut [u8],
     b: &mut [u8],
-    cfg: &mut [u8],
-    label: &mut [u8],
     ram: &mut [u16],
     flash: &mut [u16],
 ) -> Tally {
@@ -84,10 +78,7 @@ fn run(
     let mut at = 0;
     while at < file.len() {
         let end = end_of(file, at);
-        t = tally::counted(
-            t,
-            agrees(family, &file[at..end], ieee, a, b, cfg, label, ram, flash),
-        );
+        t = tally::counted(t, agrees(family, &file[at..end], ieee, a, b, ram, flash));
         at = end;
     }
     t
@@ -116,12 +107,10 @@ fn run_records(
     ieee: &[u32; 2048],
     a: &mut [u8],
     b: &mut [u8],
-    cfg: &mut [u8],
-    label: &mut [u8],
     ram: &mut [u16],
     flash: &mut [u16],
 ) -> Tally {
-    let t = run(family, file, ieee, a, b, cfg, label, ram, flash);
+    let t = run(family, file, ieee, a, b, ram, flash);
     tally::report(name, t);
     t
 }
@@ -133,8 +122,6 @@ fn run_file(
     file: &mut [u8],
     a: &mut [u8],
     b: &mut [u8],
-    cfg: &mut [u8],
-    label: &mut [u8],
     ram: &mut [u16],
     flash: &mut [u16],
 ) -> Tally {
@@ -152,8 +139,6 @@ fn run_file(
         ieee,
         a,
         b,
-        cfg,
-        label,
         ram,
         flash,
     )
@@ -179,8 +164,6 @@ fn run_files(
     file: &mut [u8],
     a: &mut [u8],
     b: &mut [u8],
-    cfg: &mut [u8],
-    label: &mut [u8],
     ram: &mut [u16],
     flash: &mut [u16],
 ) {
@@ -189,7 +172,7 @@ fn run_files(
     let mut had = 0;
     let mut k = 0;
     while k < FAMILIES {
-        let t = run_file(family_of(k), &ieee, file, a, b, cfg, label, ram, flash);
+        let t = run_file(family_of(k), &ieee, file, a, b, ram, flash);
         had = tally::with_cases(had, t);
         all = tally::both_of(all, t);
         k += 1;
@@ -201,20 +184,9 @@ fn main() {
     let mut file = rooms::file_room();
     let mut a = rooms::image_room();
     let mut b = buffer_room();
-    let mut cfg = [0u8; 20480];
-    let mut label = rooms::label_room();
     let mut ram = word_room();
     let mut flash = word_room();
     let first = checksums::vectors();
     tally::report(b"001", first);
-    run_files(
-        first,
-        &mut file,
-        &mut a,
-        &mut b,
-        &mut cfg,
-        &mut label,
-        &mut ram,
-        &mut flash,
-    );
+    run_files(first, &mut file, &mut a, &mut b, &mut ram, &mut flash);
 }

@@ -12,7 +12,11 @@ use cases::record::front;
 use cases::record::get32;
 use cases::record::has8;
 use cases::record::has32;
+use cases::rooms;
 use cases::state::same_words;
+
+// Room for any CFG.
+const CFG_ROOM: usize = 20480;
 
 // How many bytes the BIN and the CFG have, and the place of the record's next field.
 struct Title {
@@ -81,7 +85,7 @@ fn same_building(rec: &[u8], at: usize, b: Building, whole: usize) -> bool {
 }
 
 // A build: the answer, and the whole buffer.
-pub fn build_agrees(
+fn built_agrees(
     rec: &[u8],
     ieee: &[u32; 2048],
     bin: &mut [u8],
@@ -93,6 +97,12 @@ pub fn build_agrees(
     let o = take_buffer(rec, t.next, out);
     let b = build_in(bin, cfg, t.title, label, t.label, out, o.n);
     same_building(rec, o.next, b, digest(ieee, front(out, o.n)))
+}
+
+pub fn build_agrees(rec: &[u8], ieee: &[u32; 2048], bin: &mut [u8], out: &mut [u8]) -> bool {
+    let mut cfg = [0u8; CFG_ROOM];
+    let mut label = rooms::label_room();
+    built_agrees(rec, ieee, bin, &mut cfg, &mut label, out)
 }
 
 // A title built: whether it was, the image's length, and the place of the record's next field.
@@ -118,11 +128,11 @@ pub fn bus_agrees(
     rec: &[u8],
     ieee: &[u32; 2048],
     bin: &mut [u8],
-    cfg: &mut [u8],
     image: &mut [u8],
     ram: &mut [u16],
 ) -> bool {
-    let x = press(rec, bin, cfg, image);
+    let mut cfg = [0u8; CFG_ROOM];
+    let x = press(rec, bin, &mut cfg, image);
     let r = run_title(rec, x.next, image, x.length, ram);
     let stored = same_words(get32(rec, r.next), ieee, ram, r.ram, image);
     both(

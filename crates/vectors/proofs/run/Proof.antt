@@ -7,10 +7,10 @@ use Rattle.vectors.proofs.run.Statement.{statement}
 use Rattle.vectors.proofs.run.Tie as tie
 
 abbrev Inv-loop : tie.InvT-loop
-Inv-loop family file ieee a₀ b₀ cfg₀ label₀ ram₀ flash₀ t₀ at₀ a b cfg label ram flash t at = (at ≤ length file) × (length a ≡ length a₀) × (length b ≡ length b₀) × (length cfg ≡ length cfg₀) × (length label ≡ length label₀) × (length ram ≡ length ram₀) × (length flash ≡ length flash₀)
+Inv-loop family file ieee a₀ b₀ ram₀ flash₀ t₀ at₀ a b ram flash t at = (at ≤ length file) × (length a ≡ length a₀) × (length b ≡ length b₀) × (length ram ≡ length ram₀) × (length flash ≡ length flash₀)
 
 abbrev μ-loop : tie.MeasureT-loop
-μ-loop family file ieee a₀ b₀ cfg₀ label₀ ram₀ flash₀ t₀ at₀ a b cfg label ram flash t at = length file - at
+μ-loop family file ieee a₀ b₀ ram₀ flash₀ t₀ at₀ a b ram flash t at = length file - at
 
 pub run-spec : {M : Type 1} → statement M
 run-spec =
@@ -26,8 +26,6 @@ run-spec =
     (λ c. search needs)
     (λ c κs. search needs)
     (λ c κs. search needs)
-    (λ c. search needs)
-    (λ c. search needs)
     (λ c. search needs)
     (λ c. search needs)
     (λ c. search needs)

@@ -7,11 +7,11 @@ use Rattle.vectors.proofs.run_files.Statement.{statement}
 use Rattle.vectors.proofs.run_files.Tie as tie
 
 abbrev Inv-loop : tie.InvT-loop
-Inv-loop file₀ a₀ b₀ cfg₀ label₀ ram₀ flash₀ ieee all₀ had₀ k₀ file a b cfg label ram flash all had k =
-    (k ≤ 9) × (length file ≡ length file₀) × (length a ≡ length a₀) × (length b ≡ length b₀) × (length cfg ≡ length cfg₀) × (length label ≡ length label₀) × (length ram ≡ length ram₀) × (length flash ≡ length flash₀)
+Inv-loop file₀ a₀ b₀ ram₀ flash₀ ieee all₀ had₀ k₀ file a b ram flash all had k =
+    (k ≤ 9) × (length file ≡ length file₀) × (length a ≡ length a₀) × (length b ≡ length b₀) × (length ram ≡ length ram₀) × (length flash ≡ length flash₀)
 
 abbrev μ-loop : tie.MeasureT-loop
-μ-loop file₀ a₀ b₀ cfg₀ label₀ ram₀ flash₀ ieee all₀ had₀ k₀ file a b cfg label ram flash all had k = 9 - k
+μ-loop file₀ a₀ b₀ ram₀ flash₀ ieee all₀ had₀ k₀ file a b ram flash all had k = 9 - k
 
 pub run-files-spec : {M : Type 1} → statement M
 run-files-spec =
@@ -29,8 +29,6 @@ run-files-spec =
     (λ c. search needs)
     (λ c. search needs)
     (λ c κs. search needs)
-    (λ c. search needs)
-    (λ c. search needs)
     (λ c. search needs)
     (λ c. search needs)
     (λ c. search needs)
