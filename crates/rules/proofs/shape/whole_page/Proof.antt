@@ -1,13 +1,11 @@
 -- `rules::shape::whole_page` meets its contract, by what the tests that it joins ensure.
-use mathlib.Core.Path.{refl}
 use borrow.Author.Needs.{needs}
-use Rattle.places.specs.Limits.{chapterSize}
-use Rattle.rules.proofs.Tests.{one-more}
+use Rattle.rules.proofs.Tests.{joined}
 use Rattle.rules.proofs.shape.whole_page.Statement.{statement}
 use Rattle.rules.proofs.shape.whole_page.Tie as tie
 
 returns : tie.Need-returns
-returns c = cc (one-more (c .before .before .before .above .result) 4095 chapterSize refl)
+returns c = search joined
 
 pub whole-page-spec : {M : Type 1} → statement M
 whole-page-spec =
