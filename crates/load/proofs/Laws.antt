@@ -38,8 +38,8 @@ use Rattle.blocks.specs.Laws.Judged.{standing, judged-standing, judged-within}
 use Rattle.load.specs.declared.Verdict.the-variants.{Refused, Loads}
 use Rattle.load.specs.declared.Loading.{Loading}
 use Rattle.load.specs.declared.Step.the-variants.{Ends, No, Next}
-use Rattle.load.specs.Code.Passes.{judgementOf, tablesAfter, onJudged, stepOf, endedAt, tablesAt, endRefusal, finishedOf, blockStored, eachStored, finishedRamOf}
-use Rattle.load.specs.Load.{refused}
+use Rattle.load.specs.Code.Passes.{judgementOf, tablesAfter, onJudged, stepOf, endedAt, tablesAt, endRefusal, finishedOf, blockStored, finishedRamOf}
+use Rattle.load.specs.Load.{refused, hunksLaid}
 
 -- what a block's payload is lent as
 pub payload-lent : (x : List ℕ) (a : ℕ) → a ≡ min 8 (length x) → part x a (length x) ≡ payloadIn x
@@ -175,7 +175,7 @@ module _ (s ram : List ℕ) (t blocks words : ℕ) (c : Cartridge) (ec : c ≡ c
     unfolding finishedOf
     loaded-answer n en k ek = rw (← end-is, eq-eqb _ _ h, en, ec, ek)
 
-    pub loaded-ram : (after : List ℕ) → after ≡ eachStored (blocksIn s) ram → after ≡ finishedRamOf s t ram f
+    pub loaded-ram : (after : List ℕ) → after ≡ hunksLaid (blocksIn s) ram → after ≡ finishedRamOf s t ram f
     unfolding finishedRamOf
     loaded-ram after ea = ea ∙ rw (← end-is, eq-eqb _ _ h)
 

@@ -33,8 +33,8 @@ use Rattle.load.specs.declared.Step.{Step}
 use Rattle.load.specs.declared.Step.the-variants.{Ends, No, Next}
 use Rattle.load.specs.declared.Verdict.{Verdict}
 use Rattle.load.specs.declared.Verdict.the-variants.{Refused}
-use Rattle.load.specs.Load.{walkRows}
-use Rattle.load.specs.Code.Passes.{judgementOf, tablesAfter, onJudged, stepOf, endedAt, tablesPlace, verdictOf, blockStored, eachStored}
+use Rattle.load.specs.Load.{walkRows, hunksLaid}
+use Rattle.load.specs.Code.Passes.{judgementOf, tablesAfter, onJudged, stepOf, endedAt, tablesPlace, verdictOf, blockStored}
 
 -- ---- a step, by its frame
 
@@ -257,22 +257,22 @@ pub record Storing (s : List ℕ) (p : ℕ) (ram₀ ram : List ℕ) : Type 0 whe
   pub before : List (List ℕ)
   pub at : At s p before
   pub long : length ram ≡ length ram₀
-  pub is : ram ≡ eachStored before ram₀
+  pub is : ram ≡ hunksLaid before ram₀
 
 pub store-start : (s ram : List ℕ) → Storing s 32 ram ram
-unfolding eachStored
+unfolding hunksLaid
 store-start s ram = record { before = []; at = at-start s; long = refl; is = refl }
 
-stored-append : (xs : List (List ℕ)) (x ram : List ℕ) → eachStored (xs ++ (x ∷ [])) ram ≡ blockStored x (typeOf x) (eachStored xs ram)
-unfolding eachStored
+stored-append : (xs : List (List ℕ)) (x ram : List ℕ) → hunksLaid (xs ++ (x ∷ [])) ram ≡ blockStored x (typeOf x) (hunksLaid xs ram)
+unfolding hunksLaid blockStored
 stored-append [] x ram = refl
 stored-append (y ∷ xs) x ram = stored-append xs x (blockStored y (typeOf y) ram)
 
 module _ (s : List ℕ) (p : ℕ) (ram₀ ram : List ℕ) (c : Storing s p ram₀ ram) (f : Frame) (ef : f ≡ frameAt s p) where
-  pub stored-over : f ≡ Over → ram ≡ eachStored (blocksIn s) ram₀
+  pub stored-over : f ≡ Over → ram ≡ hunksLaid (blocksIn s) ram₀
   stored-over e = rw (at-over s p (c .before) (c .at) (sym ef ∙ e) .all) (c .is)
 
-  pub stored-cut : f ≡ Cut → ram ≡ eachStored (blocksIn s) ram₀
+  pub stored-cut : f ≡ Cut → ram ≡ hunksLaid (blocksIn s) ram₀
   stored-cut e = rw (at-cut s p (c .before) (c .at) (sym ef ∙ e) .all) (c .is)
 
   module _ (t q : ℕ) (e : f ≡ Framed t q) where

@@ -11,7 +11,9 @@ use Rattle.header.specs.Header.{headerRows, flagsOf}
 use Rattle.header.specs.Flags.{compatOf, noCompat}
 use Rattle.cart.specs.declared.Cartridge.{Cartridge}
 use Rattle.cart.specs.Cartridges.{noCartridge}
+use Rattle.hunk.specs.Hunk.{storeHunk}
 use Rattle.tables.specs.Tables.{tablesIn, jlpOf, cartridgeOf, flashWords, tablesRows}
+use Rattle.blocks.specs.Blocks.{payloadIn, isHunk}
 use Rattle.blocks.specs.Images.{firstBlock, blocksIn, stopOf, isCut, judgeAll, anyTables, payloadOfTables, hunksIn, overlay, wordCount}
 use Rattle.load.specs.declared.Loading.{Loading}
 
@@ -33,12 +35,15 @@ refusalRows s m f = headerRows s ++ (walkRows s m ++ tablesRows (flagsOf s) (tab
 unfoldable pub refusalOf : List ℕ → ℕ → ℕ → Refusal
 refusalOf s m f = firstRefusal (refusalRows s m f)
 
--- the same with a flash of the size that the flags say: 13 by the size alone (02, W-209)
+-- the same with a flash of the size that the flags say, so that of 13 only the size is asked (02, W-209)
+abbrev pub flashAsked : List ℕ → ℕ
+flashAsked s = flashWords (flagsOf s)
+
 abbrev pub rowsBySize : List ℕ → ℕ → List (Row Refusal)
-rowsBySize s m = refusalRows s m (flashWords (flagsOf s))
+rowsBySize s m = refusalRows s m (flashAsked s)
 
 abbrev pub refusalBySize : List ℕ → ℕ → Refusal
-refusalBySize s m = refusalOf s m (flashWords (flagsOf s))
+refusalBySize s m = refusalOf s m (flashAsked s)
 
 abbrev pub loads : List ℕ → ℕ → ℕ → Bool
 loads s m f = passes (refusalOf s m f)
@@ -64,3 +69,8 @@ loadingOf s m f = cond (loads s m f) (loadedOf (flagsOf s) (blocksIn s)) (refuse
 -- the RAM afterwards: the hunks over it in file order, and as it was where the load is refused; the flash is only measured
 unfoldable pub loadRamOf : List ℕ → List ℕ → ℕ → List ℕ
 loadRamOf s ram f = cond (loads s (lent ram) f) (overlay (hunksIn (blocksIn s)) ram) ram
+
+-- the storing pass alone: the hunks of blocks laid over a RAM in file order; one that is not good for the words lent lays nothing
+unfoldable pub hunksLaid : List (List ℕ) → List ℕ → List ℕ
+hunksLaid [] ram = ram
+hunksLaid (x ∷ xs) ram = hunksLaid xs (cond (isHunk x) (storeHunk (payloadIn x) ram) ram)

@@ -11,8 +11,8 @@ ghost use Rattle.header.specs.Header.{headerSize, flagsOf};
 ghost use Rattle.tables.specs.Tables.{jlpOf, cartridgeOf, flashWords, tablesRefusal};
 ghost use Rattle.blocks.specs.Blocks.{payloadIn};
 ghost use Rattle.blocks.specs.Images.{blocksIn};
-ghost use Rattle.load.specs.Load.{refused, refusalBySize, loadingOf, loadRamOf};
-ghost use Rattle.load.specs.Code.Passes.{judgementOf, tablesAfter, stepOf, endedAt, verdictOf, tablesAt, Tabled, endRefusal, finishedOf, blockStored, eachStored, finishedRamOf};
+ghost use Rattle.load.specs.Load.{refused, refusalBySize, loadingOf, loadRamOf, hunksLaid};
+ghost use Rattle.load.specs.Code.Passes.{judgementOf, tablesAfter, stepOf, endedAt, verdictOf, tablesAt, Tabled, endRefusal, finishedOf, blockStored, finishedRamOf};
 use basics::Refusal;
 use blocks::FIRST_BLOCK;
 use blocks::FRAME_SIZE;
@@ -136,13 +136,13 @@ fn store_block(x: &[u8], t: u8, ram: &mut [u16])
     }
 }
 
-// The storing pass over the blocks.
-fn store_blocks(s: &[u8], ram: &mut [u16])
-    ensures { λ _. ⌜ now (ram .exit) ≡ eachStored (blocksIn (now (s .entry))) (now (ram .entry)) ⌝ }
+// The storing pass alone: each hunk before the stop is laid over the RAM, and one that is not good for the words lent lays nothing.
+pub fn lay_hunks(image: &[u8], ram: &mut [u16])
+    ensures { λ _. ⌜ now (ram .exit) ≡ hunksLaid (blocksIn (now (image .entry))) (now (ram .entry)) ⌝ }
 {
     let mut p = FIRST_BLOCK;
     loop {
-        let f = blocks::frame_at(s, p);
+        let f = blocks::frame_at(image, p);
         match f {
             Frame::Over => {
                 return;
@@ -151,7 +151,7 @@ fn store_blocks(s: &[u8], ram: &mut [u16])
                 return;
             }
             Frame::Framed(t, q) => {
-                store_block(&s[p..q], t, ram);
+                store_block(&image[p..q], t, ram);
                 p = q;
             }
         }
@@ -204,7 +204,7 @@ fn finish(s: &[u8], t: usize, blocks: usize, words: usize, ram: &mut [u16], f: u
     if r.number != 0 {
         return refuse(r);
     }
-    store_blocks(s, ram);
+    lay_hunks(s, ram);
     let from = header::FLAGS_AT;
     let to = header::UID_AT;
     Loading {

@@ -15,7 +15,7 @@ use Rattle.header.specs.Flags.{compatOf}
 use Rattle.hunk.specs.Hunk.{storeHunk}
 use Rattle.tables.specs.Tables.{tablesSize, tablesIn, jlpOf, cartridgeOf, tablesRefusal}
 use Rattle.blocks.specs.declared.Judged.{Judged}
-use Rattle.blocks.specs.Blocks.{frameSize, typeOf, payloadIn, tablesType, hunkType, isTables}
+use Rattle.blocks.specs.Blocks.{frameSize, payloadIn, tablesType, hunkType, isTables}
 use Rattle.blocks.specs.Frames.{frameAt, onFrame}
 use Rattle.blocks.specs.Judged.{judgedOf}
 use Rattle.blocks.specs.Images.{firstBlock, blocksIn, hunksIn, wordCount}
@@ -24,7 +24,7 @@ use Rattle.load.specs.declared.Step.the-variants.{Ends, No, Next}
 use Rattle.load.specs.declared.Verdict.{Verdict}
 use Rattle.load.specs.declared.Verdict.the-variants.{Refused, Loads}
 use Rattle.load.specs.declared.Loading.{Loading}
-use Rattle.load.specs.Load.{walkRows, refused}
+use Rattle.load.specs.Load.{walkRows, refused, hunksLaid}
 
 -- a block judged with its payload's own checksum
 abbrev pub judgementOf : ℕ → Bool → ℕ → List ℕ → Judged
@@ -75,13 +75,9 @@ loadedBy s t blocks words =
 unfoldable pub finishedOf : List ℕ → ℕ → ℕ → ℕ → ℕ → ℕ → Loading
 finishedOf s m f t blocks words = cond (passes (endRefusal s t m f)) (loadedBy s t blocks words) (refused (endRefusal s t m f))
 
--- the hunk of a block of type t, stored; each hunk stored, one block after the other
+-- the hunk of a block of type t, stored
 unfoldable pub blockStored : List ℕ → ℕ → List ℕ → List ℕ
 blockStored x t ram = cond (eqb t hunkType) (storeHunk (payloadIn x) ram) ram
 
-unfoldable pub eachStored : List (List ℕ) → List ℕ → List ℕ
-eachStored [] ram = ram
-eachStored (x ∷ xs) ram = eachStored xs (blockStored x (typeOf x) ram)
-
 unfoldable pub finishedRamOf : List ℕ → ℕ → List ℕ → ℕ → List ℕ
-finishedRamOf s t ram f = cond (passes (endRefusal s t (lent ram) f)) (eachStored (blocksIn s) ram) ram
+finishedRamOf s t ram f = cond (passes (endRefusal s t (lent ram) f)) (hunksLaid (blocksIn s) ram) ram

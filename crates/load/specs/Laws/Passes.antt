@@ -35,8 +35,8 @@ use Rattle.blocks.specs.Laws.Images.{next-blocks, reading}
 use Rattle.load.specs.declared.Verdict.{Verdict}
 use Rattle.load.specs.declared.Verdict.the-variants.{Refused, Loads}
 use Rattle.load.specs.declared.Loading.{Loading}
-use Rattle.load.specs.Load.{walkRows, refusalRows, refusalOf, refusalBySize, loads, loadedOf, refused, loadingOf, loadRamOf}
-use Rattle.load.specs.Code.Passes.{tablesPlace, verdictOf, Tabled, tablesAt, endRefusal, finishedOf, blockStored, eachStored, finishedRamOf}
+use Rattle.load.specs.Load.{walkRows, refusalRows, refusalOf, refusalBySize, loads, loadedOf, refused, loadingOf, loadRamOf, hunksLaid}
+use Rattle.load.specs.Code.Passes.{tablesPlace, verdictOf, Tabled, tablesAt, endRefusal, finishedOf, finishedRamOf}
 use Rattle.load.specs.Laws.Refusals.{walk-silent, walk-refusing}
 
 -- what a block's rows say where none holds
@@ -95,8 +95,8 @@ unfolding storeHunk
 store-laid x ram h e = let b = rw h at e in rw b
 
 pub stored-over :
-    (xs : List (List ℕ)) (m : ℕ) (e : Bool) (p : ℕ) (ram : List ℕ) → m ≡ lent ram → Silent (judgeAll m e p xs) → eachStored xs ram ≡ overlay (hunksIn xs) ram
-unfolding eachStored blockStored hunksIn overlay judgeAll
+    (xs : List (List ℕ)) (m : ℕ) (e : Bool) (p : ℕ) (ram : List ℕ) → m ≡ lent ram → Silent (judgeAll m e p xs) → hunksLaid xs ram ≡ overlay (hunksIn xs) ram
+unfolding hunksLaid hunksIn overlay judgeAll
 stored-over [] m e p ram k q = refl
 stored-over (x ∷ xs) m e p ram k q =
     let rows = judgeRows m e p (crc324Of (payloadIn x)) x in

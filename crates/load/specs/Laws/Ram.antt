@@ -22,10 +22,10 @@ use Rattle.hunk.specs.Laws.Refusals.{WholeIn, whole-words}
 use Rattle.blocks.specs.Blocks.{payloadIn, isHunk, isTables}
 use Rattle.blocks.specs.Judged.{wrongHunk, judgeRows}
 use Rattle.blocks.specs.Images.{firstBlock, blocksIn, judgeAll, hunksIn, overlay, wordCount}
-use Rattle.load.specs.Load.{refusalOf, loads, loadedOf, loadingOf, loadRamOf}
+use Rattle.load.specs.Load.{refusalOf, loads, loadedOf, loadingOf, loadRamOf, hunksLaid}
 use Rattle.load.specs.Leaves.{names, named, Filled, Leaves}
 use Rattle.load.specs.Laws.Refusals.{answer-refusal, Accepted, accepted}
-use Rattle.load.specs.Laws.Passes.{judged-hunk}
+use Rattle.load.specs.Laws.Passes.{judged-hunk, stored-over}
 
 pub length-overlay : (hs : List Hunk) (ram : List ℕ) → length (overlay hs ram) ≡ length ram
 unfolding overlay
@@ -155,3 +155,11 @@ leaves s ram f e =
       words = refl;
       blocks = refl;
     })
+
+-- and what it leaves is what the storing pass alone does
+pub laid : (s ram : List ℕ) (f : ℕ) → loadingOf s (lent ram) f .refusal .number ≡ 0 → hunksLaid (blocksIn s) ram ≡ loadRamOf s ram f
+unfolding loadRamOf
+laid s ram f e =
+    let n : refusalOf s (lent ram) f .number ≡ 0 = rw answer-refusal at e in
+    let go : loads s (lent ram) f ≡ true = eq-eqb _ _ n in
+    stored-over (blocksIn s) (lent ram) false firstBlock ram refl (accepted s (lent ram) f n .blocks) ∙ rw go

@@ -1,17 +1,17 @@
--- `load::store_blocks` meets its contract. The invariant: the hunks of the blocks before p are stored.
+-- `load::lay_hunks` meets its contract. The invariant: the hunks of the blocks before p are stored.
 use Prim.Native.Nat.{_-_}
 use lib.ListN.{length}
 use Rattle.load.proofs.Laws.{frame-later, frame-inside}
 use Rattle.load.proofs.Loops.{Storing, store-start, stored-over, stored-cut, stored-less, stored-more}
 use borrow.Author.Needs.{needs}
-use Rattle.load.proofs.store_blocks.Statement.{statement}
-use Rattle.load.proofs.store_blocks.Tie as tie
+use Rattle.load.proofs.lay_hunks.Statement.{statement}
+use Rattle.load.proofs.lay_hunks.Tie as tie
 
 abbrev Inv-loop : tie.InvT-loop
-Inv-loop s ram₀ p₀ ram p = Storing s p ram₀ ram
+Inv-loop image ram₀ p₀ ram p = Storing image p ram₀ ram
 
 abbrev μ-loop : tie.MeasureT-loop
-μ-loop s ram₀ p₀ ram p = length s - p
+μ-loop image ram₀ p₀ ram p = length image - p
 
 loop-holds : tie.Need-loop-holds Inv-loop μ-loop
 loop-holds c = search (needs, store-start)
@@ -37,8 +37,8 @@ loop-less c = search (needs, stored-less)
 loop-again : tie.Need-loop-again Inv-loop μ-loop
 loop-again c = search (needs, stored-more)
 
-pub store-blocks-spec : {M : Type 1} → statement M
-store-blocks-spec =
+pub lay-hunks-spec : {M : Type 1} → statement M
+lay-hunks-spec =
     tie.close
     (tie.spec
     Inv-loop
