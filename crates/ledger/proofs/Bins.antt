@@ -11,11 +11,12 @@ use lib.Seq.{length-take-le, take-all, take-suc}
 use borrow.Author.Tests.{eq-eqb, eqb-false, eqb-true, ne-eqb}
 use borrow.Rule.Slice.PartMut.{putMid}
 use Rattle.basics.specs.Laws.Each.{joined-append, joined-more}
+use Rattle.basics.specs.Laws.Lists.{getD-part, length-part}
 use Rattle.basics.specs.Laws.Puts.{put-behind, put-room, put-short, put-wrote}
-use Rattle.basics.specs.Laws.Tables.{getD-table, length-table}
+use Rattle.basics.specs.Laws.Tables.{getD-table, length-table, table-of}
 use Rattle.basics.specs.Laws.Tests.{cases, not-false, not-true}
 use Rattle.basics.specs.Laws.Wrote.{Wrote, wrote-all, wrote-long, wrote-none, wrote-part, wrote-set}
-use Rattle.basics.specs.Lists.{flat, joined, putFront}
+use Rattle.basics.specs.Lists.{flat, joined, part, putFront}
 use Rattle.places.specs.Limits.{chapterPages, flipEntries, paragraphSize, paragraphs}
 use Rattle.plan.specs.Plan.{hasPage}
 use Rattle.canon.specs.Bin.{be16, canonicalBin, canonicalWords, orZero, pagePlace, pagedWords, plainPlace, romWords, wordsFrom}
@@ -29,35 +30,31 @@ use Rattle.ledger.specs.Laws.Held.{kind-in, page-in}
 pub no-word : (ram : List ℕ) (at : ℕ) → length ram ≤ at → 0 ≡ getD ram at 0
 no-word ram at h = sym (List·getD-eq-default ram 0 {n = at} h)
 
-pub record Words (ram : List ℕ) (a n : ℕ) (out₀ out : List ℕ) (i : ℕ) : Type 0 where
+-- the first i of n words are written
+pub record Words (ws : List ℕ) (n : ℕ) (out₀ out : List ℕ) (i : ℕ) : Type 0 where
+  pub many : length ws ≡ n
   pub up : i ≤ n
   pub fits : length out₀ ≡ 2 * n
   pub long : length out ≡ 2 * n
-  pub wrote : Wrote out₀ out (joined be16 (take i (wordsFrom (wordsIn ram) a n)))
+  pub wrote : Wrote out₀ out (joined be16 (take i ws))
 
-pub words-none : (ram : List ℕ) (a n : ℕ) (out : List ℕ) → length out ≡ 2 * n → Words ram a n out out 0
+pub words-none : (ws : List ℕ) (n : ℕ) (out : List ℕ) → length ws ≡ n → length out ≡ 2 * n → Words ws n out out 0
 unfolding joined
-words-none ram a n out l = record { up = omega arith; fits = l; long = l; wrote = wrote-none out }
+words-none ws n out m l = record { many = m; up = omega arith; fits = l; long = l; wrote = wrote-none out }
 
-module _ (ram : List ℕ) (a n : ℕ) (out₀ out : List ℕ) (i : ℕ) (c : Words ram a n out₀ out i) where
-  abbrev ws : List ℕ
-  ws = wordsFrom (wordsIn ram) a n
-
-  ws-long : length ws ≡ n
-  ws-long = length-table n (λ j. wordsIn ram (a + j))
-
-  pub words-more : i < n → (w h l : ℕ) → w ≡ getD ram (a + i) 0 → h ≡ w / 256 → l ≡ w % 256 → Words ram a n out₀ (set (set out (2 * i) h) (2 * i + 1) l) (i + 1)
+module _ (ws : List ℕ) (n : ℕ) (out₀ out : List ℕ) (i : ℕ) (c : Words ws n out₀ out i) where
+  pub words-more : i < n → (w h l : ℕ) → w ≡ getD ws i 0 → h ≡ w / 256 → l ≡ w % 256 → Words ws n out₀ (set (set out (2 * i) h) (2 * i + 1) l) (i + 1)
   words-more b w h l ew eh el =
       let x : List ℕ = joined be16 (take i ws) in
-      let k : length x ≡ 2 * i = length-bytes (take i ws) ∙ ap (λ (m : ℕ). 2 * m) (length-take-le i ws (omega (arith, ws-long))) in
+      let k : length x ≡ 2 * i = length-bytes (take i ws) ∙ ap (λ (m : ℕ). 2 * m) (length-take-le i ws (omega (arith, c .many))) in
       let one : Wrote out₀ (set out (2 * i) h) (x ++ (w / 256 ∷ [])) = wrote-set out₀ out x (2 * i) h (w / 256) (c .wrote) (sym k) (omega (arith, c .fits)) eh in
       let two : Wrote out₀ (set (set out (2 * i) h) (2 * i + 1) l) ((x ++ (w / 256 ∷ [])) ++ (w % 256 ∷ [])) =
       wrote-set out₀ (set out (2 * i) h) (x ++ (w / 256 ∷ [])) (2 * i + 1) l (w % 256) one (omega (arith, length-append x (w / 256 ∷ []))) (omega (arith, c .fits)) el in
-      let v : getD ws i 0 ≡ w = getD-table 0 n (λ j. wordsIn ram (a + j)) i b ∙ sym ew in
-      let t : take (i + 1) ws ≡ take i ws ++ (w ∷ []) = rw (add-one, ← v) (take-suc ws i 0 (omega (arith, ws-long))) in
+      let t : take (i + 1) ws ≡ take i ws ++ (w ∷ []) = rw (add-one, ew) (take-suc ws i 0 (omega (arith, c .many))) in
       let e : (x ++ (w / 256 ∷ [])) ++ (w % 256 ∷ []) ≡ joined be16 (take (i + 1) ws) =
       append-assoc x (w / 256 ∷ []) (w % 256 ∷ []) ∙ sym (ap (joined be16) t ∙ joined-more be16 (take i ws) w) in
       record {
+        many = c .many;
         up = omega arith;
         fits = c .fits;
         long = length-set (set out (2 * i) h) (2 * i + 1) l ∙ length-set out (2 * i) h ∙ c .long;
@@ -67,14 +64,31 @@ module _ (ram : List ℕ) (a n : ℕ) (out₀ out : List ℕ) (i : ℕ) (c : Wor
   pub words-second : i < n → (h : ℕ) → 2 * i + 1 < length (set out (2 * i) h)
   words-second b h = omega (arith, length-set out (2 * i) h, c .long)
 
-  pub words-all : n ≤ i → out ≡ joined be16 (wordsFrom (wordsIn ram) a n)
+  pub words-all : n ≤ i → out ≡ joined be16 ws
   words-all h =
-      let t : take i ws ≡ ws = take-all i ws (omega (arith, ws-long)) in
-      wrote-all out₀ out (joined be16 (take i ws)) (c .wrote) (ap (λ (x : List ℕ). length (joined be16 x)) t ∙ omega (arith, length-bytes ws, ws-long, c .fits))
+      let t : take i ws ≡ ws = take-all i ws (omega (arith, c .many)) in
+      wrote-all out₀ out (joined be16 (take i ws)) (c .wrote) (ap (λ (x : List ℕ). length (joined be16 x)) t ∙ omega (arith, length-bytes ws, c .many, c .fits))
       ∙ ap (joined be16) t
 
   pub words-same : length out ≡ length out₀
   words-same = omega (arith, c .long, c .fits)
+
+-- those from word a of a RAM on: one after the other, or a part of it
+module _ (ram : List ℕ) (a n : ℕ) where
+  abbrev pub from : List ℕ
+  from = wordsFrom (wordsIn ram) a n
+
+  pub from-none : (out : List ℕ) → length out ≡ 2 * n → Words from n out out 0
+  from-none out l = words-none from n out (length-table n (λ j. wordsIn ram (a + j))) l
+
+  pub from-more : (out₀ out : List ℕ) (i : ℕ) → Words from n out₀ out i → i < n → (w h l : ℕ) → w ≡ getD ram (a + i) 0 → h ≡ w / 256 → l ≡ w % 256
+      → Words from n out₀ (set (set out (2 * i) h) (2 * i + 1) l) (i + 1)
+  from-more out₀ out i c b w h l ew = words-more from n out₀ out i c b w h l (ew ∙ sym (getD-table 0 n (λ j. wordsIn ram (a + j)) i b))
+
+  pub from-part : (out : List ℕ) → a + n ≤ length ram → out ≡ joined be16 (part ram a (a + n)) → out ≡ joined be16 from
+  from-part out h e =
+      let ws : List ℕ = part ram a (a + n) in
+      e ∙ ap (joined be16) (table-of 0 n (λ i. wordsIn ram (a + i)) ws (length-part ram a (a + n) h ∙ omega arith) (λ i l. getD-part ram a (a + n) i 0 (omega arith)))
 
 -- pieces of words, of the places that pass
 single : (x : List ℕ) → flat (x ∷ []) ≡ x

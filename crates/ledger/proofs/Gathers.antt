@@ -2,12 +2,12 @@
 use Prim.Native.Nat.{_*_, _+_, _<_, _≤_, suc, zero, ℕ}
 use mathlib.Core.Path.{_∙_, _≡_, ap, ap₂, refl, sym}
 use mathlib.Core.List.{List, [], _++_, _∷_, append-assoc, append-nil}
-use mathlib.Core.Bool.{Bool, cond, false, not, true}
+use mathlib.Core.Bool.{Bool, cond, false, true}
 use native.Mathlib.Omega.{arith}
 use native.Mathlib.Numerals.{add-one}
 use lib.Dec.{eqb}
 use lib.ListN.{getD, length, length-append, set}
-use borrow.Author.Tests.{ne-eqb, not-false, not-true}
+use borrow.Author.Tests.{ne-eqb}
 use Rattle.basics.specs.Counts.{count}
 use Rattle.basics.specs.Laws.Counts.{count-most}
 use Rattle.places.specs.Limits.{flipEntries, paragraphs}
@@ -46,10 +46,14 @@ module _ (before : List Line) (on : ℕ → Bool) (g : ℕ → Line) (b : ℕ) w
     unfolding listed
     one-more = rw add-one (sym (append-assoc before (listed n on g) (cond (on n) (g n ∷ []) [])))
 
-    gathered-more : n < 256 → (o : Bool) (x : Line) (v : Found) → o ≡ on n → x ≡ g n → v ≡ added f o x → Gathered before on g b v (n + 1)
-    gathered-more h o x v eo ex ev =
-        let next : v ≡ listOf (before ++ listed (n + 1) on g) =
-        ev ∙ rw (c .is, eo, ex) (added-list (before ++ listed n on g) (on n) (g n) ∙ ap listOf (sym one-more)) in
+    one-on : on n ≡ true → before ++ listed (n + 1) on g ≡ (before ++ listed n on g) ++ (g n ∷ [])
+    one-on o = one-more ∙ rw o
+
+    one-off : on n ≡ false → before ++ listed (n + 1) on g ≡ before ++ listed n on g
+    one-off o = one-more ∙ rw o (append-nil (before ++ listed n on g))
+
+    gathered-next : n < 256 → (v : Found) → v ≡ listOf (before ++ listed (n + 1) on g) → Gathered before on g b v (n + 1)
+    gathered-next h v next =
         record {
           up = omega arith;
           short = c .short;
@@ -64,6 +68,14 @@ module _ (before : List Line) (on : ℕ → Bool) (g : ℕ → Line) (b : ℕ) w
               );
           is = next;
         }
+
+    gathered-on : n < 256 → on n ≡ true → (x : Line) (v : Found) → x ≡ g n → v ≡ added f x → Gathered before on g b v (n + 1)
+    gathered-on h o x v ex ev =
+        let next : added f x ≡ listOf ((before ++ listed n on g) ++ (g n ∷ [])) = rw (c .is, ex) (added-list (before ++ listed n on g) (g n)) in
+        gathered-next h v (ev ∙ next ∙ ap listOf (sym (one-on o)))
+
+    gathered-off : n < 256 → on n ≡ false → (v : Found) → v ≡ f → Gathered before on g b v (n + 1)
+    gathered-off h o v ev = gathered-next h v (ev ∙ c .is ∙ ap listOf (sym (one-off o)))
 
     gathered-all : 256 ≤ n → f ≡ listOf (before ++ listed 256 on g)
     gathered-all h = let z : n ≡ 256 = omega (arith, c .up) in c .is ∙ ap (λ (m : ℕ). listOf (before ++ listed m on g)) z
@@ -82,11 +94,14 @@ module _ (ks : List ℕ) (ps : List Bool) where
   pub roms-none : (f : Found) → f ≡ listOf [] → Roms f 0
   roms-none f e = gathered-none [] (startsRom q) (romLine q) 0 f e (omega arith)
 
-  pub roms-more : (f : Found) (p : ℕ) → Roms f p → p < paragraphs → (e : Entry) (o : Bool) (v : Found) → e ≡ romEntry q p → o ≡ startsRom q p
-      → v ≡ added f o (line (2 + f .count) e) → Roms v (p + 1)
-  roms-more f p c h e o v ee eo ev =
+  pub roms-more : (f : Found) (p : ℕ) (o : Bool) → Roms f p → p < paragraphs → o ≡ startsRom q p → o ≡ true → (e : Entry) (a v : Found) → e ≡ romEntry q p
+      → a ≡ added f (line (2 + f .count) e) → v ≡ a → Roms v (p + 1)
+  roms-more f p o c h eo t e a v ee ea ev =
       let k : 2 + f .count ≡ 2 + count (startsRom q) p = omega (arith, gathered-count [] (startsRom q) (romLine q) 0 f p c) in
-      gathered-more [] (startsRom q) (romLine q) 0 f p c h o (line (2 + f .count) e) v eo (ap₂ line k ee) ev
+      gathered-on [] (startsRom q) (romLine q) 0 f p c h (sym eo ∙ t) (line (2 + f .count) e) v (ap₂ line k ee) (ev ∙ ea)
+
+  pub roms-off : (f : Found) (p : ℕ) (o : Bool) → Roms f p → p < paragraphs → o ≡ startsRom q p → o ≡ false → (v : Found) → v ≡ f → Roms v (p + 1)
+  roms-off f p o c h eo t v ev = gathered-off [] (startsRom q) (romLine q) 0 f p c h (sym eo ∙ t) v ev
 
   pub roms-all : (f : Found) (p : ℕ) → Roms f p → paragraphs ≤ p → f ≡ listOf (romLines q)
   roms-all f p c h = gathered-all [] (startsRom q) (romLine q) 0 f p c h
@@ -101,12 +116,15 @@ module _ (ks : List ℕ) (ps : List Bool) where
   pub pages-none : (f : Found) → f ≡ listOf (romLines q) → f .count ≤ 256 → Pages f 0
   pages-none f e h = gathered-none (romLines q) (hasPage q) (pageLine q) 256 f e (omega (arith, ap (λ (x : Found). x .count) e))
 
-  pub pages-more : (f : Found) (n : ℕ) → Pages f n → n < flipEntries → (e : Entry) (v : Found) → e ≡ pageEntry q n
-      → v ≡ added f (getD ps n false) (line (2 + f .count) e) → Pages v (n + 1)
-  pages-more f n c h e v ee ev =
+  pub pages-more : (f : Found) (n : ℕ) → Pages f n → n < flipEntries → getD ps n false ≡ true → (e : Entry) (a v : Found) → e ≡ pageEntry q n
+      → a ≡ added f (line (2 + f .count) e) → v ≡ a → Pages v (n + 1)
+  pages-more f n c h t e a v ee ea ev =
       let k : 2 + f .count ≡ 2 + count (startsRom q) 256 + count (hasPage q) n =
       omega (arith, gathered-count (romLines q) (hasPage q) (pageLine q) 256 f n c, length-listed 256 (startsRom q) (romLine q)) in
-      gathered-more (romLines q) (hasPage q) (pageLine q) 256 f n c h (getD ps n false) (line (2 + f .count) e) v (sym (page-in ks ps n)) (ap₂ line k ee) ev
+      gathered-on (romLines q) (hasPage q) (pageLine q) 256 f n c h (page-in ks ps n ∙ t) (line (2 + f .count) e) v (ap₂ line k ee) (ev ∙ ea)
+
+  pub pages-off : (f : Found) (n : ℕ) → Pages f n → n < flipEntries → getD ps n false ≡ false → (v : Found) → v ≡ f → Pages v (n + 1)
+  pages-off f n c h t v ev = gathered-off (romLines q) (hasPage q) (pageLine q) 256 f n c h (page-in ks ps n ∙ t) v ev
 
   pub pages-all : (f : Found) (n : ℕ) → Pages f n → flipEntries ≤ n → f ≡ listOf (mappingLines q)
   pages-all f n c h = gathered-all (romLines q) (hasPage q) (pageLine q) 256 f n c h
@@ -144,16 +162,21 @@ module _ (ks : List ℕ) (ps : List Bool) where
       let g : Gathered (mappingLines q) (startsRam q) (ramLine q) 512 f 0 = gathered-none (mappingLines q) (startsRam q) (ramLine q) 512 f e (omega arith) in
       record { small = s; named = en ∙ ap (λ (m : ℕ). cond (eqb m 0) 2 3) k; gathered = g; few = g .few; up = omega arith }
 
-  pub rams-more : (f : Found) (names p : ℕ) → Rams names f p → p < paragraphs → (e : Entry) (o : Bool) (v : Found) → e ≡ ramEntry q p → o ≡ startsRam q p
-      → v ≡ added f o (line (names + f .count) e) → Rams names v (p + 1)
-  rams-more f names p c h e o v ee eo ev =
+  rams-next : (names p : ℕ) (f v : Found) → Rams names f p → Gathered (mappingLines q) (startsRam q) (ramLine q) 512 v (p + 1) → Rams names v (p + 1)
+  rams-next names p f v c g = record { small = c .small; named = c .named; gathered = g; few = g .few; up = g .up }
+
+  pub rams-more : (f : Found) (names p : ℕ) (o : Bool) → Rams names f p → p < paragraphs → o ≡ startsRam q p → o ≡ true → (e : Entry) (a v : Found) → e ≡ ramEntry q p
+      → a ≡ added f (line (names + f .count) e) → v ≡ a → Rams names v (p + 1)
+  rams-more f names p o c h eo t e a v ee ea ev =
       let m : ℕ = length (mappingLines q) in
       let k : names + f .count ≡ 1 + memattrLine q + count (startsRam q) p =
       ap₂ _+_ (c .named) (gathered-count (mappingLines q) (startsRam q) (ramLine q) 512 f p (c .gathered))
       ∙ numbered m (count (startsRam q) p) ∙ ap (λ (j : ℕ). 1 + cond (eqb j 0) 1 (2 + j) + count (startsRam q) p) mapping-long in
-      let g : Gathered (mappingLines q) (startsRam q) (ramLine q) 512 v (p + 1) =
-      gathered-more (mappingLines q) (startsRam q) (ramLine q) 512 f p (c .gathered) h o (line (names + f .count) e) v eo (ap₂ line k ee) ev in
-      record { small = c .small; named = c .named; gathered = g; few = g .few; up = g .up }
+      rams-next names p f v c
+      (gathered-on (mappingLines q) (startsRam q) (ramLine q) 512 f p (c .gathered) h (sym eo ∙ t) (line (names + f .count) e) v (ap₂ line k ee) (ev ∙ ea))
+
+  pub rams-off : (f : Found) (names p : ℕ) (o : Bool) → Rams names f p → p < paragraphs → o ≡ startsRam q p → o ≡ false → (v : Found) → v ≡ f → Rams names v (p + 1)
+  rams-off f names p o c h eo t v ev = rams-next names p f v c (gathered-off (mappingLines q) (startsRam q) (ramLine q) 512 f p (c .gathered) h (sym eo ∙ t) v ev)
 
   pub rams-all : (f : Found) (names p : ℕ) → Rams names f p → paragraphs ≤ p → f ≡ listOf (canonicalLines q)
   rams-all f names p c h =
@@ -166,10 +189,6 @@ module _ (ks : List ℕ) (ps : List Bool) where
   unfolding listingOf
   listing-is f l ef el = rw (ef, el, mapping-long)
 
--- one line, by the flag
-pub add-off : (f : Found) (on : Bool) (x : Line) → not on ≡ true → f ≡ added f on x
-add-off f on x h = rw (not-true on h)
-
-pub add-on : (f : Found) (on : Bool) (x : Line) (ls : List Line) → not on ≡ false → ls ≡ set (f .lines) (f .count) x
-    → _≡_ {A = Found} (record { count = f .count + 1; lines = ls }) (added f on x)
-add-on f on x ls h e = rw (not-false on h, e)
+-- one line
+pub add-one-line : (f : Found) (x : Line) (ls : List Line) → ls ≡ set (f .lines) (f .count) x → _≡_ {A = Found} (record { count = f .count + 1; lines = ls }) (added f x)
+add-one-line f x ls e = rw e

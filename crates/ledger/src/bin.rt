@@ -29,8 +29,22 @@ pub fn word_of(ram: &[u16], at: usize) -> u16
     if at < ram.len() { ram[at] } else { 0 }
 }
 
-// n words from word a on, into a part of just their size.
-fn put_words(out: &mut [u8], ram: &[u16], a: usize, n: usize)
+// Words, into a part of just their size.
+fn put_each(out: &mut [u8], words: &[u16])
+    requires { ⌜ length (now out) ≡ 2 * length (now words) ⌝ }
+    ensures { λ _. ⌜ now (out .exit) ≡ joined be16 (now (words .entry)) ⌝ }
+{
+    let mut i = 0;
+    while i < words.len() {
+        let word = words[i];
+        out[2 * i] = high(word);
+        out[2 * i + 1] = low(word);
+        i += 1;
+    }
+}
+
+// n words from word a on, of which some may lie past the RAM's end, into a part of just their size.
+fn put_past(out: &mut [u8], ram: &[u16], a: usize, n: usize)
     requires { ⌜ (length (now out) ≡ 2 * n) × (a ≤ 2000000) × (n ≤ 4096) ⌝ }
     ensures { λ _. ⌜ now (out .exit) ≡ joined be16 (wordsFrom (wordsIn (now (ram .entry))) a n) ⌝ }
 {
@@ -41,6 +55,19 @@ fn put_words(out: &mut [u8], ram: &[u16], a: usize, n: usize)
         out[2 * i + 1] = low(w);
         i += 1;
     }
+}
+
+// n words from word a on, into a part of just their size: as a rule the RAM has them all, and none is asked for by itself.
+fn put_words(out: &mut [u8], ram: &[u16], a: usize, n: usize)
+    requires { ⌜ (length (now out) ≡ 2 * n) × (a ≤ 2000000) × (n ≤ 4096) ⌝ }
+    ensures { λ _. ⌜ now (out .exit) ≡ joined be16 (wordsFrom (wordsIn (now (ram .entry))) a n) ⌝ }
+{
+    let e = a + n;
+    if e <= ram.len() {
+        put_each(out, &ram[a..e]);
+        return;
+    }
+    put_past(out, ram, a, n)
 }
 
 // The words of the plain paragraphs of ROM, by address, at the front of a buffer; how many bytes they are.

@@ -63,14 +63,11 @@ fn store(lines: [Line; LINE_LIMIT], at: usize, e: Line) -> [Line; LINE_LIMIT]
     out
 }
 
-// One line more, if there is one.
-fn add(f: Found, on: bool, source: usize, e: Entry) -> Found
+// One line more.
+fn add(f: Found, source: usize, e: Entry) -> Found
     requires { ⌜ (f .count ≤ 65536) × (source ≤ 65536) ⌝ }
-    ensures { λ r. ⌜ r ≡ added f on (line source e) ⌝ }
+    ensures { λ r. ⌜ r ≡ added f (line source e) ⌝ }
 {
-    if !on {
-        return f;
-    }
     let old = f.lines;
     let lines = store(
         old,
@@ -93,9 +90,9 @@ fn roms_of(kinds: &[u8; PARAGRAPHS], pages: &[bool; FLIP_ENTRIES]) -> Found
     let mut f = none_found();
     let mut p = 0;
     while p < PARAGRAPHS {
-        let e = rom_entry(kinds, pages, p);
-        let on = starts_rom(kinds, pages, p);
-        f = add(f, on, 2 + f.count, e);
+        if starts_rom(kinds, pages, p) {
+            f = add(f, 2 + f.count, rom_entry(kinds, pages, p));
+        }
         p += 1;
     }
     f
@@ -109,8 +106,9 @@ fn with_pages(kinds: &[u8; PARAGRAPHS], pages: &[bool; FLIP_ENTRIES], roms: Foun
     let mut f = roms;
     let mut n = 0;
     while n < FLIP_ENTRIES {
-        let e = page_entry(kinds, pages, n);
-        f = add(f, pages[n], 2 + f.count, e);
+        if pages[n] {
+            f = add(f, 2 + f.count, page_entry(kinds, pages, n));
+        }
         n += 1;
     }
     f
@@ -136,9 +134,9 @@ fn with_rams(
     let mut f = mapping;
     let mut p = 0;
     while p < PARAGRAPHS {
-        let e = ram_entry(kinds, pages, p);
-        let on = starts_ram(kinds, pages, p);
-        f = add(f, on, names + f.count, e);
+        if starts_ram(kinds, pages, p) {
+            f = add(f, names + f.count, ram_entry(kinds, pages, p));
+        }
         p += 1;
     }
     f

@@ -1,8 +1,9 @@
 -- `ledger::roms_of` meets its contract. The loop's invariant: the lines of ROM of the first p paragraphs are found.
 use borrow.Author.Needs.{needs}
 use Prim.Native.Nat.{_-_}
+use mathlib.Core.Logic.{⊎-elim}
 use Rattle.places.specs.Limits.{paragraphs}
-use Rattle.ledger.proofs.Gathers.{Roms, roms-none, roms-more, roms-all, roms-few}
+use Rattle.ledger.proofs.Gathers.{Roms, roms-all, roms-few, roms-more, roms-none, roms-off}
 use Rattle.ledger.proofs.roms_of.Statement.{statement}
 use Rattle.ledger.proofs.roms_of.Tie as tie
 
@@ -16,7 +17,7 @@ loop-holds : tie.Need-loop-holds Inv-loop μ-loop
 loop-holds c = search (needs, roms-none)
 
 loop-again : tie.Need-loop-again Inv-loop μ-loop
-loop-again c = search (needs, roms-more)
+loop-again c = ⊎-elim (λ w. search (needs, roms-more)) (λ w. search (needs, roms-off)) (c .if1 .came)
 
 returns : tie.Need-returns Inv-loop μ-loop
 returns c = search (needs, roms-all, roms-few)
@@ -30,8 +31,8 @@ roms-of-spec =
     (λ c κs. search needs)
     loop-holds
     (λ c κs. search needs)
-    (λ c κs. search needs)
     (λ c. search needs)
+    (λ c κs. search needs)
     (λ c κs. search needs)
     (λ c. search needs)
     (λ c. search needs)

@@ -1,8 +1,9 @@
 -- `ledger::with_rams` meets its contract. The loop's invariant: the lines of RAM of the first p paragraphs are found.
 use borrow.Author.Needs.{needs}
 use Prim.Native.Nat.{_-_}
+use mathlib.Core.Logic.{⊎-elim}
 use Rattle.places.specs.Limits.{paragraphs}
-use Rattle.ledger.proofs.Gathers.{Rams, rams-none, rams-more, rams-all}
+use Rattle.ledger.proofs.Gathers.{Rams, rams-all, rams-more, rams-none, rams-off}
 use Rattle.ledger.proofs.with_rams.Statement.{statement}
 use Rattle.ledger.proofs.with_rams.Tie as tie
 
@@ -16,7 +17,7 @@ loop-holds : tie.Need-loop-holds Inv-loop μ-loop
 loop-holds c = search (needs, rams-none)
 
 loop-again : tie.Need-loop-again Inv-loop μ-loop
-loop-again c = search (needs, rams-more)
+loop-again c = ⊎-elim (λ w. search (needs, rams-more)) (λ w. search (needs, rams-off)) (c .if1 .came)
 
 returns : tie.Need-returns Inv-loop μ-loop
 returns c = search (needs, rams-all)
@@ -29,8 +30,8 @@ with-rams-spec =
     μ-loop
     loop-holds
     (λ c κs. search needs)
-    (λ c κs. search needs)
     (λ c. search needs)
+    (λ c κs. search needs)
     (λ c κs. search needs)
     (λ c. search needs)
     (λ c. search needs)

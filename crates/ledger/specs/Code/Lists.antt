@@ -1,7 +1,6 @@
 -- Lines in an array, and the canonical lines so far.
 use Prim.Native.Nat.{_+_, ℕ}
 use mathlib.Core.List.{List, [], _++_, _∷_}
-use mathlib.Core.Bool.{Bool, cond}
 use lib.ListN.{getD, length, set}
 use Rattle.basics.specs.Tables.{table}
 use Rattle.places.specs.Limits.{flipEntries, lineLimit, paragraphs}
@@ -26,8 +25,8 @@ shown ls = table lineLimit (λ i. getD ls i noLine)
 abbrev pub listOf : List Line → Found
 listOf ls = record { count = length ls; lines = shown ls }
 
-abbrev pub added : Found → Bool → Line → Found
-added f on l = cond on (record { count = f .count + 1; lines = set (f .lines) (f .count) l }) f
+abbrev pub added : Found → Line → Found
+added f l = record { count = f .count + 1; lines = set (f .lines) (f .count) l }
 
 -- those of ROM; with those of pages, all of [mapping]
 abbrev pub romLines : Plan → List Line

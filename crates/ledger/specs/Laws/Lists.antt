@@ -1,9 +1,8 @@
 -- Lines in an array: none, and one more.
 use Prim.Native.Nat.{_+_, _<_, _≤_, ℕ}
 use mathlib.Core.Path.{_∙_, _≡_, ap, refl, sym}
-use mathlib.Core.List.{List, [], _++_, _∷_, append-nil}
+use mathlib.Core.List.{List, [], _++_, _∷_}
 use mathlib.Core.Logic.{_⊎_, inl, inr}
-use mathlib.Core.Bool.{Bool, cond, false, true}
 use native.Mathlib.Omega.{arith}
 use lib.ListN.{List·getD-append, List·getD-eq-default, getD, getD-replicate, length, length-append, length-replicate, length-set, replicate, set}
 use lib.Seq.{getD-append-seam, getD-set-other, getD-set-same}
@@ -57,6 +56,5 @@ shown-more : (ls : List Line) (x : Line) → set (shown ls) (length ls) x ≡ sh
 unfolding shown
 shown-more ls x = places-more ls x lineLimit
 
-pub added-list : (ls : List Line) (on : Bool) (x : Line) → added (listOf ls) on x ≡ listOf (ls ++ cond on (x ∷ []) [])
-added-list ls true x = λ i. record { count = sym (length-append ls (x ∷ [])) i; lines = shown-more ls x i }
-added-list ls false x = ap listOf (sym (append-nil ls))
+pub added-list : (ls : List Line) (x : Line) → added (listOf ls) x ≡ listOf (ls ++ (x ∷ []))
+added-list ls x = λ i. record { count = sym (length-append ls (x ∷ [])) i; lines = shown-more ls x i }

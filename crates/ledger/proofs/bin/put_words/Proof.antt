@@ -1,49 +1,24 @@
--- `ledger::bin::put_words` meets its contract. The loop's invariant: the first i words are written.
+-- `ledger::bin::put_words` meets its contract: a part of the RAM, or word by word.
 use borrow.Author.Needs.{needs}
-use Prim.Native.Nat.{_-_}
-use Rattle.ledger.proofs.Bins.{Words, words-none, words-second, words-more, words-all, words-same}
+use Rattle.ledger.proofs.Bins.{from-part}
 use Rattle.ledger.proofs.bin.put_words.Statement.{statement}
 use Rattle.ledger.proofs.bin.put_words.Tie as tie
 
-abbrev Inv-loop : tie.InvT-loop
-Inv-loop out₀ ram a n i₀ out i = Words ram a n out₀ out i
-
-abbrev μ-loop : tie.MeasureT-loop
-μ-loop out₀ ram a n i₀ out i = n - i
-
-loop-holds : tie.Need-loop-holds Inv-loop μ-loop
-loop-holds c = search (needs, words-none)
-
-slice-write-out-2 : tie.Need-slice-write-out-2 Inv-loop μ-loop
-slice-write-out-2 c = search (needs, words-second)
-
-loop-again : tie.Need-loop-again Inv-loop μ-loop
-loop-again c = search (needs, words-more)
-
-same-length : tie.Need-same-length Inv-loop μ-loop
-same-length c = search (needs, words-same)
-
-returns : tie.Need-returns Inv-loop μ-loop
-returns c = search (needs, words-all)
+returns : tie.Need-returns
+returns c = search (needs, from-part)
 
 pub put-words-spec : {M : Type 1} → statement M
 put-words-spec =
     tie.close
     (tie.spec
-    Inv-loop
-    μ-loop
-    loop-holds
     (λ c. search needs)
-    (λ c κs. search needs)
-    (λ c κs. search needs)
+    (λ c. search needs)
+    (λ c. search needs)
     (λ c. search needs)
     (λ c. search needs)
     (λ c κs. search needs)
     (λ c. search needs)
+    returns
+    (λ c κs. search needs)
     (λ c. search needs)
-    slice-write-out-2
-    (λ c. search needs)
-    (λ c. search needs)
-    loop-again
-    same-length
-    returns)
+    (λ c. search needs))
