@@ -7,18 +7,14 @@ use lib.ListN.{getD, replicate}
 use Rattle.places.specs.Limits.{lentLimit}
 use Rattle.header.specs.Flags.{jlpField}
 use Rattle.header.specs.Header.{flagsOf}
-use Rattle.tables.specs.Tables.{Tables, flashWords, tablesIn}
+use Rattle.tables.specs.Tables.{Tables, tablesIn}
 use Rattle.blocks.specs.Images.{blocksIn, hunksIn, payloadOfTables}
 use Rattle.load.specs.Leaves.{named}
-use Rattle.load.specs.Load.{loadRamOf}
+use Rattle.load.specs.Load.{flashAsked, loadRamOf}
 
 -- a RAM of 524,288 words, all zero
 unfoldable pub wholeRam : List ℕ
 wholeRam = replicate lentLimit 0
-
--- a flash of the size that the header gives, so that of 13 only the size is asked (02, W-209)
-abbrev pub flashAsked : List ℕ → ℕ
-flashAsked s = flashWords (flagsOf s)
 
 abbrev pub imageTables : List ℕ → Tables
 imageTables s = tablesIn (payloadOfTables (blocksIn s))

@@ -9,9 +9,8 @@ use Rattle.basics.specs.Refusals.{firstRefusal, passes, refuse}
 use Rattle.basics.specs.Rows.{Row}
 use Rattle.basics.specs.declared.Refusal.{Refusal}
 use Rattle.places.specs.Limits.{binLimit, lentLimit}
-use Rattle.load.specs.Load.{refusalRows as loadRows}
+use Rattle.load.specs.Load.{rowsBySize}
 use Rattle.unbuild.specs.Behind.{binBehind, cfgBehind, unbuildable}
-use Rattle.unbuild.specs.Content.{flashAsked}
 use Rattle.unbuild.specs.declared.Unbuilding.{Unbuilding}
 
 -- 32: the BIN written would pass 524,288 bytes
@@ -25,7 +24,7 @@ eitherShort s bin cfg = ltb (length bin) (length (binBehind s)) || ltb (length c
 -- all load refusals for a RAM of 524,288 words, 13 by size; then 31, 32, 29, place 0 for each
 abbrev pub refusalRows : List ℕ → List ℕ → List ℕ → List (Row Refusal)
 refusalRows s bin cfg =
-    loadRows s lentLimit (flashAsked s)
+    rowsBySize s lentLimit
     ++ ((unbuildable s, refuse 31 0) ∷ (binTooLong s, refuse 32 0) ∷ (eitherShort s bin cfg, refuse 29 0) ∷ [])
 
 unfoldable pub refusalOf : List ℕ → List ℕ → List ℕ → Refusal

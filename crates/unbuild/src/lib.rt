@@ -1,18 +1,15 @@
-// Back to BIN and CFG (02, W-213): an image is loaded twice, into zeros and into ones, the plan behind it is retraced, and its BIN and its CFG
-// are written, each into a lent buffer.
+// Back to BIN and CFG (02, W-213): an image is loaded once, into zeros, and its hunks are laid over ones; the plan behind it is retraced, and its BIN
+// and its CFG are written, each into a lent buffer.
 mod source;
 
-ghost use Prim.Native.Nat.{_≤_};
 ghost use mathlib.Core.Path.{_≡_};
-ghost use lib.ListN.{length};
 ghost use Rattle.places.specs.Limits.{lent, lentLimit};
-ghost use Rattle.header.specs.Header.{headerSize};
 ghost use Rattle.tables.specs.Tables.{tables};
 ghost use Rattle.load.specs.Load.{loadRamOf, loadingOf};
 ghost use Rattle.rebuild.specs.Code.Retraced.{retracedOf};
 ghost use Rattle.unbuild.specs.Behind.{binBehind, cfgBehind, unbuildable};
-ghost use Rattle.unbuild.specs.Code.Answers.{AnswersBy, Plain};
-ghost use Rattle.unbuild.specs.Content.{flashAsked, imageJlp, imageTables, wholeRam};
+ghost use Rattle.unbuild.specs.Code.Answers.{Answered, AnswersBy, Plain, refusalAccelerated};
+ghost use Rattle.unbuild.specs.Content.{imageJlp, imageTables, wholeRam};
 ghost use Rattle.unbuild.specs.Laws.Two.{wholeOnes};
 ghost use Rattle.unbuild.specs.Unbuild.{binAfter, cfgAfter, unbuildingOf};
 use basics::Refusal;
@@ -39,7 +36,7 @@ fn load_into(image: &[u8], ram: &mut [u16]) -> Loading
     load::load(image, ram, &flash)
 }
 
-// What is retraced of a cartridge as it was loaded, and of the words that two loads leave.
+// What is retraced of a cartridge as it was loaded, and of the words of two RAMs.
 fn retrace_cartridge(c: Cartridge, zeros: &[u16], ones: &[u16]) -> Retraced
     ensures { λ r. ⌜ r ≡ retracedOf (tables (c .«initial_mapping») (c .«initial_permissions») (c .flips)) (now (zeros .entry)) (now (ones .entry)) ⌝ }
 {
@@ -49,18 +46,33 @@ fn retrace_cartridge(c: Cartridge, zeros: &[u16], ones: &[u16]) -> Retraced
     retrace_image(mapping, permissions, flips, zeros, ones)
 }
 
-// Of an image that asks no accelerators, by its load into zeros and into ones.
-fn retrace_loads(image: &[u8], zeros: &mut [u16], ones: &mut [u16]) -> Retraced
-    requires { ⌜ (Plain (now image)) × (now zeros ≡ wholeRam) × (now ones ≡ wholeOnes) ⌝ }
-    ensures { λ r. ⌜ (r ≡ retracedOf (imageTables (now (image .entry))) (now (zeros .exit)) (now (ones .exit))) × (now (zeros .exit) ≡ loadRamOf (now (image .entry)) wholeRam 0) × (now (ones .exit) ≡ loadRamOf (now (image .entry)) wholeOnes 0) ⌝ }
+// Of an image that was loaded into zeros: the words that its hunks, laid over ones, leave as they were are those that it does not name.
+fn retrace_loaded(image: &[u8], l: Loading, zeros: &[u16], ones: &mut [u16]) -> Retraced
+    requires { ⌜ (Plain (now image)) × (l ≡ loadingOf (now image) lentLimit 0) × (now ones ≡ wholeOnes) ⌝ }
+    ensures { λ r. ⌜ (r ≡ retracedOf (imageTables (now (image .entry))) (now (zeros .entry)) (now (ones .exit))) × (now (ones .exit) ≡ loadRamOf (now (image .entry)) wholeOnes 0) ⌝ }
 {
-    let l = load_into(image, zeros);
-    load_into(image, ones);
+    load::lay_hunks(image, ones);
     let c = l.cartridge;
     retrace_cartridge(c, zeros, ones)
 }
 
 // Its BIN and its CFG.
+fn unbuild_loaded(
+    image: &[u8],
+    l: Loading,
+    zeros: &[u16],
+    ones: &mut [u16],
+    bin: &mut [u8],
+    cfg: &mut [u8],
+) -> Unbuilding
+    requires { ⌜ (Plain (now image)) × (l ≡ loadingOf (now image) lentLimit 0) × (now zeros ≡ loadRamOf (now image) wholeRam 0) × (now ones ≡ wholeOnes) ⌝ }
+    ensures { λ r. ⌜ AnswersBy (unbuildable (now (image .entry))) (binBehind (now (image .entry))) (cfgBehind (now (image .entry))) (now (bin .entry)) (now (cfg .entry)) r (now (bin .exit)) (now (cfg .exit)) ⌝ }
+{
+    let k = retrace_loaded(image, l, zeros, ones);
+    write_source(k, zeros, bin, cfg)
+}
+
+// An image that asks no accelerators: its load into zeros, with no flash lent, is what judges it.
 fn unload_into(
     image: &[u8],
     zeros: &mut [u16],
@@ -68,41 +80,43 @@ fn unload_into(
     bin: &mut [u8],
     cfg: &mut [u8],
 ) -> Unbuilding
-    requires { ⌜ (Plain (now image)) × (now zeros ≡ wholeRam) × (now ones ≡ wholeOnes) ⌝ }
-    ensures { λ r. ⌜ AnswersBy (unbuildable (now (image .entry))) (binBehind (now (image .entry))) (cfgBehind (now (image .entry))) (now (bin .entry)) (now (cfg .entry)) r (now (bin .exit)) (now (cfg .exit)) ⌝ }
+    requires { ⌜ (imageJlp (now image) ≡ 0) × (now zeros ≡ wholeRam) × (now ones ≡ wholeOnes) ⌝ }
+    ensures { λ r. ⌜ Answered (now (image .entry)) (now (bin .entry)) (now (cfg .entry)) r (now (bin .exit)) (now (cfg .exit)) ⌝ }
 {
-    let k = retrace_loads(image, zeros, ones);
-    write_source(k, zeros, bin, cfg)
+    let l = load_into(image, zeros);
+    let r = l.refusal;
+    if r.number != 0 {
+        return refuse(r);
+    }
+    unbuild_loaded(image, l, zeros, ones, bin, cfg)
 }
 
 fn unload(image: &[u8], bin: &mut [u8], cfg: &mut [u8]) -> Unbuilding
-    requires { ⌜ Plain (now image) ⌝ }
-    ensures { λ r. ⌜ AnswersBy (unbuildable (now (image .entry))) (binBehind (now (image .entry))) (cfgBehind (now (image .entry))) (now (bin .entry)) (now (cfg .entry)) r (now (bin .exit)) (now (cfg .exit)) ⌝ }
+    requires { ⌜ imageJlp (now image) ≡ 0 ⌝ }
+    ensures { λ r. ⌜ Answered (now (image .entry)) (now (bin .entry)) (now (cfg .entry)) r (now (bin .exit)) (now (cfg .exit)) ⌝ }
 {
     let mut zeros = [0u16; LENT_LIMIT];
     let mut ones = [0xFFFFu16; LENT_LIMIT];
     unload_into(image, &mut zeros, &mut ones, bin, cfg)
 }
 
-// The JLP field of an image that has a header.
+// The JLP field; 0 of an image that ends before it.
 fn jlp_of(image: &[u8]) -> u8
-    requires { ⌜ headerSize ≤ length (now image) ⌝ }
     ensures { λ r. ⌜ r ≡ imageJlp (now (image .entry)) ⌝ }
 {
-    let from = header::FLAGS_AT;
-    let to = header::UID_AT;
-    header::jlp_field(&image[from..to])
+    let from = basics::least(header::FLAGS_AT, image.len());
+    header::jlp_field(&image[from..])
 }
 
-// An image that loads: 31 where it has accelerators; then as its plan tells.
-fn unbuild_loaded(image: &[u8], bin: &mut [u8], cfg: &mut [u8]) -> Unbuilding
-    requires { ⌜ (loadingOf (now image) lentLimit (flashAsked (now image)) .refusal .number ≡ 0) × (headerSize ≤ length (now image)) ⌝ }
-    ensures { λ r. ⌜ AnswersBy (unbuildable (now (image .entry))) (binBehind (now (image .entry))) (cfgBehind (now (image .entry))) (now (bin .entry)) (now (cfg .entry)) r (now (bin .exit)) (now (cfg .exit)) ⌝ }
+// What is refused of an image that has accelerators: what its load refuses, 13 by its size; else 31.
+fn refusal_accelerated(image: &[u8]) -> Refusal
+    ensures { λ r. ⌜ r ≡ refusalAccelerated (now (image .entry)) ⌝ }
 {
-    if jlp_of(image) != 0 {
-        return refuse(basics::refuse(31, 0));
+    let r = load::refusal_for(image, LENT_LIMIT);
+    if r.number != 0 {
+        return r;
     }
-    unload(image, bin, cfg)
+    basics::refuse(31, 0)
 }
 
 // A BIN and a CFG from an image, each into the front of a lent buffer; before all else what a load into 524,288 words refuses, 13 by its size.
@@ -111,9 +125,8 @@ pub fn unbuild(image: &[u8], bin: &mut [u8], cfg: &mut [u8]) -> Unbuilding
         × (now (bin .exit) ≡ binAfter (now (image .entry)) (now (bin .entry)) (now (cfg .entry)))
         × (now (cfg .exit) ≡ cfgAfter (now (image .entry)) (now (bin .entry)) (now (cfg .entry))) ⌝ }
 {
-    let r = load::refusal_for(image, LENT_LIMIT);
-    if r.number != 0 {
-        return refuse(r);
+    if jlp_of(image) != 0 {
+        return refuse(refusal_accelerated(image));
     }
-    unbuild_loaded(image, bin, cfg)
+    unload(image, bin, cfg)
 }

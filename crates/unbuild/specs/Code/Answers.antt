@@ -10,19 +10,28 @@ use Rattle.basics.specs.Refusals.{firstRefusal, passes, refuse}
 use Rattle.basics.specs.Rows.{Row}
 use Rattle.basics.specs.declared.Refusal.{Refusal}
 use Rattle.places.specs.Limits.{binLimit, lentLimit}
-use Rattle.load.specs.Load.{loadingOf}
+use Rattle.load.specs.Load.{flashAsked, loadingOf, refusalBySize}
 use Rattle.canon.specs.Bin.{canonicalBin}
 use Rattle.ledger.specs.Held.{planIn, wordsIn}
 use Rattle.ledger.specs.declared.Listing.{Listing}
 use Rattle.retrace.specs.declared.Sketch.{Sketch}
 use Rattle.sheet.specs.Code.Sheets.{cfgLines}
-use Rattle.unbuild.specs.Content.{flashAsked, imageJlp}
+use Rattle.unbuild.specs.Content.{imageJlp}
+use Rattle.unbuild.specs.Unbuild.{binAfter, cfgAfter, unbuildingOf}
 use Rattle.unbuild.specs.declared.Unbuilding.{Unbuilding}
 
 -- an image that loads and asks no accelerators
 pub record Plain (s : List ℕ) : Type 0 where
   pub loaded : loadingOf s lentLimit (flashAsked s) .refusal .number ≡ 0
   pub jlp : imageJlp s ≡ 0
+
+-- all that is promised of an image and two buffers
+abbrev pub Answered : List ℕ → List ℕ → List ℕ → Unbuilding → List ℕ → List ℕ → Type 0
+Answered s bin cfg r bin′ cfg′ = (r ≡ unbuildingOf s bin cfg) × (bin′ ≡ binAfter s bin cfg) × (cfg′ ≡ cfgAfter s bin cfg)
+
+-- what is refused of an image that asks accelerators: what its load refuses, 13 by its size; else 31
+abbrev pub refusalAccelerated : List ℕ → Refusal
+refusalAccelerated s = cond (passes (refusalBySize s lentLimit)) (refuse 31 0) (refusalBySize s lentLimit)
 
 -- a refusal, and zero in all else
 abbrev pub bare : Refusal → Unbuilding

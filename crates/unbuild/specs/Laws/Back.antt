@@ -13,11 +13,11 @@ use Rattle.basics.specs.Refusals.{noRefusal, passes}
 use Rattle.basics.specs.Rows.{none as silence, also as still}
 use Rattle.basics.specs.declared.Refusal.{Refusal}
 use Rattle.places.specs.Limits.{binLimit, lentLimit}
-use Rattle.load.specs.Load.{loadingOf}
+use Rattle.load.specs.Load.{flashAsked, loadingOf}
 use Rattle.cfg.specs.File.{entriesOf}
 use Rattle.build.specs.Building.{buildingOf, builds, builtOf, pressedImage, refusalOf, tooLarge, tooShort, wrongBin}
 use Rattle.unbuild.specs.Behind.{binBehind, cfgBehind, planBehind, rebuilds, unbuildable}
-use Rattle.unbuild.specs.Content.{SameContent, flashAsked}
+use Rattle.unbuild.specs.Content.{SameContent}
 use Rattle.unbuild.specs.Laws.Exactly.{Apart, canonical-apart, canonical-source}
 use Rattle.unbuild.specs.Laws.Pressed.{no-label}
 

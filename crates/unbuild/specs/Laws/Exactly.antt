@@ -22,7 +22,7 @@ use Rattle.basics.specs.Rows.{Row}
 use Rattle.basics.specs.declared.Refusal.{Refusal}
 use Rattle.places.specs.Limits.{lentLimit, lineLimit, locutusParagraphs, pageSize}
 use Rattle.tables.specs.Tables.{Tables, tablesIn}
-use Rattle.load.specs.Load.{loadingOf}
+use Rattle.load.specs.Load.{flashAsked, loadingOf}
 use Rattle.lines.specs.Bin.{binWords}
 use Rattle.lines.specs.declared.Line.{Line}
 use Rattle.cfg.specs.File.{refusalRows as cfgRows, entriesOf, readingOf}
@@ -55,7 +55,7 @@ use Rattle.canon.specs.Made.{Made, blankIn}
 use Rattle.build.specs.Building.{pressedImage, tooLarge}
 use Rattle.rebuild.specs.Fits.{agree, fits, linesFit, namesFit, ramFits, tablesFit}
 use Rattle.unbuild.specs.Behind.{binBehind, cfgBehind, namesParagraph, planBehind, rebuilds, unbuildable}
-use Rattle.unbuild.specs.Content.{flashAsked, imageJlp, imageTables, loadedWord, namesWord}
+use Rattle.unbuild.specs.Content.{imageJlp, imageTables, loadedWord, namesWord}
 use Rattle.unbuild.specs.Laws.Named.{names-below}
 use Rattle.unbuild.specs.Laws.Pressed.{Holding, pressed-holds}
 use Rattle.unbuild.specs.Laws.Printed.{cfg-entries, cfg-silent}

@@ -21,8 +21,9 @@ use Rattle.cart.specs.declared.Cartridge.{Cartridge}
 use Rattle.tables.specs.Laws.Refusals.{lent-alike}
 use Rattle.tables.specs.Tables.{Tables, cartridgeOf, mislent, tables, tablesIn, tablesRows}
 use Rattle.blocks.specs.Images.{blocksIn, payloadOfTables}
+use Rattle.load.specs.Laws.Ram.{laid}
 use Rattle.load.specs.Laws.Refusals.{answer-refusal}
-use Rattle.load.specs.Load.{loadRamOf, loadingOf, loads, refusalOf, refusalRows, walkRows}
+use Rattle.load.specs.Load.{flashAsked, hunksLaid, loadRamOf, loadingOf, loads, refusalBySize, refusalOf, refusalRows, walkRows}
 use Rattle.load.specs.declared.Loading.{Loading}
 use Rattle.plan.specs.Fewest.{fewest}
 use Rattle.plan.specs.Image.{coveredOf}
@@ -44,7 +45,7 @@ use Rattle.rebuild.specs.Laws.Same.{bin-same, in-arrays}
 use Rattle.rebuild.specs.declared.Retraced.{Retraced}
 use Rattle.unbuild.specs.Behind.{binBehind, cfgBehind, cfgOf, namesParagraph, planBehind, rebuilds, unbuildable}
 use Rattle.unbuild.specs.Code.Answers.{AnswersBy, binIn, cfgIn}
-use Rattle.unbuild.specs.Content.{flashAsked, imageJlp, imageTables, loadedWord, namesWord, wholeRam}
+use Rattle.unbuild.specs.Content.{imageJlp, imageTables, loadedWord, namesWord, wholeRam}
 use Rattle.unbuild.specs.Laws.Answers.{unfit-any}
 use Rattle.unbuild.specs.Laws.Named.{lent-whole, names-below}
 use Rattle.unbuild.specs.Laws.Two.{lent-ones, names-two, wholeOnes}
@@ -57,7 +58,7 @@ module _ (s : List ℕ) (jlp : imageJlp s ≡ 0) where
   unfolding mislent
   none-asked = rw (lt-leb 2 (jlpField (flagsOf s)) (omega arith))
 
-  refusal-alike : (m : ℕ) → refusalOf s m 0 ≡ refusalOf s m (flashAsked s)
+  pub refusal-alike : (m : ℕ) → refusalOf s m 0 ≡ refusalBySize s m
   unfolding refusalOf
   refusal-alike m = rw (lent-alike (flagsOf s) (tablesIn (payloadOfTables (blocksIn s)) .flips) m 0 none-asked)
 
@@ -78,6 +79,9 @@ module _ (s : List ℕ) (loaded : loadingOf s lentLimit (flashAsked s) .refusal 
 
   bare-load : loadingOf s lentLimit 0 .refusal .number ≡ 0
   bare-load = rw (loading-alike s jlp lentLimit) loaded
+
+  pub laid-ones : hunksLaid (blocksIn s) wholeOnes ≡ ones
+  laid-ones = laid s wholeOnes 0 (rw lent-ones bare-load)
 
   word-named : (i : ℕ) → i < lentLimit → wordNamed zeros ones i ≡ namesWord s i
   word-named i h = sym (names-two s 0 bare-load i h)

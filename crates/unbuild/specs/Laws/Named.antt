@@ -15,9 +15,9 @@ use Rattle.hunk.specs.Hunk.{Hunk}
 use Rattle.blocks.specs.Images.{blocksIn, hunksIn}
 use Rattle.load.specs.Laws.Ram.{leaves}
 use Rattle.load.specs.Leaves.{Leaves, named, names}
-use Rattle.load.specs.Load.{loadRamOf, loadingOf}
+use Rattle.load.specs.Load.{flashAsked, loadingOf, loadRamOf}
 use Rattle.save.specs.Chosen.{chosen, paragraphHunk}
-use Rattle.unbuild.specs.Content.{flashAsked, namesWord, wholeRam}
+use Rattle.unbuild.specs.Content.{namesWord, wholeRam}
 
 -- the last hunk that names a word
 pub record LastNaming (hs : List Hunk) (i : ℕ) : Type 0 where

@@ -22,6 +22,7 @@ use Rattle.blocks.specs.Blocks.{tablesType, typeOf}
 use Rattle.blocks.specs.Images.{blocksIn, hunksIn, imageOf, payloadOfTables}
 use Rattle.blocks.specs.Laws.ReadBack as Made
 use Rattle.load.specs.Leaves.{named}
+use Rattle.load.specs.Load.{flashAsked}
 use Rattle.metadata.specs.Records.{isCut, starts, startsFrom}
 use Rattle.label.specs.Label.{wrongLabel}
 use Rattle.save.specs.Chosen.{Sized, chosen, hunkBlock, imageWith, tablesBlock}
@@ -37,7 +38,7 @@ use Rattle.layout.specs.Laws.Uses.{covered-inside, length-words}
 use Rattle.layout.specs.Layout.{covered, lineHeld, needed, paragraphHeld, paragraphWords, writtenOf}
 use Rattle.build.specs.Building.{flagBytes, imageOn, pressedImage, tablesFor, uidOf}
 use Rattle.build.specs.Laws.Image.{lie, sized, supported, within-limit}
-use Rattle.unbuild.specs.Content.{flashAsked, imageJlp, imageTables, loadedWord, namesWord, wholeRam}
+use Rattle.unbuild.specs.Content.{imageJlp, imageTables, loadedWord, namesWord, wholeRam}
 use Rattle.unbuild.specs.Laws.Named.{lent-whole, named-chosen}
 
 pub record Holding (image : List ℕ) (bin : List ℕ) (lines : List Line) : Type 0 where

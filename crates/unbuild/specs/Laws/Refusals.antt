@@ -12,15 +12,9 @@ use Rattle.basics.specs.Refusals.{firstRefusal, noRefusal, refuse}
 use Rattle.basics.specs.Rows.{Gives, Row, Silent}
 use Rattle.basics.specs.declared.Refusal.{Refusal}
 use Rattle.places.specs.Limits.{lentLimit}
-use Rattle.header.specs.Header.{flagsOf, headerRows}
-use Rattle.header.specs.Laws.Refusals.{header-refusing}
-use Rattle.tables.specs.Laws.Refusals.{tables-refusing}
-use Rattle.tables.specs.Tables.{tablesIn}
-use Rattle.blocks.specs.Images.{blocksIn, payloadOfTables}
-use Rattle.load.specs.Laws.Refusals.{loads-exactly, walk-refusing}
-use Rattle.load.specs.Load.{refusalRows as loadRows, walkRows, loadingOf}
+use Rattle.load.specs.Laws.Refusals.{loads-exactly, rows-refusing}
+use Rattle.load.specs.Load.{flashAsked, loadingOf, rowsBySize}
 use Rattle.unbuild.specs.Behind.{unbuildable}
-use Rattle.unbuild.specs.Content.{flashAsked}
 use Rattle.unbuild.specs.Laws.Exactly.{Buildable, buildable-exactly, unbuildable-exactly}
 use Rattle.unbuild.specs.Unbuild.{binAfter, binTooLong, cfgAfter, eitherShort, refusalOf, refusalRows, unbuildingOf}
 
@@ -36,13 +30,8 @@ module _ (s bin cfg : List ℕ) where
   abbrev mine : List (Row Refusal)
   mine = (unbuildable s, refuse 31 0) ∷ (binTooLong s, refuse 32 0) ∷ (eitherShort s bin cfg, refuse 29 0) ∷ []
 
-  load-refusing : Refusing (loadRows s lentLimit (flashAsked s))
-  load-refusing =
-      refusing-append (headerRows s) _ (header-refusing s)
-      (refusing-append (walkRows s lentLimit) _ (walk-refusing s lentLimit) (tables-refusing (flagsOf s) (tablesIn (payloadOfTables (blocksIn s)) .flips) lentLimit (flashAsked s)))
-
   every-row : Refusing (refusalRows s bin cfg)
-  every-row = refusing-append (loadRows s lentLimit (flashAsked s)) mine load-refusing ((λ z. omega arith), ((λ z. omega arith), ((λ z. omega arith), tt)))
+  every-row = refusing-append (rowsBySize s lentLimit) mine (rows-refusing s lentLimit (flashAsked s)) ((λ z. omega arith), ((λ z. omega arith), ((λ z. omega arith), tt)))
 
   refusal-is : unbuildingOf s bin cfg .refusal ≡ refusalOf s bin cfg
   unfolding unbuildingOf
@@ -51,7 +40,7 @@ module _ (s bin cfg : List ℕ) where
   module _ (loads : loadingOf s lentLimit (flashAsked s) .refusal .number ≡ 0) where
     behind-load : refusalOf s bin cfg ≡ firstRefusal mine
     unfolding refusalOf
-    behind-load = silent-behind (loadRows s lentLimit (flashAsked s)) mine (loads-exactly s lentLimit (flashAsked s) .0 loads)
+    behind-load = silent-behind (rowsBySize s lentLimit) mine (loads-exactly s lentLimit (flashAsked s) .0 loads)
 
     thirty-one : (refusalOf s bin cfg ≡ refuse 31 0) ↔ (Buildable s → ⊥)
     thirty-one = (

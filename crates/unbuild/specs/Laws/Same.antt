@@ -7,13 +7,13 @@ use Rattle.basics.specs.Laws.Counts.{all-same}
 use Rattle.basics.specs.Laws.Tests.{not-false}
 use Rattle.places.specs.Limits.{lentLimit}
 use Rattle.tables.specs.Tables.{Tables}
-use Rattle.load.specs.Load.{loadingOf, loads}
+use Rattle.load.specs.Load.{flashAsked, loadingOf, loads}
 use Rattle.plan.specs.Plan.{Plan}
 use Rattle.behind.specs.Behind.{behind}
 use Rattle.canon.specs.Bin.{canonicalBin}
 use Rattle.canon.specs.Laws.Same.{bin-same}
 use Rattle.unbuild.specs.Behind.{binBehind, cfgBehind, cfgOf, planBehind, rebuilds, unbuildable}
-use Rattle.unbuild.specs.Content.{SameContent, flashAsked, loadedWord, namesWord}
+use Rattle.unbuild.specs.Content.{SameContent, loadedWord, namesWord}
 use Rattle.unbuild.specs.Laws.Exactly.{named-is}
 
 module _ (s t : List ℕ) (same : SameContent s t) where

@@ -1,4 +1,4 @@
--- Which words are named, by two loads: into a RAM of zeros and into one of 0xFFFF. A named word holds the same in both, any other what was there.
+-- Which words are named, by what loads leave in a RAM of zeros and in one of 0xFFFF. A named word holds the same in both, any other what was there.
 use Prim.Native.Nat.{_-_, _<_, ℕ}
 use mathlib.Core.Path.{_∙_, _≡_, sym}
 use mathlib.Core.List.{List}

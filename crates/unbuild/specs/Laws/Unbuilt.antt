@@ -6,25 +6,25 @@ use mathlib.Core.Bool.{Bool, _||_, false, not, true}
 use native.Mathlib.Omega.{arith}
 use lib.Dec.{eqb}
 use lib.ListN.{length}
-use borrow.Author.Tests.{ne-eqb}
+use borrow.Author.Tests.{eqb-false, eqb-true, ne-eqb}
 use Rattle.basics.specs.Laws.Refusals.{refused-front, silent-behind}
-use Rattle.basics.specs.Refusals.{firstRefusal, noRefusal, refuse}
+use Rattle.basics.specs.Laws.Tests.{cases}
+use Rattle.basics.specs.Refusals.{firstRefusal, noRefusal, passes, refuse}
 use Rattle.basics.specs.Rows.{Row}
 use Rattle.basics.specs.declared.Refusal.{Refusal}
 use Rattle.places.specs.Limits.{lentLimit}
-use Rattle.header.specs.Header.{flagsOf, headerRefusal, headerRows, headerSize}
-use Rattle.header.specs.Laws.Refusals.{accepted-length, header-accepted}
+use Rattle.header.specs.Header.{flagsOf, headerRows}
 use Rattle.tables.specs.Tables.{tablesIn, tablesRows}
 use Rattle.sums.specs.Crc.{crc324Of}
 use Rattle.blocks.specs.Blocks.{isTables, payloadIn}
 use Rattle.blocks.specs.Images.{anyTables, blocksIn, firstBlock, isCut, judgeAll, payloadOfTables, stopOf}
 use Rattle.blocks.specs.Judged.{judgeRows}
-use Rattle.load.specs.Laws.Refusals.{accepted, answer-refusal, loads-exactly}
+use Rattle.load.specs.Laws.Refusals.{answer-refusal, loads-exactly}
 use Rattle.load.specs.Load as Load
-use Rattle.load.specs.Load.{loadingOf, refusalBySize, walkRows}
+use Rattle.load.specs.Load.{flashAsked, loadingOf, refusalBySize, walkRows}
 use Rattle.unbuild.specs.Behind.{binBehind, cfgBehind, rebuilds, unbuildable}
-use Rattle.unbuild.specs.Code.Answers.{AnswersBy, Plain, bare, refusalBy}
-use Rattle.unbuild.specs.Content.{flashAsked, imageJlp}
+use Rattle.unbuild.specs.Code.Answers.{Answered, AnswersBy, bare, refusalAccelerated, refusalBy}
+use Rattle.unbuild.specs.Content.{imageJlp}
 use Rattle.unbuild.specs.Laws.Answers.{answers-unfit}
 use Rattle.unbuild.specs.Unbuild.{binAfter, cfgAfter, refusalOf, unbuildingOf}
 use Rattle.unbuild.specs.declared.Unbuilding.{Unbuilding}
@@ -74,22 +74,14 @@ unbuilt : (s : List ℕ) → (imageJlp s ≡ 0 → ⊥) → unbuildable s ≡ tr
 unfolding unbuildable rebuilds
 unbuilt s j = rw (ne-eqb (imageJlp s) 0 j)
 
--- and none
-pub plain : (s : List ℕ) (j : ℕ) → loadingOf s lentLimit (flashAsked s) .refusal .number ≡ 0 → j ≡ imageJlp s → j ≡ 0 → Plain s
-plain s j l ej z = record { loaded = l; jlp = sym ej ∙ z }
-
 module _ (s bin cfg : List ℕ) where
-  -- what is promised
-  abbrev pub Answered : Unbuilding → List ℕ → List ℕ → Type 0
-  Answered r bin′ cfg′ = (r ≡ unbuildingOf s bin cfg) × (bin′ ≡ binAfter s bin cfg) × (cfg′ ≡ cfgAfter s bin cfg)
-
   -- of an image that loads
   refusal-is : loadingOf s lentLimit (flashAsked s) .refusal .number ≡ 0 → refusalOf s bin cfg ≡ refusalBy (unbuildable s) (binBehind s) (cfgBehind s) bin cfg
   unfolding refusalOf refusalBy
   refusal-is l = silent-behind (Load.refusalRows s lentLimit (flashAsked s)) _ (loads-exactly s lentLimit (flashAsked s) .0 l)
 
   pub answered : loadingOf s lentLimit (flashAsked s) .refusal .number ≡ 0 → (r : Unbuilding) (bin′ cfg′ : List ℕ)
-      → AnswersBy (unbuildable s) (binBehind s) (cfgBehind s) bin cfg r bin′ cfg′ → Answered r bin′ cfg′
+      → AnswersBy (unbuildable s) (binBehind s) (cfgBehind s) bin cfg r bin′ cfg′ → Answered s bin cfg r bin′ cfg′
   unfolding unbuildingOf binAfter cfgAfter
   answered l r bin′ cfg′ a =
       (rw (refusal-is l) (a .answer), rw (refusal-is l) (a .bin-after), rw (refusal-is l) (a .cfg-after))
@@ -97,11 +89,6 @@ module _ (s bin cfg : List ℕ) where
   module _ (r : Refusal) (er : r ≡ refusalBySize s lentLimit) where
     pub load-passes : r .number ≡ 0 → loadingOf s lentLimit (flashAsked s) .refusal .number ≡ 0
     load-passes h = ap (λ (x : Refusal). x .number) (answer-refusal s lentLimit (flashAsked s) ∙ sym er) ∙ h
-
-    pub header-there : r .number ≡ 0 → headerSize ≤ length s
-    header-there h =
-        let n : headerRefusal s .number ≡ 0 = header-accepted s .1 (accepted s lentLimit (flashAsked s) (ap (λ (x : Refusal). x .number) (sym er) ∙ h) .header) in
-        accepted-length s n .0
 
     -- the load refuses
     front : (r .number ≡ 0 → ⊥) → refusalOf s bin cfg ≡ r
@@ -112,17 +99,17 @@ module _ (s bin cfg : List ℕ) where
     unfolding Load.refusalOf
     low = rw er (low-first (Load.refusalRows s lentLimit (flashAsked s)) (low-load s lentLimit (flashAsked s)))
 
-    pub answered-load : (r .number ≡ 0 → ⊥) → (u : Unbuilding) → u ≡ bare r → Answered u bin cfg
+    pub answered-load : (r .number ≡ 0 → ⊥) → (u : Unbuilding) → u ≡ bare r → Answered s bin cfg u bin cfg
     unfolding unbuildingOf binAfter cfgAfter
     answered-load h u eu =
         let a : eqb (r .number) 0 ≡ false = ne-eqb (r .number) 0 h in
         let b : eqb (r .number) 29 ≡ false = ne-eqb (r .number) 29 (λ z. omega (arith, low)) in
         (eu ∙ rw (front h, a, b), rw (front h, a), rw (front h, a))
 
-    pub answered-loaded : r .number ≡ 0 → (u : Unbuilding) (bin′ cfg′ : List ℕ) → AnswersBy (unbuildable s) (binBehind s) (cfgBehind s) bin cfg u bin′ cfg′ → Answered u bin′ cfg′
-    answered-loaded h u bin′ cfg′ a = answered (load-passes h) u bin′ cfg′ a
-
   -- accelerators
-  pub answers-jlp : (j : ℕ) (v : Refusal) (u : Unbuilding) → j ≡ imageJlp s → (j ≡ 0 → ⊥) → v ≡ refuse 31 0 → u ≡ bare v
-      → AnswersBy (unbuildable s) (binBehind s) (cfgBehind s) bin cfg u bin cfg
-  answers-jlp j v u ej n ev eu = rw (unbuilt s (λ z. n (ej ∙ z)), eu, ev) (answers-unfit (binBehind s) (cfgBehind s) bin cfg)
+  pub answered-accelerated : (j : ℕ) (v : Refusal) (u : Unbuilding) → j ≡ imageJlp s → (j ≡ 0 → ⊥) → v ≡ refusalAccelerated s → u ≡ bare v → Answered s bin cfg u bin cfg
+  answered-accelerated j v u ej n ev eu =
+      let r : Refusal = refusalBySize s lentLimit in
+      cases (passes r)
+      (λ p. answered (load-passes r refl (eqb-true _ _ p)) u bin cfg (rw (unbuilt s (λ z. n (ej ∙ z)), eu, ev, p) (answers-unfit (binBehind s) (cfgBehind s) bin cfg)))
+      (λ p. answered-load r refl (eqb-false _ _ p) u (eu ∙ ap bare (ev ∙ rw p)))
