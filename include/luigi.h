@@ -10,7 +10,7 @@
    Refusals. `number` is 0 where nothing is refused. Any other is a refusal, by the numbers and with the place of the table in README.md. It answers
    zero in all else but what stands beside the function, and leaves every lent buffer as it was, word for word.
 
-   Stack. luigi_unbuild takes some 2.2 MiB, luigi_build some 1.1 MiB, every other less than 64 KiB. */
+   Stack. luigi_unbuild takes some 2.2 MiB, luigi_build some 1.1 MiB, luigi_salvage some 0.3 MiB, every other less than 64 KiB. */
 #ifndef LUIGI_H
 #define LUIGI_H
 #include <stddef.h>

@@ -1,5 +1,5 @@
 -- One law for each return of the functions behind the survey, and of the salvage: the buffer, and the answer.
-use Prim.Native.Nat.{ℕ, _+_, _-_, _<_, _≤_}
+use Prim.Native.Nat.{ℕ, _+_, _-_, _*_, _<_, _≤_}
 use mathlib.Core.Path.{_≡_, refl, sym, ap, _∙_}
 use mathlib.Core.List.{List, [], _∷_, _++_, append-assoc, append-nil}
 use mathlib.Core.Bool.{Bool, true, false, cond}
@@ -20,7 +20,8 @@ use Rattle.basics.specs.Laws.Puts.{put-short, put-wrote, wrote-put}
 use Rattle.places.specs.Limits.{imageLimit, cardLimit}
 use Rattle.header.specs.Header.{headerSize, headerRows, headerRefusal}
 use Rattle.header.specs.Laws.Refusals.{header-accepted, accepted-length}
-use Rattle.blocks.specs.Images.{firstBlock}
+use Rattle.blocks.specs.Blocks.{frameSize}
+use Rattle.blocks.specs.Images.{firstBlock, blocksIn}
 use Rattle.recovery.specs.declared.Found.{Found}
 use Rattle.recovery.specs.declared.Verdict.{Verdict}
 use Rattle.recovery.specs.declared.Verdict.the-variants.{Refused, Goes}
@@ -30,7 +31,7 @@ use Rattle.recovery.specs.Card.{answerOf, answeredOf}
 use Rattle.recovery.specs.Laws.Closed.{closed-is, length-closed}
 use Rattle.recovery.specs.Laws.Salvage.{salvage-is}
 use Rattle.recovery.specs.Laws.Refusals.{image-first, image-passed}
-use Rattle.recovery.specs.Code.Passes.{closedSize, endPut, foundOf, surveyOf}
+use Rattle.recovery.specs.Code.Passes.{closedSize, endPut, foundOf, surveyOf, Noted}
 
 -- ---- the buffer
 
@@ -159,6 +160,9 @@ module _ (out s : List ℕ) (h : Refusal) (eh : h ≡ headerRefusal s) where
     pub head-enough : headerSize ≤ length s
     head-enough = accepted-length s (rw eh at zero) .0
 
+    pub head-room : (notes : List Bool) → length notes ≡ 262144 → length s ≤ frameSize * length notes
+    head-room notes l = omega (arith, accepted-length s (rw eh at zero) .1)
+
     behind-head : imageRefusal s ≡ firstRefusal (blocksRows s)
     unfolding imageRefusal
     behind-head = silent-behind (headerRows s) _ (header-accepted s .0 (rw eh at zero))
@@ -194,6 +198,9 @@ module _ (out s : List ℕ) (h : Refusal) (eh : h ≡ headerRefusal s) where
 
       pub went-found : (found : Found) → v ≡ Goes found → found ≡ foundOf s
       went-found found e = went found e .1
+
+      pub went-noted : (notes : List Bool) → ((f : Found) → v ≡ Goes f → Noted (blocksIn s) notes) → (found : Found) → v ≡ Goes found → Noted (blocksIn s) notes
+      went-noted notes n found e = n found e
 
       pub went-answers : (found : Found) → v ≡ Goes found → (w : Salvaging) → w ≡ fitted (length out) s → w ≡ salvagingOf out s
       unfolding salvagingOf

@@ -1,4 +1,5 @@
 pub mod Laws
+pub mod Notes
 pub mod Loops
 pub mod Answers
 pub mod Same

@@ -1,12 +1,12 @@
 -- The passes: each says what it did of the blocks before the place where it stands.
-use Prim.Native.Nat.{ℕ, _+_, _-_, _^_, _<_, _≤_}
+use Prim.Native.Nat.{ℕ, _+_, _-_, _*_, _^_, _<_, _≤_}
 use mathlib.Core.Path.{_≡_, refl, sym, ap, _∙_}
 use mathlib.Core.List.{List, [], _∷_, _++_, append-nil}
 use mathlib.Core.Bool.{Bool, true, false, cond, not, _&&_, _||_}
 use native.Mathlib.Omega.{arith}
 use borrow.Author.Tests.{eq-eqb, ne-eqb, eqb-true, eqb-false, ltb-true, ltb-false}
 use borrow.Rule.Slice.PartMut.{putMid}
-use lib.ListN.{length, take, drop, set, length-append}
+use lib.ListN.{length, getD, take, drop, set, length-append, length-set}
 use lib.Seq.{take-all, take-append-le, set-out}
 use lib.Dec.{eqb, ltb}
 use mir.Val.{Fits}
@@ -44,8 +44,9 @@ use Rattle.recovery.specs.declared.Found.{Found}
 use Rattle.recovery.specs.declared.Verdict.{Verdict}
 use Rattle.recovery.specs.declared.Verdict.the-variants.{Refused, Goes}
 use Rattle.recovery.specs.Salvage.{leftOut, kept, dropsFrom, keptIn, dropsIn, stoppedOf, blockRows, keptRows, blocksRows, listedIn}
-use Rattle.recovery.specs.Laws.Kept.{other-kept, good-kept, hunk-out, kept-append, rows-append, left-out-untabled, kept-one, kept-none, drops-one, drops-none}
-use Rattle.recovery.specs.Code.Passes.{onJudged, stepOf, lateOf, lateAfter, endedBy, foundOf, surveyOf}
+use Rattle.recovery.specs.Laws.Kept.{other-kept, good-kept, hunk-out, kept-append, kept-dropped, rows-append, left-out-untabled, kept-one, kept-none, drops-one, drops-none}
+use Rattle.recovery.specs.Code.Passes.{onJudged, stepOf, lateOf, lateAfter, endedBy, foundOf, surveyOf, Noted}
+use Rattle.recovery.proofs.Notes.{noted-none, noted-more, note-is, note-within}
 
 -- ---- a step, by its frame
 
@@ -84,7 +85,7 @@ first-only true false e h k = h
 first-only true true e h k = true-is-not-false refl h
 first-only false n e h k = true-is-not-false k refl
 
-pub record Surveying (s : List ℕ) (p : ℕ) (tabled : Bool) (late : Refusal) (keeps drops long : ℕ) : Type 0 where
+pub record Surveying (s : List ℕ) (notes₀ notes : List Bool) (p : ℕ) (tabled : Bool) (late : Refusal) (keeps drops long : ℕ) : Type 0 where
   pub before : List (List ℕ)
   pub at : At s p before
   pub silent : Silent (keptRows false 32 before)
@@ -93,12 +94,14 @@ pub record Surveying (s : List ℕ) (p : ℕ) (tabled : Bool) (late : Refusal) (
   pub kept-is : keeps ≡ length (kept before)
   pub dropped-is : drops ≡ length (dropsFrom 32 before)
   pub long-is : long ≡ 32 + length (flat (kept before))
-  pub few : keeps + drops + 32 ≤ p
+  pub noted : Noted before notes
+  pub same : length notes ≡ length notes₀
+  pub few : 8 * (keeps + drops) + 32 ≤ p
   pub short : long ≤ p
 
-pub survey-start : (s : List ℕ) (late : Refusal) → Surveying s 32 false late 0 0 32
+pub survey-start : (s : List ℕ) (notes : List Bool) (late : Refusal) → Surveying s notes notes 32 false late 0 0 32
 unfolding keptRows kept dropsFrom anyTables joined
-survey-start s late =
+survey-start s notes late =
     record {
       before = [];
       at = at-start s;
@@ -108,9 +111,15 @@ survey-start s late =
       kept-is = refl;
       dropped-is = refl;
       long-is = refl;
+      noted = noted-none notes;
+      same = refl;
       few = omega arith;
       short = omega arith;
     }
+
+pub survey-same : (s : List ℕ) (notes₀ notes : List Bool) (p : ℕ) (tabled : Bool) (late : Refusal) (keeps drops long : ℕ) → Surveying s notes₀ notes p tabled late keeps drops long
+    → length notes ≡ length notes₀
+survey-same s notes₀ notes p tabled late keeps drops long c = c .same
 
 late-more : (flags : List ℕ) (xs : List (List ℕ)) (x : List ℕ) (t : ℕ) (late after : Refusal) → t ≡ typeOf x → after ≡ lateAfter late flags x t
     → (isTables x ≡ true → anyTables xs ≡ false) → (anyTables xs ≡ true → late ≡ lateOf flags (payloadOfTables xs))
@@ -148,6 +157,10 @@ refused-is : (s : List ℕ) (r : Refusal) → (r .number ≡ 0 → ⊥) → Give
 unfolding surveyOf
 refused-is s r n g = let e : firstRefusal (blocksRows s) ≡ r = gives-first noRefusal g in rw (e, ne-eqb _ _ n)
 
+-- and then nothing was found
+pub no-notes : (A : Type 0) (r : Refusal) (found : Found) → Refused r ≡ Goes found → A
+no-notes A r found e = let z : _≡_ {A = ℕ} 0 1 = cc in absurd (omega arith)
+
 refused-in : {r : Refusal} (s : List ℕ) (xs : List (List ℕ)) (x : List ℕ) (rest : List (List ℕ)) → blocksIn s ≡ xs ++ (x ∷ rest) → (tabled : Bool) (p : ℕ)
     → tabled ≡ anyTables xs → p ≡ 32 + length (flat xs) → Silent (keptRows false 32 xs) → Gives (blockRows tabled p x) r → Gives (blocksRows s) r
 unfolding blocksRows keptRows
@@ -155,10 +168,14 @@ refused-in {r} s xs x rest all tabled p any place silent g =
     let k : Gives (keptRows false 32 (blocksIn s)) r = rw (all, rows-append false 32 xs (x ∷ rest), ← any, ← place) (silent-gives silent (gives-append _ g)) in
     gives-append _ k
 
-module _ (s : List ℕ) (p : ℕ) (tabled : Bool) (late : Refusal) (keeps drops long : ℕ) (c : Surveying s p tabled late keeps drops long) (st : Step)
+module _ (s : List ℕ) (notes₀ notes : List Bool) (p : ℕ) (tabled : Bool) (late : Refusal) (keeps drops long : ℕ) (c : Surveying s notes₀ notes p tabled late keeps drops long) (st : Step)
     (es : st ≡ stepOf s tabled p) where
   abbrev xs : List (List ℕ)
   xs = c .before
+
+  -- which block this is
+  turn-is : keeps + drops ≡ length xs
+  turn-is = omega (arith, c .kept-is, c .dropped-is, kept-dropped xs 32)
 
   stop-is : (w : Stopped) → Stepped s tabled p (Stops w) → (blocksIn s ≡ xs) × (stoppedOf s ≡ w)
   stop-is w (over f) = let o : StopsAt s p xs false = at-over s p xs (c .at) f in (o .all, rw (o .how))
@@ -171,6 +188,10 @@ module _ (s : List ℕ) (p : ℕ) (tabled : Bool) (late : Refusal) (keeps drops 
       let o = stop-is w (stepped s tabled p (Stops w) (sym e ∙ es)) in
       er ∙ ended-is s xs (o .0) tabled late (c .any) (c .refusal) (c .silent) found
       (ef ∙ found-is s xs keeps drops long w (o .0) (c .kept-is) (c .dropped-is) (c .long-is) (o .1))
+
+  -- and then all blocks are noted
+  pub survey-noted : (w : Stopped) → st ≡ Stops w → Noted (blocksIn s) notes
+  survey-noted w e = rw (stop-is w (stepped s tabled p (Stops w) (sym e ∙ es)) .0) (c .noted)
 
   -- a refusal of this block is the image's
   pub survey-no : (r : Refusal) → st ≡ No r → Refused r ≡ surveyOf s
@@ -209,9 +230,16 @@ module _ (s : List ℕ) (p : ℕ) (tabled : Bool) (late : Refusal) (keeps drops 
     pub keep-inside : q ≤ length s
     keep-inside = keep-next .inside
 
-    pub keep-more : (after : Refusal) → after ≡ lateAfter late (flagsOf s) (part s p q) t → (b : Bool) → b ≡ tabled || eqb t 1 → Surveying s q b after (keeps + 1) drops (long + (q - p))
+    pub keep-room : length s ≤ 8 * length notes₀ → keeps + drops < length notes
+    keep-room l = omega (arith, keep-next .later, keep-next .inside, c .few, c .same)
+
+    pub keep-turn : length s < 2 ^ 64 → Fits w64 (keeps + drops)
+    keep-turn l = omega (arith, keep-next .later, keep-next .inside, c .few)
+
+    pub keep-more : length s ≤ 8 * length notes₀ → (after : Refusal) → after ≡ lateAfter late (flagsOf s) (part s p q) t → (b : Bool) → b ≡ tabled || eqb t 1
+        → Surveying s notes₀ (set notes (keeps + drops) false) q b after (keeps + 1) drops (long + (q - p))
     unfolding keptRows
-    keep-more after ea b eb =
+    keep-more l after ea b eb =
         let x : List ℕ = part s p q in
         let k : t ≡ typeOf x = framed-type s p t q (keep-frame .0) in
         let ek : kept (xs ++ (x ∷ [])) ≡ kept xs ++ (x ∷ []) = kept-one xs x keep-kept in
@@ -227,6 +255,8 @@ module _ (s : List ℕ) (p : ℕ) (tabled : Bool) (late : Refusal) (keeps drops 
           kept-is = sym (ap length ek ∙ length-append (kept xs) (x ∷ []) ∙ rw (← c .kept-is));
           dropped-is = c .dropped-is ∙ sym (ap length (drops-none xs x 32 keep-kept));
           long-is = omega (arith, c .long-is, keep-size, ap length (ap flat ek ∙ joined-more (λ y. y) (kept xs) x), length-append (flat (kept xs)) x);
+          noted = noted-more xs x notes (keeps + drops) false (c .noted) turn-is (keep-room l) (sym keep-kept);
+          same = length-set notes (keeps + drops) false ∙ c .same;
           few = omega (arith, c .few, keep-next .later);
           short = omega (arith, c .short, keep-next .later);
         }
@@ -261,9 +291,15 @@ module _ (s : List ℕ) (p : ℕ) (tabled : Bool) (late : Refusal) (keeps drops 
         let k : typeOf (part s p q) ≡ 2 = sym (framed-type s p (out-frame .kind) q (out-frame .framed)) ∙ out-frame .hunk in
         hunk-out tabled p (part s p q) (eq-eqb _ _ k) (out-frame .bad)
 
-    pub drop-more : Surveying s q tabled late keeps (drops + 1) long
+    pub drop-room : length s ≤ 8 * length notes₀ → keeps + drops < length notes
+    drop-room l = omega (arith, out-next .later, out-next .inside, c .few, c .same)
+
+    pub drop-turn : length s < 2 ^ 64 → Fits w64 (keeps + drops)
+    drop-turn l = omega (arith, out-next .later, out-next .inside, c .few)
+
+    pub drop-more : length s ≤ 8 * length notes₀ → Surveying s notes₀ (set notes (keeps + drops) true) q tabled late keeps (drops + 1) long
     unfolding keptRows
-    drop-more =
+    drop-more l =
         let x : List ℕ = part s p q in
         let ek : kept (xs ++ (x ∷ [])) ≡ kept xs = kept-none xs x out-left in
         let u : isTables x ≡ false = left-out-untabled x out-left in
@@ -278,6 +314,8 @@ module _ (s : List ℕ) (p : ℕ) (tabled : Bool) (late : Refusal) (keeps drops 
           kept-is = c .kept-is ∙ sym (ap length ek);
           dropped-is = sym (ap length (drops-one xs x 32 out-left) ∙ length-append (dropsFrom 32 xs) _ ∙ rw (← c .dropped-is));
           long-is = c .long-is ∙ sym (ap (λ (y : List (List ℕ)). 32 + length (flat y)) ek);
+          noted = noted-more xs x notes (keeps + drops) true (c .noted) turn-is (drop-room l) (sym out-left);
+          same = length-set notes (keeps + drops) true ∙ c .same;
           few = omega (arith, c .few, out-next .later);
           short = omega (arith, c .short, out-next .later);
         }
@@ -290,18 +328,19 @@ module _ (s : List ℕ) (p : ℕ) (tabled : Bool) (late : Refusal) (keeps drops 
 
 -- ---- the copying pass
 
-pub record Copying (s out₀ out : List ℕ) (p i : ℕ) : Type 0 where
+pub record Copying (s out₀ out : List ℕ) (p n i : ℕ) : Type 0 where
   pub before : List (List ℕ)
   pub at : At s p before
+  pub count : n ≡ length before
   pub wrote : Wrote out₀ out (flat (kept before))
   pub here : i ≡ length (flat (kept before))
 
-pub copy-start : (s out : List ℕ) → Copying s out out 32 0
+pub copy-start : (s out : List ℕ) → Copying s out out 32 0 0
 unfolding kept joined
-copy-start s out = record { before = []; at = at-start s; wrote = wrote-none out; here = refl }
+copy-start s out = record { before = []; at = at-start s; count = refl; wrote = wrote-none out; here = refl }
 
-pub copy-same : (s out₀ out : List ℕ) (p i : ℕ) → Copying s out₀ out p i → length out ≡ length out₀
-copy-same s out₀ out p i c = wrote-long out₀ out (flat (kept (c .before))) (c .wrote)
+pub copy-same : (s out₀ out : List ℕ) (p n i : ℕ) → Copying s out₀ out p n i → length out ≡ length out₀
+copy-same s out₀ out p n i c = wrote-long out₀ out (flat (kept (c .before))) (c .wrote)
 
 -- a block that is kept has room where all have
 kept-room : (xs rest : List (List ℕ)) (x : List ℕ) → leftOut x ≡ false → length (flat (kept xs)) + length x ≤ length (flat (kept (xs ++ (x ∷ rest))))
@@ -310,7 +349,7 @@ kept-room xs rest x d =
     let e : flat (kept (xs ++ (x ∷ rest))) ≡ flat (kept xs) ++ (x ++ flat (kept rest)) = ap flat (kept-append xs (x ∷ rest)) ∙ joined-append (λ y. y) (kept xs) (kept (x ∷ rest)) ∙ rw d in
     omega (arith, ap length e, length-append (flat (kept xs)) (x ++ flat (kept rest)), length-append x (flat (kept rest)))
 
-module _ (s out₀ out : List ℕ) (p i : ℕ) (c : Copying s out₀ out p i) (f : Frame) (ef : f ≡ frameAt s p) where
+module _ (s out₀ out : List ℕ) (p n i : ℕ) (c : Copying s out₀ out p n i) (f : Frame) (ef : f ≡ frameAt s p) where
   module _ (fits : length out₀ ≡ length (flat (keptIn s))) where
     copied : blocksIn s ≡ c .before → out ≡ flat (keptIn s)
     copied e =
@@ -333,24 +372,36 @@ module _ (s out₀ out : List ℕ) (p i : ℕ) (c : Copying s out₀ out p i) (f
     pub copy-less : length s - q < length s - p
     copy-less = omega (arith, next .later, next .inside)
 
-    module _ (b : Bool) (eb : b ≡ leftOut (part s p q)) where
-      -- left out
-      pub copy-none : not b ≡ false → Copying s out₀ out q i
-      copy-none h =
-          let d : leftOut (part s p q) ≡ true = sym eb ∙ not-false b h in
-          let k : kept (c .before ++ (part s p q ∷ [])) ≡ kept (c .before) = kept-none (c .before) (part s p q) d in
-          record { before = c .before ++ (part s p q ∷ []); at = next .at; wrote = rw k (c .wrote); here = rw k (c .here) }
+    one-more : n + 1 ≡ length (c .before ++ (part s p q ∷ []))
+    one-more = omega (arith, c .count, length-append (c .before) (part s p q ∷ []))
 
-      module _ (h : not b ≡ true) where
+    module _ (notes : List Bool) (noted : Noted (blocksIn s) notes) where
+      pub copy-within : n < length notes
+      copy-within = note-within (c .before) (next .rest) (part s p q) notes n (rw (next .all) at noted) (c .count)
+
+      pub copy-next : length notes < 2 ^ 64 → Fits w64 (n + 1)
+      copy-next l = omega (arith, copy-within)
+
+      noted-is : getD notes n false ≡ leftOut (part s p q)
+      noted-is = note-is (c .before) (next .rest) (part s p q) notes n (rw (next .all) at noted) (c .count)
+
+      -- left out
+      pub copy-none : not (getD notes n false) ≡ false → Copying s out₀ out q (n + 1) i
+      copy-none h =
+          let d : leftOut (part s p q) ≡ true = sym noted-is ∙ not-false (getD notes n false) h in
+          let k : kept (c .before ++ (part s p q ∷ [])) ≡ kept (c .before) = kept-none (c .before) (part s p q) d in
+          record { before = c .before ++ (part s p q ∷ []); at = next .at; count = one-more; wrote = rw k (c .wrote); here = rw k (c .here) }
+
+      module _ (h : not (getD notes n false) ≡ true) where
         stays : leftOut (part s p q) ≡ false
-        stays = sym eb ∙ not-true b h
+        stays = sym noted-is ∙ not-true (getD notes n false) h
 
         module _ (fits : length out₀ ≡ length (flat (keptIn s))) where
           pub copy-room : i + (q - p) ≤ length out
           copy-room =
               omega (
                 arith,
-                copy-same s out₀ out p i c,
+                copy-same s out₀ out p n i c,
                 c .here,
                 size,
                 fits,
@@ -359,19 +410,21 @@ module _ (s out₀ out : List ℕ) (p i : ℕ) (c : Copying s out₀ out p i) (f
               )
 
           pub copy-fit : length out₀ < 2 ^ 64 → Fits w64 (i + (q - p))
-          copy-fit l = omega (arith, copy-room, copy-same s out₀ out p i c)
+          copy-fit l = omega (arith, copy-room, copy-same s out₀ out p n i c)
 
-          pub copy-one : (ys : List ℕ) → ys ≡ putFront (part s p q) (take (i + (q - p) - i) (drop i out)) → Copying s out₀ (putMid i (i + (q - p) - i) out ys) q (i + (q - p))
+          pub copy-one : (ys : List ℕ) → ys ≡ putFront (part s p q) (take (i + (q - p) - i) (drop i out))
+              → Copying s out₀ (putMid i (i + (q - p) - i) out ys) q (n + 1) (i + (q - p))
           copy-one ys ey =
               let x : List ℕ = part s p q in
               let k : flat (kept (c .before ++ (x ∷ []))) ≡ flat (kept (c .before)) ++ x = ap flat (kept-one (c .before) x stays) ∙ joined-more (λ y. y) (kept (c .before)) x in
               record {
                 before = c .before ++ (x ∷ []);
                 at = next .at;
+                count = one-more;
                 wrote =
                     rw k
                     (wrote-put out₀ out (flat (kept (c .before))) i (i + (q - p) - i) ys x (c .wrote) (c .here) (omega (arith, size))
-                    (omega (arith, copy-room, copy-same s out₀ out p i c)) ey);
+                    (omega (arith, copy-room, copy-same s out₀ out p n i c)) ey);
                 here = rw k (omega (arith, c .here, size, length-append (flat (kept (c .before))) x));
               }
 

@@ -1,19 +1,21 @@
-// Salvage of a damaged image: the walk of a load with other consequences (02, W-208). A pass that surveys and writes nothing, then one that
-// copies.
+// Salvage of a damaged image: the walk of a load with other consequences (02, W-208). A pass that surveys, judges each block once, notes what is
+// left out and writes nothing, then one that copies by the notes.
 ghost use mathlib.Core.Path.{_≡_};
-ghost use Prim.Native.Nat.{_+_, _≤_};
+ghost use Prim.Native.Nat.{_+_, _*_, _≤_};
 ghost use lib.ListN.{length, set};
 ghost use Rattle.basics.specs.Lists.{flat, putFront};
 ghost use Rattle.places.specs.Limits.{lentLimit};
 ghost use Rattle.sums.specs.Crc.{c324Poly};
 ghost use Rattle.sums.specs.Tables.{tablesOf};
 ghost use Rattle.header.specs.Header.{headerSize};
-ghost use Rattle.blocks.specs.Blocks.{payloadIn};
-ghost use Rattle.blocks.specs.Images.{firstBlock};
+ghost use Rattle.blocks.specs.Blocks.{frameSize, payloadIn};
+ghost use Rattle.blocks.specs.Images.{firstBlock, blocksIn};
 ghost use Rattle.load.specs.Code.Passes.{judgementOf};
 ghost use Rattle.recovery.specs.Salvage.{leftOut, keptIn, dropsIn, salvageOf, refused, fitted, salvagingOf, writtenOf, listedIn};
 ghost use Rattle.recovery.specs.Card.{answerOf, answeredOf};
-ghost use Rattle.recovery.specs.Code.Passes.{stepOf, lateOf, lateAfter, endedBy, foundOf, surveyOf, closedSize, endPut};
+ghost use Rattle.recovery.specs.declared.Found.{Found};
+ghost use Rattle.recovery.specs.declared.Verdict.the-variants.{Goes};
+ghost use Rattle.recovery.specs.Code.Passes.{stepOf, lateOf, lateAfter, endedBy, foundOf, surveyOf, Noted, closedSize, endPut};
 use basics::Refusal;
 use blocks::END_MARK;
 use blocks::FIRST_BLOCK;
@@ -24,6 +26,9 @@ use blocks::Judged;
 use blocks::TABLES_TYPE;
 use header::HEADER_SIZE;
 use places::IMAGE_LIMIT;
+
+// A note for each block of the longest image: no block is shorter than its frame.
+const NOTES: usize = IMAGE_LIMIT / FRAME_SIZE;
 
 // Where a walk stopped: nowhere before the image's end, or at a block that is cut.
 pub enum Stopped {
@@ -153,10 +158,10 @@ fn finding(kept: usize, dropped: usize, long: usize, stopped: Stopped) -> Found
     }
 }
 
-// The surveying pass over the blocks.
-fn survey(s: &[u8], c324: &[u32; 2048]) -> Verdict
-    requires { ⌜ (now c324 ≡ tablesOf c324Poly) × (headerSize ≤ length (now s)) ⌝ }
-    ensures { λ r. ⌜ r ≡ surveyOf (now (s .entry)) ⌝ }
+// The surveying pass over the blocks. Each is noted: left out or not.
+fn survey(s: &[u8], c324: &[u32; 2048], notes: &mut [bool]) -> Verdict
+    requires { ⌜ (now c324 ≡ tablesOf c324Poly) × (headerSize ≤ length (now s)) × (length (now s) ≤ frameSize * length (now notes)) ⌝ }
+    ensures { λ r. ⌜ (r ≡ surveyOf (now (s .entry))) × ((found : Found) → r ≡ Goes found → Noted (blocksIn (now (s .entry))) (now (notes .exit))) ⌝ }
 {
     let from = header::FLAGS_AT;
     let to = header::UID_AT;
@@ -177,6 +182,7 @@ fn survey(s: &[u8], c324: &[u32; 2048]) -> Verdict
                 return Verdict::Refused(r);
             }
             Step::Keeps(t, q) => {
+                notes[kept + dropped] = false;
                 late = late_after(late, &s[from..to], &s[p..q], t);
                 tabled = basics::either(tabled, t == TABLES_TYPE);
                 kept = kept + 1;
@@ -184,6 +190,7 @@ fn survey(s: &[u8], c324: &[u32; 2048]) -> Verdict
                 p = q;
             }
             Step::Drops(q) => {
+                notes[kept + dropped] = true;
                 dropped = dropped + 1;
                 p = q;
             }
@@ -192,11 +199,12 @@ fn survey(s: &[u8], c324: &[u32; 2048]) -> Verdict
 }
 
 // The kept blocks, byte for byte, into a part of just their size.
-fn copy_blocks(s: &[u8], c324: &[u32; 2048], out: &mut [u8])
-    requires { ⌜ (now c324 ≡ tablesOf c324Poly) × (length (now out) ≡ length (flat (keptIn (now s)))) ⌝ }
+fn copy_blocks(s: &[u8], notes: &[bool], out: &mut [u8])
+    requires { ⌜ (Noted (blocksIn (now s)) (now notes)) × (length (now out) ≡ length (flat (keptIn (now s)))) ⌝ }
     ensures { λ _. ⌜ now (out .exit) ≡ flat (keptIn (now (s .entry))) ⌝ }
 {
     let mut p = FIRST_BLOCK;
+    let mut n = 0;
     let mut at = 0;
     loop {
         let f = blocks::frame_at(s, p);
@@ -208,7 +216,9 @@ fn copy_blocks(s: &[u8], c324: &[u32; 2048], out: &mut [u8])
                 return;
             }
             Frame::Framed(_, q) => {
-                if !is_left_out(&s[p..q], c324) {
+                let left_out = notes[n];
+                n = n + 1;
+                if !left_out {
                     let e = at + (q - p);
                     basics::put_bytes(&mut out[at..e], &s[p..q]);
                     at = e;
@@ -239,12 +249,12 @@ fn put_end(out: &mut [u8], n: usize)
 }
 
 // The image, into the front of a buffer that holds it: the header and the kept blocks, which have so many bytes, each in a part of its own.
-fn put_image(s: &[u8], c324: &[u32; 2048], long: usize, out: &mut [u8])
-    requires { ⌜ (now c324 ≡ tablesOf c324Poly) × (headerSize ≤ length (now s)) × (long ≡ firstBlock + length (flat (keptIn (now s)))) × (closedSize long ≤ length (now out)) ⌝ }
+fn put_image(s: &[u8], notes: &[bool], long: usize, out: &mut [u8])
+    requires { ⌜ (Noted (blocksIn (now s)) (now notes)) × (headerSize ≤ length (now s)) × (long ≡ firstBlock + length (flat (keptIn (now s)))) × (closedSize long ≤ length (now out)) ⌝ }
     ensures { λ _. ⌜ now (out .exit) ≡ putFront (salvageOf (now (s .entry))) (now (out .entry)) ⌝ }
 {
     basics::put_bytes(&mut out[0..HEADER_SIZE], &s[0..HEADER_SIZE]);
-    copy_blocks(s, c324, &mut out[HEADER_SIZE..long]);
+    copy_blocks(s, notes, &mut out[HEADER_SIZE..long]);
     put_end(out, long);
 }
 
@@ -262,8 +272,8 @@ fn refuse(refusal: Refusal, length: usize) -> Salvaging
 }
 
 // Behind the survey: 29, then the copying pass and the answer.
-fn finish(s: &[u8], c324: &[u32; 2048], found: Found, out: &mut [u8]) -> Salvaging
-    requires { ⌜ (now c324 ≡ tablesOf c324Poly) × (headerSize ≤ length (now s)) × (found ≡ foundOf (now s)) ⌝ }
+fn finish(s: &[u8], notes: &[bool], found: Found, out: &mut [u8]) -> Salvaging
+    requires { ⌜ (Noted (blocksIn (now s)) (now notes)) × (headerSize ≤ length (now s)) × (found ≡ foundOf (now s)) ⌝ }
     ensures { λ r. ⌜ (r ≡ fitted (length (now (out .entry))) (now (s .entry))) × (now (out .exit) ≡ putFront (salvageOf (now (s .entry))) (now (out .entry))) ⌝ }
 {
     let long = found.long;
@@ -271,7 +281,7 @@ fn finish(s: &[u8], c324: &[u32; 2048], found: Found, out: &mut [u8]) -> Salvagi
     if out.len() < length {
         return refuse(basics::refuse(29, 0), length);
     }
-    put_image(s, c324, long, out);
+    put_image(s, notes, long, out);
     let stopped = found.stopped;
     Salvaging {
         refusal: basics::no_refusal(),
@@ -291,10 +301,11 @@ pub fn salvage(image: &[u8], out: &mut [u8]) -> Salvaging
         return refuse(h, 0);
     }
     let c324 = sums::tables(sums::C324);
-    let v = survey(image, &c324);
+    let mut notes = [false; NOTES];
+    let v = survey(image, &c324, &mut notes);
     match v {
         Verdict::Refused(r) => refuse(r, 0),
-        Verdict::Goes(found) => finish(image, &c324, found, out),
+        Verdict::Goes(found) => finish(image, &notes, found, out),
     }
 }
 

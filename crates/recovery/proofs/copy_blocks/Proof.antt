@@ -2,16 +2,16 @@
 use Prim.Native.Nat.{_-_}
 use lib.ListN.{length}
 use Rattle.recovery.proofs.Laws.{frame-later, frame-inside}
-use Rattle.recovery.proofs.Loops.{Copying, copy-start, copy-same, copy-over, copy-cut, copy-less, copy-none, copy-room, copy-fit, copy-one}
+use Rattle.recovery.proofs.Loops.{Copying, copy-start, copy-same, copy-over, copy-cut, copy-less, copy-within, copy-next, copy-none, copy-room, copy-fit, copy-one}
 use borrow.Author.Needs.{needs}
 use Rattle.recovery.proofs.copy_blocks.Statement.{statement}
 use Rattle.recovery.proofs.copy_blocks.Tie as tie
 
 abbrev Inv-loop : tie.InvT-loop
-Inv-loop s c324 out₀ p₀ at₀ out p at = Copying s out₀ out p at
+Inv-loop s notes out₀ p₀ n₀ at₀ out p n at = Copying s out₀ out p n at
 
 abbrev μ-loop : tie.MeasureT-loop
-μ-loop s c324 out₀ p₀ at₀ out p at = length s - p
+μ-loop s notes out₀ p₀ n₀ at₀ out p n at = length s - p
 
 loop-holds : tie.Need-loop-holds Inv-loop μ-loop
 loop-holds c = search (needs, copy-start)
@@ -28,14 +28,11 @@ same-length-2 c = search (needs, copy-same)
 returns-2 : tie.Need-returns-2 Inv-loop μ-loop
 returns-2 c = search (needs, copy-cut)
 
-sub-is-left-out : tie.Need-sub-is-left-out Inv-loop μ-loop
-sub-is-left-out c = search (needs, frame-later)
+shared-slice-read-left-out : tie.Need-shared-slice-read-left-out Inv-loop μ-loop
+shared-slice-read-left-out c = search (needs, copy-within)
 
-part-is-left-out-start : tie.Need-part-is-left-out-start Inv-loop μ-loop
-part-is-left-out-start c = search (needs, frame-later)
-
-part-is-left-out-end : tie.Need-part-is-left-out-end Inv-loop μ-loop
-part-is-left-out-end c = search (needs, frame-inside)
+add-n : tie.Need-add-n Inv-loop μ-loop
+add-n c = search (needs, copy-next)
 
 sub-e : tie.Need-sub-e Inv-loop μ-loop
 sub-e c = search (needs, frame-later)
@@ -82,10 +79,8 @@ copy-blocks-spec =
     same-length-2
     returns-2
     (λ c. search needs)
-    sub-is-left-out
-    part-is-left-out-start
-    part-is-left-out-end
-    (λ c κs. search needs)
+    shared-slice-read-left-out
+    add-n
     sub-e
     add-e
     (λ c. search needs)

@@ -1,25 +1,37 @@
--- `recovery::survey` meets its contract. The invariant: the blocks before p are surveyed.
+-- `recovery::survey` meets its contract. The invariant: the blocks before p are surveyed and noted.
 use Prim.Native.Nat.{_-_}
 use lib.ListN.{length}
-use Rattle.recovery.proofs.Loops.{Surveying, survey-start, survey-end, survey-no, keep-later, keep-inside, keep-more, keep-less, keep-fit, long-fit, drop-more, drop-less, drop-fit}
+use Rattle.recovery.proofs.Loops.{Surveying, survey-start, survey-same, survey-end, survey-noted, survey-no, no-notes, keep-later, keep-inside, keep-turn, keep-room, keep-more, keep-less, keep-fit, long-fit, drop-turn, drop-room, drop-more, drop-less, drop-fit}
 use borrow.Author.Needs.{needs}
 use Rattle.recovery.proofs.survey.Statement.{statement}
 use Rattle.recovery.proofs.survey.Tie as tie
 
 abbrev Inv-loop : tie.InvT-loop
-Inv-loop s c324 from to p₀ tabled₀ late₀ kept₀ dropped₀ long₀ p tabled late kept dropped long = Surveying s p tabled late kept dropped long
+Inv-loop s c324 notes₀ from to p₀ tabled₀ late₀ kept₀ dropped₀ long₀ notes p tabled late kept dropped long = Surveying s notes₀ notes p tabled late kept dropped long
 
 abbrev μ-loop : tie.MeasureT-loop
-μ-loop s c324 from to p₀ tabled₀ late₀ kept₀ dropped₀ long₀ p tabled late kept dropped long = length s - p
+μ-loop s c324 notes₀ from to p₀ tabled₀ late₀ kept₀ dropped₀ long₀ notes p tabled late kept dropped long = length s - p
 
 loop-holds : tie.Need-loop-holds Inv-loop μ-loop
 loop-holds c = search (needs, survey-start)
 
+same-length : tie.Need-same-length Inv-loop μ-loop
+same-length c = search (needs, survey-same)
+
 returns : tie.Need-returns Inv-loop μ-loop
-returns c = search (needs, survey-end)
+returns c = (search (needs, survey-end), λ found e. search (needs, survey-noted))
+
+same-length-2 : tie.Need-same-length-2 Inv-loop μ-loop
+same-length-2 c = search (needs, survey-same)
 
 returns-2 : tie.Need-returns-2 Inv-loop μ-loop
-returns-2 c = search (needs, survey-no)
+returns-2 c = (search (needs, survey-no), λ found e. no-notes _ _ _ e)
+
+add-notes : tie.Need-add-notes Inv-loop μ-loop
+add-notes c = search (needs, keep-turn)
+
+slice-write-notes : tie.Need-slice-write-notes Inv-loop μ-loop
+slice-write-notes c = search (needs, keep-room)
 
 sub-late-after-2 : tie.Need-sub-late-after-2 Inv-loop μ-loop
 sub-late-after-2 c = search (needs, keep-later)
@@ -45,6 +57,12 @@ loop-less c = search (needs, keep-less)
 loop-again : tie.Need-loop-again Inv-loop μ-loop
 loop-again c = search (needs, keep-more)
 
+add-notes-2 : tie.Need-add-notes-2 Inv-loop μ-loop
+add-notes-2 c = search (needs, drop-turn)
+
+slice-write-notes-2 : tie.Need-slice-write-notes-2 Inv-loop μ-loop
+slice-write-notes-2 c = search (needs, drop-room)
+
 add-dropped : tie.Need-add-dropped Inv-loop μ-loop
 add-dropped c = search (needs, drop-fit)
 
@@ -66,10 +84,14 @@ survey-spec =
     (λ c. search needs)
     (λ c κs. search needs)
     (λ c κs. search needs)
+    same-length
     returns
     (λ c. search needs)
+    same-length-2
     returns-2
     (λ c. search needs)
+    add-notes
+    slice-write-notes
     (λ c. search needs)
     (λ c. search needs)
     (λ c. search needs)
@@ -84,6 +106,8 @@ survey-spec =
     loop-less
     loop-again
     (λ c. search needs)
+    add-notes-2
+    slice-write-notes-2
     add-dropped
     loop-less-2
     loop-again-2)

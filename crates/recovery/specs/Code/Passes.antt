@@ -1,6 +1,7 @@
--- What the surveying pass answers over the blocks that are read, and what stands behind it.
+-- What the surveying pass answers and notes over the blocks that are read, and what stands behind it.
 use Prim.Native.Nat.{ℕ, _+_}
-use mathlib.Core.List.{List}
+use mathlib.Core.Path.{_≡_}
+use mathlib.Core.List.{List, _++_, map}
 use mathlib.Core.Bool.{Bool, cond}
 use lib.ListN.{length, set}
 use lib.Dec.{eqb, ltb}
@@ -20,7 +21,7 @@ use Rattle.recovery.specs.declared.Step.the-variants.{Stops, No, Keeps, 
 use Rattle.recovery.specs.declared.Found.{Found}
 use Rattle.recovery.specs.declared.Verdict.{Verdict}
 use Rattle.recovery.specs.declared.Verdict.the-variants.{Refused, Goes}
-use Rattle.recovery.specs.Salvage.{keptIn, dropsIn, stoppedOf, closing, blocksRows}
+use Rattle.recovery.specs.Salvage.{leftOut, keptIn, dropsIn, stoppedOf, closing, blocksRows}
 
 -- one step: the end or a block that is cut, a refusal, a block that is kept with its type, or one that is left out; each with the next place
 abbrev pub onJudged : Judged → ℕ → ℕ → Step
@@ -52,6 +53,11 @@ foundOf s =
 
 unfoldable pub surveyOf : List ℕ → Verdict
 surveyOf s = cond (passes (firstRefusal (blocksRows s))) (Goes (foundOf s)) (Refused (firstRefusal (blocksRows s)))
+
+-- notes of blocks: from the first on, whether each is left out, and then whatever stands there
+pub record Noted (xs : List (List ℕ)) (notes : List Bool) : Type 0 where
+  pub rest : List Bool
+  pub is : notes ≡ map leftOut xs ++ rest
 
 -- so many bytes, closed
 abbrev pub closedSize : ℕ → ℕ
