@@ -9,10 +9,10 @@ use native.Mathlib.Omega.{arith}
 use lib.ListN.{length}
 use lib.Dec.{ltb}
 use Rattle.basics.specs.declared.Refusal.{Refusal}
-use Rattle.basics.specs.Rows.{Gives, Silent}
+use Rattle.basics.specs.Rows.{Gives}
 use Rattle.basics.specs.Refusals.{refuse, firstRefusal}
 use Rattle.basics.specs.Laws.Tests.{cases}
-use Rattle.basics.specs.Laws.Refusals.{Refusing, refused-exactly as exactly-refused, accepted-exactly as exactly-accepted}
+use Rattle.basics.specs.Laws.Refusals.{Refusing, refused-exactly as exactly-refused}
 use Rattle.places.specs.Limits.{cardLimit}
 use Rattle.header.specs.Header.{headerSize}
 use Rattle.recovery.specs.Salvage.{dropsIn, salvageOf, refusalOf}
@@ -30,9 +30,6 @@ module _ (out s : List ℕ) where
 
   pub card-refused : (r : Refusal) → (r .number ≡ 0 → ⊥) → (answerOf out s .refusal ≡ r) ↔ Gives (cardRows out s) r
   card-refused r n = rw answer-first (exactly-refused (cardRows out s) card-refusing r n)
-
-  pub card-salvaged : (answerOf out s .refusal .number ≡ 0) ↔ Silent (cardRows out s)
-  card-salvaged = rw answer-first (exactly-accepted (cardRows out s) card-refusing)
 
 module _ (s : List ℕ) (h : length s ≤ cardLimit) where
   pub card-room : headerSize ≤ length s → length (salvageOf s) ≤ cardLimit + 1
