@@ -465,7 +465,7 @@ fn shift<'a>(
 }
 
 // The command that a write to the accelerators' registers asks for, done.
-fn command(s: Saves, ram: &mut [u16], flash: &mut [u16], at: Console, value: u16)
+pub fn command(s: Saves, ram: &mut [u16], flash: &mut [u16], at: Console, value: u16)
     ensures { λ _. ⌜ (now (flash .exit) ≡ acted (s .sectors) (memories (now (flash .entry)) (now (ram .entry))) (commandOf s at value) .flash)
         × (now (ram .exit) ≡ acted (s .sectors) (memories (now (flash .entry)) (now (ram .entry))) (commandOf s at value) .ram) ⌝ }
 {

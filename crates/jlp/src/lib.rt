@@ -6,7 +6,7 @@ mod sum;
 
 ghost use Prim.Native.Nat.{_<_};
 ghost use mathlib.Core.Path.{_≡_};
-ghost use Rattle.jlp.specs.Window.{between, inWindow, inRam, ramLocation};
+ghost use Rattle.jlp.specs.Window.{between, inWindow, inRam, isOperand, ramLocation};
 ghost use Rattle.jlp.specs.Accelerators.{operandCount, startsOn, freshJlp, withOn, resetJlp, turnsOn, turnsOff, takes, latches, functionOf, operated, crcAfter, withCrcAndSaves, writtenOn, writtenJlp, registerWord, heardAt};
 pub use arith::divide;
 pub use arith::multiply;
@@ -90,6 +90,13 @@ pub fn in_ram(at: Console) -> bool
     between(RAM_START, RAM_END, at.0)
 }
 
+// Whether an address is an operand's.
+pub fn is_operand(at: Console) -> bool
+    ensures { λ r. ⌜ r ≡ isOperand at ⌝ }
+{
+    between(OPERANDS_START, OPERANDS_END, at.0)
+}
+
 // Where a word of the window's RAM lies.
 pub fn location(at: Console) -> Locutus
     ensures { λ r. ⌜ r ≡ ramLocation at ⌝ }
@@ -143,7 +150,7 @@ pub fn reset(j: Jlp) -> Jlp
 }
 
 // The word that turns the accelerators on, which field 0 does not know.
-fn turns_on(field: u8, at: Console, value: u16) -> bool
+pub fn turns_on(field: u8, at: Console, value: u16) -> bool
     ensures { λ r. ⌜ r ≡ turnsOn field at value ⌝ }
 {
     if at.0 != ON_AT {
@@ -155,7 +162,8 @@ fn turns_on(field: u8, at: Console, value: u16) -> bool
     field != 0
 }
 
-fn turns_off(at: Console, value: u16) -> bool
+// The word that turns them off.
+pub fn turns_off(at: Console, value: u16) -> bool
     ensures { λ r. ⌜ r ≡ turnsOff at value ⌝ }
 {
     if at.0 != OFF_AT {
@@ -188,7 +196,7 @@ pub fn latches(j: Jlp, at: Console, value: u16) -> bool
 }
 
 // The functions as 000's table has them; the last row is DIVUU, function 5.
-fn function_of(n: usize, a: u16, b: u16, old: Results) -> Results
+pub fn function_of(n: usize, a: u16, b: u16, old: Results) -> Results
     ensures { λ r. ⌜ r ≡ functionOf n a b old ⌝ }
 {
     match n {
@@ -217,7 +225,7 @@ fn operate(mut j: Jlp, k: usize, value: u16) -> Jlp
 }
 
 // The CRC after a write.
-fn crc_after(crc: u16, at: Console, value: u16) -> u16
+pub fn crc_after(crc: u16, at: Console, value: u16) -> u16
     ensures { λ r. ⌜ r ≡ crcAfter crc at value ⌝ }
 {
     if at.0 == DATA_AT {
@@ -244,7 +252,7 @@ fn write_on(j: Jlp, at: Console, value: u16) -> Jlp
     if turns_off(at, value) {
         return with_on(j, false);
     }
-    if between(OPERANDS_START, OPERANDS_END, at.0) {
+    if is_operand(at) {
         return operate(j, (at.0 - OPERANDS_START) as usize, value);
     }
     with_crc_and_saves(
