@@ -1,19 +1,29 @@
 -- One law for each return: what the code has tested and called, as the definition that it answers.
 use Prim.Native.Nat.{ℕ}
 use mathlib.Core.List.{List}
-use mathlib.Core.Path.{_≡_, _∙_}
-use mathlib.Core.Bool.{Bool, true, false, _&&_}
+use mathlib.Core.Path.{_≡_, refl, sym, ap, _∙_}
+use mathlib.Core.Bool.{Bool, true, false, not, _&&_}
+use Rattle.basics.specs.Laws.Tests.{and-left, and-right, not-true}
 use Rattle.places.specs.declared.Console.{Console}
 use Rattle.switches.specs.Flips.{Active}
+use Rattle.flash.specs.Flash.{memories, acted}
+use Rattle.flash.specs.Registers.{commandOf}
+use Rattle.jlp.specs.declared.Jlp.{Jlp}
 use Rattle.jlp.specs.Window.{inWindow, inRam}
+use Rattle.jlp.specs.Accelerators.{takes, latches, writtenJlp}
+use Rattle.jlp.specs.Laws.Accelerators.{unlatched}
+use Rattle.registers.specs.Words.{wordsOf, jlpFrom}
 use Rattle.cart.specs.declared.Answer.{Answer}
 use Rattle.cart.specs.declared.Cell.{Cell}
 use Rattle.cart.specs.Cells.{cellAt, windowCell}
-use Rattle.cart.specs.Reads.{silent, heard, fetched}
-use Rattle.cart.specs.Writes.{stored}
+use Rattle.cart.specs.declared.Taker.the-variants.{Accelerators}
+use Rattle.cart.specs.Reads.{silent, heard, fetched, readBy}
+use Rattle.cart.specs.Writes.{takerOf, leaves, leavesRam, leavesFlash, assigned, leavesReadable}
+use Rattle.cart.specs.Laws.Writes.{by-mapping, by-permissions, by-ram, by-flash, by-readable, by-assigned}
 use Rattle.direct.specs.declared.Reach.{Reach}
 use Rattle.direct.specs.declared.Reach.the-variants.{Asked, Nobody, At}
 use Rattle.direct.specs.Direct.{windowReach, readReach, asksMore, writeReach, hears, isDone, keeps}
+use Rattle.direct.specs.Laws.Direct.{Left}
 
 -- in the window
 module _ (at : Console) (b : Bool) (e : b ≡ inRam at) where
@@ -65,3 +75,40 @@ module _ (q r w : Reach) (e : r ≡ q) (f : r ≡ w) (ram : List ℕ) where
   keeps-by v x g = rw (← e, f) g
 
 pub ruleset by-reach = (hears-by, hears-cell, done-by, keeps-by)
+
+-- a read, by the accelerators that the words are
+pub read-is : (w : List ℕ) (a : Active) (at : Console) (ram : List ℕ) (j : Jlp) (x : Answer) (n : ℕ) → j ≡ jlpFrom w → x ≡ readBy j a ram at → n ≡ heard x → n ≡ heard (readBy (jlpFrom w) a ram at)
+read-is w a at ram j x n p e f = f ∙ ap heard (e ∙ ap (λ (y : Jlp). readBy y a ram at) p)
+
+-- a write to a register, and any other
+module _ (j : Jlp) (a : Active) (flips : List ℕ) (at : Console) (v kept : ℕ) (flash ram : List ℕ) (b : Bool) (e : b ≡ latches j at v) where
+  register-takes : b ≡ true → takerOf j a flips at v ≡ Accelerators
+  unfolding latches
+  register-takes t =
+      let h : not (inRam at) && takes j at v ≡ true = sym e ∙ t in
+      rw (and-right (not (inRam at)) (takes j at v) h, not-true (inRam at) (and-left (not (inRam at)) (takes j at v) h))
+
+  pub by-register : (u z f : List ℕ) → b ≡ true
+      → (u ≡ wordsOf (writtenJlp j at v)) × (z ≡ acted (j .saves .sectors) (memories flash ram) (commandOf (j .saves) at v) .ram) × (f ≡ acted (j .saves .sectors) (memories flash ram) (commandOf (j .saves) at v) .flash)
+      → Left j a flips at v kept flash ram 0 kept (a .mapping) (a .permissions) u z f
+  by-register u z f t l =
+      let r : takerOf j a flips at v ≡ Accelerators = register-takes t in (
+        by-assigned j a flips at v _ Accelerators refl r 0 refl,
+        by-readable j a flips at v _ Accelerators refl r kept kept refl,
+        by-mapping j a flips at v _ Accelerators refl r (a .mapping) refl,
+        by-permissions j a flips at v _ Accelerators refl r (a .permissions) refl,
+        l .0,
+        by-ram j a flips at v _ Accelerators refl r flash ram z (l .1),
+        by-flash j a flips at v _ Accelerators refl r flash ram f (l .2),
+      )
+
+  pub by-switch : (n q : ℕ) (x y u z f : List ℕ) → b ≡ false
+      → (n ≡ assigned j a flips at v)
+      × (q ≡ leavesReadable j a flips kept at v)
+      × (x ≡ leaves j a flips at v .mapping)
+      × (y ≡ leaves j a flips at v .permissions)
+      × (u ≡ wordsOf j)
+      × (z ≡ leavesRam j a flips flash ram at v)
+      × (f ≡ leavesFlash j a flips flash ram at v)
+      → Left j a flips at v kept flash ram n q x y u z f
+  by-switch n q x y u z f t l = (l .0, l .1, l .2, l .3, l .4 ∙ ap wordsOf (sym (unlatched j at v (sym e ∙ t))), l .5, l .6)

@@ -1,4 +1,3 @@
 -- Theorems over the definitions.
 pub mod Runs
 pub mod States
-pub mod Told

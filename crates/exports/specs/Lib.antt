@@ -1,4 +1,3 @@
-pub mod Accelerators
 pub mod Loads
 pub mod Lending
 pub mod Builds
@@ -6,5 +5,4 @@ pub mod Runs
 pub mod States
 pub mod Images
 pub mod Desk
-pub mod Code
 pub mod Laws

@@ -5,7 +5,7 @@ use Rattle.header.specs.declared.Compat.{Compat}
 use Rattle.header.specs.Flags.{numberOf}
 use Rattle.load.specs.declared.Loading.{Loading}
 use Rattle.exports.specs.declared.Loaded.{Loaded}
-use Rattle.exports.specs.Accelerators.{wordsOf}
+use Rattle.registers.specs.Words.{wordsOf}
 
 -- the compatibility fields in 01's order; C has numbers only, and 4 is TutorVision's "not stated"
 abbrev pub fieldsOf : Compat → List ℕ

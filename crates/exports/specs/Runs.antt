@@ -13,7 +13,7 @@ use Rattle.cart.specs.Writes.{assigned}
 use Rattle.cart.specs.Cartridges.{assembled, activeOf}
 use Rattle.cart.specs.Run.{Access, Write, World, after}
 use Rattle.exports.specs.declared.Active.{Active}
-use Rattle.exports.specs.Accelerators.{wordsOf}
+use Rattle.registers.specs.Words.{wordsOf}
 
 -- the tables that act, how many paragraphs can be read, and the accelerators
 abbrev pub activeAs : Cartridge → Active

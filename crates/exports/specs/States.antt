@@ -5,7 +5,7 @@ use Rattle.accesses.specs.declared.Ran.{Ran}
 use Rattle.exports.specs.declared.state.State.{State}
 use Rattle.exports.specs.declared.state.WrittenState.{WrittenState}
 use Rattle.exports.specs.declared.state.RanList.{RanList}
-use Rattle.exports.specs.Accelerators.{wordsOf, jlpFrom}
+use Rattle.registers.specs.Words.{wordsOf, jlpFrom}
 
 abbrev pub stateOf : Cartridge → State
 stateOf c =

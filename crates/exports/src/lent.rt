@@ -6,14 +6,14 @@ ghost use Rattle.jlp.specs.Accelerators.{resetJlp};
 ghost use Rattle.cart.specs.Readable.{readableOf};
 ghost use Rattle.cart.specs.Reads.{heard, readBy};
 ghost use Rattle.cart.specs.Cartridges.{writeOf, writtenOf, writeRamOf, writeFlashOf};
-ghost use Rattle.exports.specs.Accelerators.{jlpFrom, wordsOf};
+ghost use Rattle.registers.specs.Words.{jlpFrom, wordsOf};
 ghost use Rattle.exports.specs.Runs.{carried};
-use crate::ACCELERATOR_WORDS;
-use crate::jlp_from;
-use crate::words_of;
 use places::Console;
 use places::FLIP_ENTRIES;
 use places::PARAGRAPHS;
+use registers::ACCELERATOR_WORDS;
+use registers::jlp_from;
+use registers::words_of;
 
 // The word at an address, or silence.
 #[no_mangle]
@@ -26,8 +26,13 @@ pub extern "C" fn luigi_read<'a>(
 ) -> u32
     ensures { λ r. ⌜ r ≡ heard (readBy (jlpFrom (now (accelerators .entry))) (active (now (mapping .entry)) (now (permissions .entry))) (now (ram .entry)) (console at)) ⌝ }
 {
-    let j = jlp_from(accelerators);
-    cart::heard(cart::read_by(mapping, permissions, j, ram, Console(at)))
+    let a = Console(at);
+    let on = registers::is_on(accelerators);
+    let n = direct::hear(mapping, permissions, on, ram, a);
+    if n != direct::ASKED {
+        return n;
+    }
+    direct::read(mapping, permissions, accelerators, ram, a)
 }
 
 // A write; it answers how many mapping entries it has assigned.
@@ -51,21 +56,23 @@ pub extern "C" fn luigi_write(
         × (now (ram .exit) ≡ writeRamOf (carried (now (mapping .entry)) (now (permissions .entry)) (now (flips .entry)) (now (readable .entry)) (jlpFrom (now (accelerators .entry)))) (now (flash .entry)) (now (ram .entry)) (console at) value)
         × (now (flash .exit) ≡ writeFlashOf (carried (now (mapping .entry)) (now (permissions .entry)) (now (flips .entry)) (now (readable .entry)) (jlpFrom (now (accelerators .entry)))) (now (flash .entry)) (now (ram .entry)) (console at) value) ⌝ }
 {
-    let j = jlp_from(accelerators);
+    registers::tidy(accelerators);
     let a = Console(at);
-    let assigned = cart::write_by(
+    let on = registers::is_on(accelerators);
+    if direct::store(mapping, permissions, on, ram, a, value) {
+        return 0;
+    }
+    direct::write(
         mapping,
         permissions,
         flips,
         readable,
-        j,
+        accelerators,
         ram,
         flash,
         a,
         value,
-    );
-    *accelerators = words_of(jlp::write(j, a, value));
-    assigned
+    )
 }
 
 // A reset to initial tables that are lent. It asks no flip entry, and leaves RAM and flash.

@@ -14,23 +14,20 @@ ghost use Rattle.sums.specs.Crc.{dowcrcOf, crc324Of, crc32Of};
 ghost use Rattle.cart.specs.Cartridges.{fresh};
 ghost use Rattle.load.specs.Load.{loadingOf, loadRamOf};
 ghost use Rattle.build.specs.Building.{buildingOf, builtOf};
-ghost use Rattle.switches.specs.Flips.{active};
-ghost use Rattle.cart.specs.Writes.{leaves, leavesRam, leavesFlash, leavesReadable};
-ghost use Rattle.exports.specs.Code.Told.{told, entriesOf};
-ghost use Rattle.exports.specs.Accelerators.{oneIf, wordsOf, jlpFrom};
+ghost use Rattle.registers.specs.Words.{jlpFrom};
 ghost use Rattle.exports.specs.Loads.{fieldsOf, loadedOf};
 ghost use Rattle.exports.specs.Builds.{builtAs};
 ghost use Rattle.exports.specs.Runs.{activeAs, answersIn, carried, numbered, numberedWrites, activeAfter, ramAfter, flashAfter};
 use build::Building;
 use cart::Cartridge;
-use flash::Saves;
 use header::Compat;
-use jlp::Jlp;
-use jlp::Results;
 use load::Loading;
 use places::Console;
 use places::FLIP_ENTRIES;
 use places::PARAGRAPHS;
+use registers::ACCELERATOR_WORDS;
+use registers::jlp_from;
+use registers::words_of;
 
 // The three checksums.
 #[no_mangle]
@@ -52,88 +49,6 @@ pub extern "C" fn luigi_crc32(s: &[u8]) -> u32
     ensures { λ r. ⌜ r ≡ crc32Of (now (s .entry)) ⌝ }
 {
     sums::crc32(s)
-}
-
-// As many words hold the accelerators where C lends them: the JLP field, 1 for on, the operands, the two results, the CRC; the flash's sectors,
-// address and row.
-pub const ACCELERATOR_WORDS: usize = 20;
-
-fn one_if(b: bool) -> u16
-    ensures { λ r. ⌜ r ≡ oneIf b ⌝ }
-{
-    if b {
-        return 1;
-    }
-    0
-}
-
-fn words_of(j: Jlp) -> [u16; ACCELERATOR_WORDS]
-    ensures { λ r. ⌜ r ≡ wordsOf j ⌝ }
-{
-    let o = j.operands;
-    let results = j.results;
-    let saves = j.saves;
-    let field = j.field as u16;
-    let on = one_if(j.on);
-    [
-        field,
-        on,
-        o[0],
-        o[1],
-        o[2],
-        o[3],
-        o[4],
-        o[5],
-        o[6],
-        o[7],
-        o[8],
-        o[9],
-        o[10],
-        o[11],
-        results.first,
-        results.second,
-        j.crc,
-        saves.sectors,
-        saves.addr,
-        saves.row,
-    ]
-}
-
-// Any words are some accelerators, on for every word but 0.
-fn jlp_from(w: &[u16; ACCELERATOR_WORDS]) -> Jlp
-    ensures { λ r. ⌜ r ≡ jlpFrom (now (w .entry)) ⌝ }
-{
-    let operands = [
-        w[2],
-        w[3],
-        w[4],
-        w[5],
-        w[6],
-        w[7],
-        w[8],
-        w[9],
-        w[10],
-        w[11],
-        w[12],
-        w[13],
-    ];
-    let results = Results {
-        first: w[14],
-        second: w[15],
-    };
-    let saves = Saves {
-        sectors: w[17],
-        addr: w[18],
-        row: w[19],
-    };
-    Jlp {
-        field: (w[0] % 256) as u8,
-        on: w[1] != 0,
-        operands,
-        results,
-        crc: w[16],
-        saves,
-    }
 }
 
 // What a load answers, laid out as C's; the compatibility fields in 01's order, the last of them 4 where nothing is stated.
@@ -278,12 +193,12 @@ pub extern "C" fn luigi_reads<'a>(
 )
     ensures { λ _. ⌜ now (out .exit) ≡ answersIn (jlpFrom (now (accelerators .entry))) (now (mapping .entry)) (now (permissions .entry)) (now (ram .entry)) (now (at .entry)) (now (out .entry)) ⌝ }
 {
-    let j = jlp_from(accelerators);
+    let on = registers::is_on(accelerators);
     for i in 0..basics::least(at.len(), out.len()) {
         let a = Console(at[i]);
-        let mut n = direct::read(mapping, permissions, j.on, ram, a);
+        let mut n = direct::hear(mapping, permissions, on, ram, a);
         if n == direct::ASKED {
-            n = cart::heard(cart::read_by(mapping, permissions, j, ram, a));
+            n = direct::read(mapping, permissions, accelerators, ram, a);
         }
         out[i] = n;
     }
@@ -314,58 +229,6 @@ fn least_of(a: usize, b: usize, c: usize) -> usize
     basics::least(basics::least(a, b), c)
 }
 
-// That a write went to a register of the accelerators, where it answers how many mapping entries it assigned: above all such numbers.
-const LATCHED: u8 = 255;
-
-// One write of a run, by the short way where there is one. What it leaves of the accelerators is told apart, so that a store copies nothing of them.
-fn write_one<'a>(
-    mapping: &'a mut [u16; PARAGRAPHS],
-    permissions: &'a mut [u8; PARAGRAPHS],
-    flips: &'a [u16; FLIP_ENTRIES],
-    readable: &'a mut u16,
-    j: Jlp,
-    ram: &mut [u16],
-    flash: &mut [u16],
-    at: Console,
-    value: u16,
-) -> u8
-    ensures { λ r. ⌜ (r ≡ told j (active (now (mapping .entry)) (now (permissions .entry))) (now (flips .entry)) at value)
-        × (now (readable .exit) ≡ leavesReadable j (active (now (mapping .entry)) (now (permissions .entry))) (now (flips .entry)) (now (readable .entry)) at value)
-        × (now (mapping .exit) ≡ leaves j (active (now (mapping .entry)) (now (permissions .entry))) (now (flips .entry)) at value .mapping)
-        × (now (permissions .exit) ≡ leaves j (active (now (mapping .entry)) (now (permissions .entry))) (now (flips .entry)) at value .permissions)
-        × (now (ram .exit) ≡ leavesRam j (active (now (mapping .entry)) (now (permissions .entry))) (now (flips .entry)) (now (flash .entry)) (now (ram .entry)) at value)
-        × (now (flash .exit) ≡ leavesFlash j (active (now (mapping .entry)) (now (permissions .entry))) (now (flips .entry)) (now (flash .entry)) (now (ram .entry)) at value) ⌝ }
-{
-    if direct::store(mapping, permissions, j.on, ram, at, value) {
-        return 0;
-    }
-    let n = cart::write_by(
-        mapping,
-        permissions,
-        flips,
-        readable,
-        j,
-        ram,
-        flash,
-        at,
-        value,
-    );
-    if jlp::latches(j, at, value) {
-        return LATCHED;
-    }
-    n
-}
-
-// How many mapping entries a write assigned, by what it told.
-fn entries_of(n: u8) -> u8
-    ensures { λ r. ⌜ r ≡ entriesOf n ⌝ }
-{
-    if n == LATCHED {
-        return 0;
-    }
-    n
-}
-
 // Writes of the words of `value` to the addresses of `at`, one after the other, by these tables, the number of paragraphs that can be read and the
 // accelerators; how many mapping entries each has assigned goes to the first bytes of `assigned`.
 #[no_mangle]
@@ -389,17 +252,27 @@ pub extern "C" fn luigi_writes(
         × (now (flash .exit) ≡ flashAfter (carried (now (mapping .entry)) (now (permissions .entry)) (now (flips .entry)) (now (readable .entry)) (jlpFrom (now (accelerators .entry)))) (now (ram .entry)) (now (flash .entry)) (now (at .entry)) (now (value .entry)) (numberedWrites (now (at .entry)) (now (value .entry)) (now (assigned .entry))))
         × (now (assigned .exit) ≡ numbered (carried (now (mapping .entry)) (now (permissions .entry)) (now (flips .entry)) (now (readable .entry)) (jlpFrom (now (accelerators .entry)))) (now (ram .entry)) (now (flash .entry)) (now (at .entry)) (now (value .entry)) (numberedWrites (now (at .entry)) (now (value .entry)) (now (assigned .entry))) (now (assigned .entry))) ⌝ }
 {
-    let mut j = jlp_from(accelerators);
+    registers::tidy(accelerators);
     for i in 0..least_of(at.len(), value.len(), assigned.len()) {
         let a = Console(at[i]);
         let v = value[i];
-        let n = write_one(mapping, permissions, flips, readable, j, ram, flash, a, v);
-        assigned[i] = entries_of(n);
-        if n == LATCHED {
-            j = jlp::write(j, a, v);
+        let on = registers::is_on(accelerators);
+        if direct::store(mapping, permissions, on, ram, a, v) {
+            assigned[i] = 0;
+            continue;
         }
+        assigned[i] = direct::write(
+            mapping,
+            permissions,
+            flips,
+            readable,
+            accelerators,
+            ram,
+            flash,
+            a,
+            v,
+        );
     }
-    *accelerators = words_of(j);
 }
 
 // The same without the numbers, with the cartridge by value at each write.

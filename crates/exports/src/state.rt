@@ -4,19 +4,19 @@ ghost use lib.ListN.{length};
 ghost use Rattle.places.specs.Places.{console};
 ghost use Rattle.cart.specs.Cartridges.{fresh, readOf, writtenOf, writeRamOf, writeFlashOf, resetOf};
 ghost use Rattle.accesses.specs.Runs.{world, ranOf, left, answersIn};
-ghost use Rattle.exports.specs.Accelerators.{jlpFrom};
+ghost use Rattle.registers.specs.Words.{jlpFrom};
 ghost use Rattle.cart.specs.Reads.{heard};
 ghost use Rattle.exports.specs.States.{stateOf, cartridgeFrom, writtenAs, ranAs};
-use crate::ACCELERATOR_WORDS;
 use crate::fresh;
-use crate::jlp_from;
-use crate::words_of;
 use accesses::Ran;
 use cart::Cartridge;
 use cart::Written;
 use places::Console;
 use places::FLIP_ENTRIES;
 use places::PARAGRAPHS;
+use registers::ACCELERATOR_WORDS;
+use registers::jlp_from;
+use registers::words_of;
 
 // The tables as loaded, the tables as they act now, the flip table, how many paragraphs can be read now, and the accelerators' words.
 #[repr(C)]

@@ -1,7 +1,7 @@
 -- The short ways are the cartridge's own: what they hear and leave is what its reads and writes do, whatever else is lent.
 use Prim.Native.Nat.{ℕ, _/_, _%_}
 use mathlib.Core.List.{List}
-use mathlib.Core.Path.{_≡_, refl, sym, _∙_}
+use mathlib.Core.Path.{_≡_, refl, sym, ap, subst, _∙_}
 use mathlib.Core.Bool.{Bool, true, false, not, _&&_, _||_}
 use native.Mathlib.Omega.{arith}
 use lib.Dec.{eqb}
@@ -14,8 +14,10 @@ use Rattle.switches.specs.Flips.{Active, asks}
 use Rattle.switches.specs.Banks.{registerAt}
 use Rattle.jlp.specs.declared.Jlp.{Jlp}
 use Rattle.jlp.specs.Window.{inWindow, inRam, onAt}
-use Rattle.jlp.specs.Accelerators.{turnsOn, takes, latches}
-use Rattle.jlp.specs.Laws.Accelerators.{turns-on-exactly, on-takes}
+use Rattle.jlp.specs.Accelerators.{turnsOn, takes, latches, writtenJlp}
+use Rattle.jlp.specs.Laws.Accelerators.{turns-on-exactly, on-takes, unlatched}
+use Rattle.registers.specs.Words.{wordsOf, jlpFrom}
+use Rattle.registers.specs.Code.Tidy.{Tidy}
 use Rattle.cart.specs.declared.Cell.{Cell}
 use Rattle.cart.specs.declared.Taker.the-variants.{Ram}
 use Rattle.cart.specs.Cells.{cellAt, windowCell}
@@ -110,3 +112,35 @@ not-done on a at v ram x b e d k =
     cases (on && inWindow at)
     (λ w. cases (inRam at) (λ r. true-is-not-false (e ∙ rw (w, r)) d) (λ r. k ∙ rw (w, r)))
     (λ w. cases (asksMore at) (λ m. k ∙ rw (w, m)) (λ m. true-is-not-false (e ∙ rw (w, m)) d))
+
+-- what a write leaves, and answers: by these accelerators, tables, number, flash and RAM, it answers n, and q, x, y, u, z and f are the number, the tables,
+-- the accelerators' words, the RAM and the flash behind it
+abbrev pub Left : Jlp → Active → List ℕ → Console → ℕ → ℕ → List ℕ → List ℕ → ℕ → ℕ → List ℕ → List ℕ → List ℕ → List ℕ → List ℕ → Type 0
+Left j a flips at v kept flash ram n q x y u z f =
+    (n ≡ assigned j a flips at v)
+    × (q ≡ leavesReadable j a flips kept at v)
+    × (x ≡ leaves j a flips at v .mapping)
+    × (y ≡ leaves j a flips at v .permissions)
+    × (u ≡ wordsOf (writtenJlp j at v))
+    × (z ≡ leavesRam j a flips flash ram at v)
+    × (f ≡ leavesFlash j a flips flash ram at v)
+
+-- by what the short way has done, with tidy words
+module _ (w : List ℕ) (a : Active) (flips : List ℕ) (at : Console) (v kept : ℕ) (flash ram k : List ℕ) (o b : Bool) (p : o ≡ jlpFrom w .on)
+    (e : b ≡ isDone (writeReach o a at)) (s : k ≡ keeps (writeReach o a at) ram v) where
+  done : b ≡ isDone (writeReach (jlpFrom w .on) a at)
+  done = e ∙ ap (λ (x : Bool). isDone (writeReach x a at)) p
+
+  kept-by : k ≡ keeps (writeReach (jlpFrom w .on) a at) ram v
+  kept-by = s ∙ ap (λ (x : Bool). keeps (writeReach x a at) ram v) p
+
+  pub stored-left : Tidy w → b ≡ true → Left (jlpFrom w) a flips at v kept flash ram 0 kept (a .mapping) (a .permissions) w k flash
+  stored-left h t =
+      let d = write-direct (jlpFrom w) a flips at v flash ram k kept b done t kept-by in
+      let j : w ≡ wordsOf (writtenJlp (jlpFrom w) at v) = h ∙ ap wordsOf (sym (unlatched (jlpFrom w) at v (not-latched (jlpFrom w) a at v b done t))) in
+      (d .0, d .1, d .2, d .3, j, d .4, d .5)
+
+  -- and where it has done nothing, by the write from the RAM that it has left
+  pub asked-left : (n q : ℕ) (x y u z f : List ℕ) → b ≡ false → Left (jlpFrom w) a flips at v kept flash k n q x y u z f → Left (jlpFrom w) a flips at v kept flash ram n q x y u z f
+  asked-left n q x y u z f t =
+      subst (λ (m : List ℕ). Left (jlpFrom w) a flips at v kept flash m n q x y u z f) (not-done (jlpFrom w .on) a at v ram k b done t kept-by)

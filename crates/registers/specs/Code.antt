@@ -1,2 +1,2 @@
 -- What private functions promise.
-pub mod Told
+pub mod Tidy

@@ -1,4 +1,4 @@
--- The accelerators as C lends them, 20 words: the JLP field, 1 for on, the operands, the two results, the CRC (02, W-206), and the flash's sectors,
+-- The accelerators in 20 words, as C lends them: the JLP field, 1 for on, the operands, the two results, the CRC (02, W-206), and the flash's sectors,
 -- address and row (02, W-209).
 use Prim.Native.Nat.{ℕ, _+_, _%_}
 use mathlib.Core.Bool.{Bool, cond, not}
@@ -9,6 +9,10 @@ use Rattle.basics.specs.Tables.{table}
 use Rattle.jlp.specs.declared.Jlp.{Jlp}
 use Rattle.jlp.specs.Arith.{results}
 use Rattle.jlp.specs.Accelerators.{operandCount}
+
+-- as many words
+abbrev pub acceleratorWords : ℕ
+acceleratorWords = 20
 
 abbrev pub oneIf : Bool → ℕ
 oneIf b = cond b 1 0

@@ -1,16 +1,14 @@
--- `exports::jlp_from` meets its contract: word by word.
-use mathlib.Core.Path.{refl}
+-- `registers::operate` meets its contract: the operand is stored, its function's two are handed over, and the results are laid down.
 use borrow.Author.Needs.{needs}
-use Rattle.basics.specs.Tables.{made}
-use Rattle.exports.proofs.jlp_from.Statement.{statement}
-use Rattle.exports.proofs.jlp_from.Tie as tie
+use Rattle.registers.proofs.Laws.{operate-is}
+use Rattle.registers.proofs.operate.Statement.{statement}
+use Rattle.registers.proofs.operate.Tie as tie
 
 returns : tie.Need-returns
-unfolding made
-returns c = refl
+returns c = search (needs, operate-is)
 
-pub jlp-from-spec : {M : Type 1} → statement M
-jlp-from-spec =
+pub operate-spec : {M : Type 1} → statement M
+operate-spec =
     tie.close
     (tie.spec
     (λ c. search needs)
@@ -27,11 +25,7 @@ jlp-from-spec =
     (λ c. search needs)
     (λ c. search needs)
     (λ c. search needs)
-    (λ c. search needs)
-    (λ c. search needs)
-    (λ c. search needs)
-    (λ c. search needs)
-    (λ c. search needs)
+    (λ c κs. search needs)
     (λ c. search needs)
     (λ c. search needs)
     returns)

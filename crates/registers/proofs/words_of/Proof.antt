@@ -1,8 +1,8 @@
--- `exports::words_of` meets its contract: word by word.
+-- `registers::words_of` meets its contract: word by word.
 use borrow.Author.Needs.{needs}
 use Rattle.basics.specs.Tables.{made}
-use Rattle.exports.proofs.words_of.Statement.{statement}
-use Rattle.exports.proofs.words_of.Tie as tie
+use Rattle.registers.proofs.words_of.Statement.{statement}
+use Rattle.registers.proofs.words_of.Tie as tie
 
 returns : tie.Need-returns
 unfolding made

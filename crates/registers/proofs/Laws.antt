@@ -1,0 +1,106 @@
+-- One law for each return: what the code has tested and called, as the words that it leaves.
+use Prim.Native.Nat.{ℕ, _-_, _+_, _*_, _/_, _<_, _≤_}
+use mathlib.Core.Bool.{Bool, true, false, not, _&&_, _||_}
+use mathlib.Core.List.{List}
+use mathlib.Core.Path.{_≡_, sym, ap, _∙_}
+use native.Mathlib.Omega.{arith}
+use lib.ListN.{getD, set}
+use Rattle.basics.specs.Laws.Tests.{not-true, not-false}
+use Rattle.places.specs.declared.Console.{Console}
+use Rattle.flash.specs.declared.Saves.{Saves}
+use Rattle.flash.specs.Registers.{remembered}
+use Rattle.jlp.specs.declared.Jlp.{Jlp}
+use Rattle.jlp.specs.declared.Results.{Results}
+use Rattle.jlp.specs.Arith.{results}
+use Rattle.jlp.specs.Window.{inWindow, inRam, isOperand, operandsStart, operandsEnd}
+use Rattle.jlp.specs.Laws.Window.{between-low, between-high}
+use Rattle.jlp.specs.Accelerators.{operandCount, withOn, turnsOn, turnsOff, takes, latches, functionOf, operated, crcAfter, withCrcAndSaves, writtenOn, writtenJlp}
+use Rattle.registers.specs.Words.{wordsOf, jlpFrom}
+use Rattle.registers.specs.Code.Tidy.{Tidy}
+use Rattle.registers.specs.Laws.Words.{turned, noted, operand-at, laid-out, from-tidied, tidy-now}
+
+pub takes-is : (w : List ℕ) (at : Console) (v f : ℕ) (t o i b r : Bool) → f ≡ jlpFrom w .field → t ≡ turnsOn f at v → o ≡ jlpFrom w .on → i ≡ inWindow at
+    → b ≡ o && i → r ≡ t || b → r ≡ takes (jlpFrom w) at v
+unfolding takes
+takes-is w at v f t o i b r e g h k l m = m ∙ rw (l, k, h, g, e)
+
+pub latches-ram : (w : List ℕ) (at : Console) (v : ℕ) (b : Bool) → b ≡ inRam at → b ≡ true → false ≡ latches (jlpFrom w) at v
+unfolding latches
+latches-ram w at v b e t = rw (← e, t)
+
+pub latches-taken : (w : List ℕ) (at : Console) (v : ℕ) (b r : Bool) → b ≡ inRam at → b ≡ false → r ≡ takes (jlpFrom w) at v → r ≡ latches (jlpFrom w) at v
+unfolding latches
+latches-taken w at v b r e f g = rw (← e, f) g
+
+-- an operand's number
+pub operand-from : (at : Console) (b : Bool) → b ≡ isOperand at → b ≡ true → operandsStart ≤ at .0
+operand-from at b e t = between-low _ _ _ (sym e ∙ t)
+
+pub operand-below : (at : Console) (b : Bool) → b ≡ isOperand at → b ≡ true → at .0 - operandsStart < operandCount
+operand-below at b e t = omega (arith, between-high _ _ _ (sym e ∙ t))
+
+module _ (w : List ℕ) (t : Tidy w) where
+  -- an operand that is stored, with its function's results
+  pub operate-is : (k v : ℕ) (r : Results) → k < operandCount
+      → r ≡ functionOf (k / 2) (getD (set w (2 + k) v) (2 + 2 * (k / 2)) 0) (getD (set w (2 + k) v) (2 + (2 * (k / 2) + 1)) 0) (results (getD w 14 0) (getD w 15 0))
+      → set (set (set w (2 + k) v) 14 (r .first)) 15 (r .second) ≡ wordsOf (operated (jlpFrom w) k v)
+  operate-is k v r h e =
+      laid-out w t k v h r
+      ∙ ap (λ (x : Results). wordsOf (record { field = jlpFrom w .field; on = jlpFrom w .on; operands = set (jlpFrom w .operands) k v; results = x; crc = jlpFrom w .crc; saves = jlpFrom w .saves }))
+      (e
+      ∙ ap (λ (a : ℕ). functionOf (k / 2) a (getD (set w (2 + k) v) (2 + (2 * (k / 2) + 1)) 0) (results (getD w 14 0) (getD w 15 0))) (operand-at w t k v h (2 * (k / 2)) (omega arith))
+      ∙ ap (λ (b : ℕ). functionOf (k / 2) (getD (set (jlpFrom w .operands) k v) (2 * (k / 2)) 0) b (results (getD w 14 0) (getD w 15 0))) (operand-at w t k v h (2 * (k / 2) + 1) (omega arith)))
+
+  module _ (at : Console) (v : ℕ) where
+    pub remember-is : (c : ℕ) (s₀ s : Saves) → s₀ ≡ jlpFrom w .saves → s ≡ remembered s₀ at v → c ≡ crcAfter (getD w 16 0) at v
+        → set (set (set (set w 16 c) 17 (s .sectors)) 18 (s .addr)) 19 (s .row) ≡ wordsOf (withCrcAndSaves (jlpFrom w) (crcAfter (jlpFrom w .crc) at v) (remembered (jlpFrom w .saves) at v))
+    remember-is c s₀ s e f g =
+        noted w t c s
+        ∙ ap (λ (x : ℕ). wordsOf (withCrcAndSaves (jlpFrom w) x s)) g
+        ∙ ap (λ (x : Saves). wordsOf (withCrcAndSaves (jlpFrom w) (crcAfter (jlpFrom w .crc) at v) x)) (f ∙ ap (λ (x : Saves). remembered x at v) e)
+
+    -- while on: the word that turns off, an operand, and any other write
+    pub on-off : (b : Bool) → b ≡ turnsOff at v → b ≡ true → set w 1 0 ≡ wordsOf (writtenOn (jlpFrom w) at v)
+    unfolding writtenOn
+    on-off b e h = rw (← e, h) (turned w t false)
+
+    pub on-operand : (b c : Bool) (x : List ℕ) → b ≡ turnsOff at v → b ≡ false → c ≡ isOperand at → c ≡ true
+        → x ≡ wordsOf (operated (jlpFrom w) (at .0 - operandsStart) v) → x ≡ wordsOf (writtenOn (jlpFrom w) at v)
+    unfolding writtenOn
+    on-operand b c x e h g k f = rw (← e, h, ← g, k) f
+
+    pub on-other : (b c : Bool) (x : List ℕ) → b ≡ turnsOff at v → b ≡ false → c ≡ isOperand at → c ≡ false
+        → x ≡ wordsOf (withCrcAndSaves (jlpFrom w) (crcAfter (jlpFrom w .crc) at v) (remembered (jlpFrom w .saves) at v)) → x ≡ wordsOf (writtenOn (jlpFrom w) at v)
+    unfolding writtenOn
+    on-other b c x e h g k f = rw (← e, h, ← g, k) f
+
+-- the word that turns on, and any other write while off and while on
+module _ (j : Jlp) (at : Console) (v : ℕ) where
+  by-turning : turnsOn (j .field) at v ≡ true → writtenJlp j at v ≡ withOn j true
+  unfolding writtenJlp
+  by-turning e = rw e
+
+  by-off : turnsOn (j .field) at v ≡ false → j .on ≡ false → writtenJlp j at v ≡ j
+  unfolding writtenJlp
+  by-off e o = rw (e, o)
+
+  by-on : turnsOn (j .field) at v ≡ false → j .on ≡ true → writtenJlp j at v ≡ writtenOn j at v
+  unfolding writtenJlp
+  by-on e o = rw (e, o)
+
+module _ (w₀ w : List ℕ) (e : w ≡ wordsOf (jlpFrom w₀)) (at : Console) (v f : ℕ) (b : Bool) (g : f ≡ jlpFrom w .field) (h : b ≡ turnsOn f at v) where
+  turns : b ≡ turnsOn (jlpFrom w .field) at v
+  turns = h ∙ ap (λ (x : ℕ). turnsOn x at v) g
+
+  tidied-too : (x : List ℕ) → x ≡ wordsOf (writtenJlp (jlpFrom w) at v) → x ≡ wordsOf (writtenJlp (jlpFrom w₀) at v)
+  tidied-too x p = p ∙ ap (λ (j : Jlp). wordsOf (writtenJlp j at v)) (from-tidied w₀ w e)
+
+  pub write-turns : b ≡ true → set w 1 1 ≡ wordsOf (writtenJlp (jlpFrom w₀) at v)
+  write-turns t = tidied-too _ (turned w (tidy-now w₀ w e) true ∙ ap wordsOf (sym (by-turning (jlpFrom w) at v (sym turns ∙ t))))
+
+  module _ (o : Bool) (k : o ≡ jlpFrom w .on) (t : b ≡ false) where
+    pub write-off : not o ≡ true → w ≡ wordsOf (writtenJlp (jlpFrom w₀) at v)
+    write-off n = tidied-too _ (tidy-now w₀ w e ∙ ap wordsOf (sym (by-off (jlpFrom w) at v (sym turns ∙ t) (sym k ∙ not-true o n))))
+
+    pub write-on : (x : List ℕ) → not o ≡ false → x ≡ wordsOf (writtenOn (jlpFrom w) at v) → x ≡ wordsOf (writtenJlp (jlpFrom w₀) at v)
+    write-on x n p = tidied-too x (p ∙ ap wordsOf (sym (by-on (jlpFrom w) at v (sym turns ∙ t) (sym k ∙ not-false o n))))
