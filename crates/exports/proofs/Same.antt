@@ -11,7 +11,7 @@ use Rattle.exports.proofs.luigi_reads.Reads as luigi-reads
 use Rattle.exports.proofs.luigi_reads_by_value.Reads as luigi-reads-by-value
 use Rattle.exports.proofs.luigi_writes.Reads as luigi-writes
 use Rattle.exports.proofs.luigi_writes_by_value.Reads as luigi-writes-by-value
-use Rattle.exports.proofs.lending.luigi_flash_words.Reads as luigi-flash-words
+use Rattle.exports.proofs.luigi_flash_words.Reads as luigi-flash-words
 use Rattle.exports.proofs.writer.luigi_write_image.Reads as luigi-write-image
 use Rattle.exports.proofs.lent.luigi_read.Reads as luigi-read
 use Rattle.exports.proofs.lent.luigi_write.Reads as luigi-write

@@ -1,5 +1,4 @@
 pub mod Loads
-pub mod Lending
 pub mod Builds
 pub mod Runs
 pub mod States

@@ -1,7 +1,6 @@
 // The proved crates as a C program calls them: a slice is a pointer and a length, a struct is laid out as C's. Here the sums, load and build, and runs of reads
 // and writes; in the rooms one access at a time, all of a cartridge in one struct, the writer, and what else the desk does. include/luigi.h declares them all.
 mod desk;
-mod lending;
 mod lent;
 mod state;
 mod writer;
@@ -12,6 +11,7 @@ ghost use lib.ListN.{length};
 ghost use Rattle.places.specs.Limits.{lent};
 ghost use Rattle.sums.specs.Crc.{dowcrcOf, crc324Of, crc32Of};
 ghost use Rattle.cart.specs.Cartridges.{fresh};
+ghost use Rattle.lending.specs.Lending.{askedFlash};
 ghost use Rattle.load.specs.Load.{loadingOf, loadRamOf};
 ghost use Rattle.build.specs.Building.{buildingOf, builtOf};
 ghost use Rattle.registers.specs.Words.{jlpFrom};
@@ -101,6 +101,14 @@ fn answered(l: Loading) -> Loaded
         readable: cartridge.readable,
         accelerators,
     }
+}
+
+// The words of flash that a load is to be lent: a host asks before it loads. None where the image has no JLP flash, or is too short to ask.
+#[no_mangle]
+pub extern "C" fn luigi_flash_words(image: &[u8]) -> usize
+    ensures { λ r. ⌜ r ≡ askedFlash (now (image .entry)) ⌝ }
+{
+    lending::asked_flash(image)
 }
 
 // The load of an image into a lent RAM, with a lent flash.

@@ -22,9 +22,9 @@ pub fn erased_flash() -> [u16; FLASH_LIMIT]
     [flash::ERASED_WORD; FLASH_LIMIT]
 }
 
-// The words of flash that an image asks for, of so many at most.
-pub fn flash_words(image: &[u8], most: usize) -> usize
-    ensures { λ r. ⌜ r ≡ min (askedFlash (now (image .entry))) most ⌝ }
+// The words of flash that an image asks for: none where it has no JLP flash, or is too short to ask.
+pub fn asked_flash(image: &[u8]) -> usize
+    ensures { λ r. ⌜ r ≡ askedFlash (now (image .entry)) ⌝ }
 {
     if image.len() < header::UID_AT {
         return 0;
@@ -33,5 +33,12 @@ pub fn flash_words(image: &[u8], most: usize) -> usize
     let to = header::UID_AT;
     let j = tables::jlp_of(&image[from..to]);
     let saves = j.saves;
-    basics::least(saves.sectors as usize * flash::SECTOR_WORDS, most)
+    saves.sectors as usize * flash::SECTOR_WORDS
+}
+
+// Of so many at most.
+pub fn flash_words(image: &[u8], most: usize) -> usize
+    ensures { λ r. ⌜ r ≡ min (askedFlash (now (image .entry))) most ⌝ }
+{
+    basics::least(asked_flash(image), most)
 }
