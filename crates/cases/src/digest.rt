@@ -7,6 +7,7 @@ use crate::record::front;
 use crate::record::get16;
 use crate::record::rest;
 use basics::both;
+use sums::TABLE_ENTRIES;
 
 pub const ONES: u32 = 0xFFFF_FFFF;
 
@@ -19,12 +20,12 @@ fn wide32(x: u32) -> usize {
     x as usize
 }
 
-pub fn digest(ieee: &[u32; 2048], s: &[u8]) -> usize {
+pub fn digest(ieee: &[u32; TABLE_ENTRIES], s: &[u8]) -> usize {
     ended(sums::sum_by(ieee, ONES, s))
 }
 
 // A count, and so many bytes that are these; with them the record ends.
-pub fn text_ends(rec: &[u8], at: usize, ieee: &[u32; 2048], text: &[u8]) -> bool {
+pub fn text_ends(rec: &[u8], at: usize, ieee: &[u32; TABLE_ENTRIES], text: &[u8]) -> bool {
     let from = after(at, 2);
     let n = text.len();
     let same = digest(ieee, text) == digest(ieee, rest(rec, from));
@@ -43,18 +44,18 @@ fn pack(words: &[u16], out: &mut [u8]) -> usize {
     2 * i
 }
 
-fn sum_words(ieee: &[u32; 2048], c: u32, words: &[u16], scratch: &mut [u8]) -> u32 {
+fn sum_words(ieee: &[u32; TABLE_ENTRIES], c: u32, words: &[u16], scratch: &mut [u8]) -> u32 {
     let n = pack(words, scratch);
     sums::sum_by(ieee, c, front(scratch, n))
 }
 
-pub fn digest_words(ieee: &[u32; 2048], words: &[u16], scratch: &mut [u8]) -> usize {
+pub fn digest_words(ieee: &[u32; TABLE_ENTRIES], words: &[u16], scratch: &mut [u8]) -> usize {
     ended(sum_words(ieee, ONES, words, scratch))
 }
 
 // The tables, as a tables block has them.
 pub fn digest_tables<'a>(
-    ieee: &[u32; 2048],
+    ieee: &[u32; TABLE_ENTRIES],
     mapping: &'a [u16; 256],
     permissions: &'a [u8; 256],
     flips: &'a [u16; 256],

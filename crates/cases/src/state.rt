@@ -12,6 +12,7 @@ use basics::both;
 use basics::least;
 use cart::Cartridge;
 use load::Loading;
+use sums::TABLE_ENTRIES;
 
 // A load from the first bytes of an image into the first words of a RAM, with the first k words of a flash.
 pub fn load_in(
@@ -27,14 +28,19 @@ pub fn load_in(
 }
 
 // The active tables.
-pub fn same_active(want: usize, ieee: &[u32; 2048], c: Cartridge, scratch: &mut [u8]) -> bool {
+pub fn same_active(
+    want: usize,
+    ieee: &[u32; TABLE_ENTRIES],
+    c: Cartridge,
+    scratch: &mut [u8],
+) -> bool {
     digest_tables(ieee, &c.mapping, &c.permissions, &c.flips, scratch) == want
 }
 
 // The first n words of a RAM or a flash.
 pub fn same_words(
     want: usize,
-    ieee: &[u32; 2048],
+    ieee: &[u32; TABLE_ENTRIES],
     words: &[u16],
     n: usize,
     scratch: &mut [u8],
@@ -54,7 +60,7 @@ fn state_ends(rec: &[u8], at: usize, c: Cartridge) -> bool {
 pub fn same_end(
     rec: &[u8],
     at: usize,
-    ieee: &[u32; 2048],
+    ieee: &[u32; TABLE_ENTRIES],
     c: Cartridge,
     ram: &[u16],
     flash: &[u16],

@@ -21,6 +21,7 @@ use blocks::Judged;
 use cart::Cartridge;
 use header::Compat;
 use places::PARAGRAPHS;
+use sums::TABLE_ENTRIES;
 
 // A step of the checking pass: the image ends, a refusal, or the next block's place, the tables block's, and a number of words.
 pub enum Step {
@@ -45,7 +46,7 @@ pub struct Loading {
 }
 
 // CRC32/4 of a block's payload, by its own tables.
-fn payload_sum(c324: &[u32; 2048], x: &[u8]) -> u32
+fn payload_sum(c324: &[u32; TABLE_ENTRIES], x: &[u8]) -> u32
     requires { ⌜ now c324 ≡ tablesOf c324Poly ⌝ }
     ensures { λ r. ⌜ r ≡ crc324Of (payloadIn (now (x .entry))) ⌝ }
 {
@@ -54,7 +55,7 @@ fn payload_sum(c324: &[u32; 2048], x: &[u8]) -> u32
 }
 
 // The judgement of the block x by itself: a place counts from its first byte.
-fn judge(x: &[u8], c324: &[u32; 2048], m: usize, earlier: bool) -> Judged
+fn judge(x: &[u8], c324: &[u32; TABLE_ENTRIES], m: usize, earlier: bool) -> Judged
     requires { ⌜ now c324 ≡ tablesOf c324Poly ⌝ }
     ensures { λ r. ⌜ r ≡ judgementOf m earlier 0 (now (x .entry)) ⌝ }
 {
@@ -69,7 +70,7 @@ fn tables_after(tables: usize, p: usize, t: u8) -> usize
 }
 
 // One step of the checking pass.
-fn step_at(s: &[u8], c324: &[u32; 2048], m: usize, tables: usize, p: usize) -> Step
+fn step_at(s: &[u8], c324: &[u32; TABLE_ENTRIES], m: usize, tables: usize, p: usize) -> Step
     requires { ⌜ now c324 ≡ tablesOf c324Poly ⌝ }
     ensures { λ r. ⌜ r ≡ stepOf (now (s .entry)) m tables p ⌝ }
 {
@@ -99,7 +100,7 @@ fn ended(size: usize, tables: usize, blocks: usize, words: usize) -> Verdict
 }
 
 // The checking pass over the blocks.
-fn check_blocks(s: &[u8], c324: &[u32; 2048], m: usize) -> Verdict
+fn check_blocks(s: &[u8], c324: &[u32; TABLE_ENTRIES], m: usize) -> Verdict
     requires { ⌜ now c324 ≡ tablesOf c324Poly ⌝ }
     ensures { λ r. ⌜ r ≡ verdictOf (now (s .entry)) m ⌝ }
 {

@@ -26,6 +26,7 @@ use blocks::Judged;
 use blocks::TABLES_TYPE;
 use header::HEADER_SIZE;
 use places::IMAGE_LIMIT;
+use sums::TABLE_ENTRIES;
 
 // A note for each block of the longest image: no block is shorter than its frame.
 const NOTES: usize = IMAGE_LIMIT / FRAME_SIZE;
@@ -69,7 +70,7 @@ pub enum Verdict {
 }
 
 // The load's judgement of the block x by itself, for the largest RAM: a place counts from its first byte.
-fn judge(x: &[u8], c324: &[u32; 2048], earlier: bool) -> Judged
+fn judge(x: &[u8], c324: &[u32; TABLE_ENTRIES], earlier: bool) -> Judged
     requires { ⌜ now c324 ≡ tablesOf c324Poly ⌝ }
     ensures { λ r. ⌜ r ≡ judgementOf lentLimit earlier 0 (now (x .entry)) ⌝ }
 {
@@ -79,7 +80,7 @@ fn judge(x: &[u8], c324: &[u32; 2048], earlier: bool) -> Judged
 }
 
 // Whether a block is left out: a hunk that a load refuses.
-fn is_left_out(x: &[u8], c324: &[u32; 2048]) -> bool
+fn is_left_out(x: &[u8], c324: &[u32; TABLE_ENTRIES]) -> bool
     requires { ⌜ now c324 ≡ tablesOf c324Poly ⌝ }
     ensures { λ r. ⌜ r ≡ leftOut (now (x .entry)) ⌝ }
 {
@@ -92,7 +93,7 @@ fn is_left_out(x: &[u8], c324: &[u32; 2048]) -> bool
 }
 
 // One step of the surveying pass.
-fn step_at(s: &[u8], c324: &[u32; 2048], earlier: bool, p: usize) -> Step
+fn step_at(s: &[u8], c324: &[u32; TABLE_ENTRIES], earlier: bool, p: usize) -> Step
     requires { ⌜ now c324 ≡ tablesOf c324Poly ⌝ }
     ensures { λ r. ⌜ r ≡ stepOf (now (s .entry)) earlier p ⌝ }
 {
@@ -159,7 +160,7 @@ fn finding(kept: usize, dropped: usize, long: usize, stopped: Stopped) -> Found
 }
 
 // The surveying pass over the blocks. Each is noted: left out or not.
-fn survey(s: &[u8], c324: &[u32; 2048], notes: &mut [bool]) -> Verdict
+fn survey(s: &[u8], c324: &[u32; TABLE_ENTRIES], notes: &mut [bool]) -> Verdict
     requires { ⌜ (now c324 ≡ tablesOf c324Poly) × (headerSize ≤ length (now s)) × (length (now s) ≤ frameSize * length (now notes)) ⌝ }
     ensures { λ r. ⌜ (r ≡ surveyOf (now (s .entry))) × ((found : Found) → r ≡ Goes found → Noted (blocksIn (now (s .entry))) (now (notes .exit))) ⌝ }
 {
@@ -329,7 +330,7 @@ fn note(places: &mut [usize], n: usize, p: usize)
 }
 
 // The pass that lists.
-fn list_drops(s: &[u8], c324: &[u32; 2048], places: &mut [usize]) -> usize
+fn list_drops(s: &[u8], c324: &[u32; TABLE_ENTRIES], places: &mut [usize]) -> usize
     requires { ⌜ now c324 ≡ tablesOf c324Poly ⌝ }
     ensures { λ r. ⌜ (r ≡ length (dropsIn (now (s .entry)))) × (now (places .exit) ≡ listedIn (now (s .entry)) (now (places .entry))) ⌝ }
 {

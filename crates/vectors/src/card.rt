@@ -8,6 +8,7 @@ use cases::fill::put_line;
 use cases::fill::take_bytes;
 use cases::record::front;
 use report::Report;
+use sums::TABLE_ENTRIES;
 
 // The card's RAM.
 const CARD_WORDS: usize = 16384;
@@ -39,7 +40,7 @@ fn take_card(rec: &[u8], input: &mut [u8], text: &mut [u8], ram: &mut [u16]) -> 
 
 pub fn card_agrees(
     rec: &[u8],
-    ieee: &[u32; 2048],
+    ieee: &[u32; TABLE_ENTRIES],
     input: &mut [u8],
     text: &mut [u8],
     ram: &mut [u16],

@@ -19,6 +19,7 @@ use cases::state::same_end;
 use cases::state::same_words;
 use header::Compat;
 use load::Loading;
+use sums::TABLE_ENTRIES;
 
 fn same_compat(rec: &[u8], at: usize, c: Compat) -> bool {
     let voice = has8(rec, at, 0, c.intellivoice as usize);
@@ -42,7 +43,7 @@ fn same_verdict(rec: &[u8], at: usize, l: Loading) -> bool {
 }
 
 // The initial tables and the active ones, which a load makes equal.
-fn same_tables(want: usize, ieee: &[u32; 2048], c: Cartridge, scratch: &mut [u8]) -> bool {
+fn same_tables(want: usize, ieee: &[u32; TABLE_ENTRIES], c: Cartridge, scratch: &mut [u8]) -> bool {
     let initial = digest_tables(
         ieee,
         &c.initial_mapping,
@@ -80,7 +81,13 @@ fn load_case(rec: &[u8], image: &mut [u8], ram: &mut [u16], flash: &[u16]) -> Lo
 }
 
 // The verdict and the tables.
-fn same_load(rec: &[u8], at: usize, ieee: &[u32; 2048], l: Loading, scratch: &mut [u8]) -> bool {
+fn same_load(
+    rec: &[u8],
+    at: usize,
+    ieee: &[u32; TABLE_ENTRIES],
+    l: Loading,
+    scratch: &mut [u8],
+) -> bool {
     let verdict = same_verdict(rec, at, l);
     let want = get32(rec, after(at, 18));
     both(verdict, same_tables(want, ieee, l.cartridge, scratch))
@@ -89,7 +96,7 @@ fn same_load(rec: &[u8], at: usize, ieee: &[u32; 2048], l: Loading, scratch: &mu
 // A load: the verdict, the tables, the RAM, and the readable paragraphs.
 pub fn load_agrees(
     rec: &[u8],
-    ieee: &[u32; 2048],
+    ieee: &[u32; TABLE_ENTRIES],
     image: &mut [u8],
     scratch: &mut [u8],
     ram: &mut [u16],
@@ -206,7 +213,7 @@ fn run_machine(
 // What the accesses leave.
 fn same_left(
     rec: &[u8],
-    ieee: &[u32; 2048],
+    ieee: &[u32; TABLE_ENTRIES],
     r: Ran,
     ram: &[u16],
     flash: &[u16],
@@ -226,7 +233,7 @@ fn same_left(
 // Accesses after a load: each answer, and what they leave.
 pub fn machine_agrees(
     rec: &[u8],
-    ieee: &[u32; 2048],
+    ieee: &[u32; TABLE_ENTRIES],
     image: &mut [u8],
     scratch: &mut [u8],
     ram: &mut [u16],

@@ -9,6 +9,7 @@ use cases::record::front;
 use cases::rooms;
 use cases::tally;
 use cases::tally::Tally;
+use sums::TABLE_ENTRIES;
 
 mod card;
 mod checksums;
@@ -48,7 +49,7 @@ fn word_room() -> [u16; 524545]
 fn agrees(
     family: Family,
     rec: &[u8],
-    ieee: &[u32; 2048],
+    ieee: &[u32; TABLE_ENTRIES],
     a: &mut [u8],
     b: &mut [u8],
     ram: &mut [u16],
@@ -68,7 +69,7 @@ fn agrees(
 fn run(
     family: Family,
     file: &[u8],
-    ieee: &[u32; 2048],
+    ieee: &[u32; TABLE_ENTRIES],
     a: &mut [u8],
     b: &mut [u8],
     ram: &mut [u16],
@@ -104,7 +105,7 @@ fn run_records(
     family: Family,
     name: &[u8],
     file: &[u8],
-    ieee: &[u32; 2048],
+    ieee: &[u32; TABLE_ENTRIES],
     a: &mut [u8],
     b: &mut [u8],
     ram: &mut [u16],
@@ -118,7 +119,7 @@ fn run_records(
 // Reads a family's file, NAME.vec, and runs it. A file that is missing, or not read to its end, has no case.
 fn run_file(
     family: Family,
-    ieee: &[u32; 2048],
+    ieee: &[u32; TABLE_ENTRIES],
     file: &mut [u8],
     a: &mut [u8],
     b: &mut [u8],

@@ -14,6 +14,7 @@ use cases::record::has8;
 use cases::record::has32;
 use cases::rooms;
 use cases::state::same_words;
+use sums::TABLE_ENTRIES;
 
 // Room for any CFG.
 const CFG_ROOM: usize = 20480;
@@ -87,7 +88,7 @@ fn same_building(rec: &[u8], at: usize, b: Building, whole: usize) -> bool {
 // A build: the answer, and the whole buffer.
 fn built_agrees(
     rec: &[u8],
-    ieee: &[u32; 2048],
+    ieee: &[u32; TABLE_ENTRIES],
     bin: &mut [u8],
     cfg: &mut [u8],
     label: &mut [u8],
@@ -99,7 +100,12 @@ fn built_agrees(
     same_building(rec, o.next, b, digest(ieee, front(out, o.n)))
 }
 
-pub fn build_agrees(rec: &[u8], ieee: &[u32; 2048], bin: &mut [u8], out: &mut [u8]) -> bool {
+pub fn build_agrees(
+    rec: &[u8],
+    ieee: &[u32; TABLE_ENTRIES],
+    bin: &mut [u8],
+    out: &mut [u8],
+) -> bool {
     let mut cfg = [0u8; CFG_ROOM];
     let mut label = rooms::label_room();
     built_agrees(rec, ieee, bin, &mut cfg, &mut label, out)
@@ -126,7 +132,7 @@ fn press(rec: &[u8], bin: &mut [u8], cfg: &mut [u8], image: &mut [u8]) -> Presse
 // A title built, loaded and played, the machine's answers beside the plain cartridge's; then the RAM and the readable paragraphs.
 pub fn bus_agrees(
     rec: &[u8],
-    ieee: &[u32; 2048],
+    ieee: &[u32; TABLE_ENTRIES],
     bin: &mut [u8],
     image: &mut [u8],
     ram: &mut [u16],

@@ -13,13 +13,15 @@ use cases::record::front_words;
 use cases::record::get8;
 use cases::record::has8;
 use cases::record::has32;
+use places::LOCUTUS_PARAGRAPHS;
 use save::Writing;
+use sums::TABLE_ENTRIES;
 
 // Paragraph p is bit p mod 8 of byte p div 8.
-fn marks_of(bits: &[u8]) -> [bool; 2048] {
-    let mut marks = [false; 2048];
+fn marks_of(bits: &[u8]) -> [bool; LOCUTUS_PARAGRAPHS] {
+    let mut marks = [false; LOCUTUS_PARAGRAPHS];
     let mut p = 0;
-    while p < 2048 {
+    while p < LOCUTUS_PARAGRAPHS {
         let b = get8(bits, p / 8);
         marks[p] = (b >> (p % 8)) % 2 == 1;
         p += 1;
@@ -30,7 +32,7 @@ fn marks_of(bits: &[u8]) -> [bool; 2048] {
 // The tables and the marks of a record, how many words its RAM has, which stands between them, and the place of its buffer.
 struct Given {
     cartridge: Cartridge,
-    marks: [bool; 2048],
+    marks: [bool; LOCUTUS_PARAGRAPHS],
     words: usize,
     buffer: usize,
 }
@@ -72,7 +74,7 @@ fn uid_of(rec: &[u8]) -> [u8; 8] {
 fn write_in(
     rec: &[u8],
     c: Cartridge,
-    marks: &[bool; 2048],
+    marks: &[bool; LOCUTUS_PARAGRAPHS],
     ram: &[u16],
     out: &mut [u8],
     n: usize,
@@ -106,7 +108,13 @@ fn same_writing(rec: &[u8], at: usize, w: Writing, whole: usize) -> bool {
 }
 
 // A write: the answer, and the whole buffer.
-fn write_case(rec: &[u8], g: Given, ieee: &[u32; 2048], ram: &[u16], out: &mut [u8]) -> bool {
+fn write_case(
+    rec: &[u8],
+    g: Given,
+    ieee: &[u32; TABLE_ENTRIES],
+    ram: &[u16],
+    out: &mut [u8],
+) -> bool {
     let b = take_buffer(rec, g.buffer, out);
     let marks = g.marks;
     let w = write_in(rec, g.cartridge, &marks, ram, out, b.n);
@@ -115,7 +123,7 @@ fn write_case(rec: &[u8], g: Given, ieee: &[u32; 2048], ram: &[u16], out: &mut [
 
 pub fn write_agrees(
     rec: &[u8],
-    ieee: &[u32; 2048],
+    ieee: &[u32; TABLE_ENTRIES],
     room: &mut [u8],
     out: &mut [u8],
     ram: &mut [u16],

@@ -9,6 +9,7 @@ use cases::record::ends;
 use cases::record::front;
 use cases::record::has8;
 use cases::record::has32;
+use sums::TABLE_ENTRIES;
 use unbuild::Unbuilding;
 
 // The BIN and the CFG of an image, into the first n bytes of one buffer and the first k of another.
@@ -29,7 +30,13 @@ fn same_unbuilding(rec: &[u8], at: usize, u: Unbuilding) -> bool {
 }
 
 // Both buffers, whole; with their digests the record ends.
-fn same_buffers(rec: &[u8], at: usize, ieee: &[u32; 2048], bin: &[u8], cfg: &[u8]) -> bool {
+fn same_buffers(
+    rec: &[u8],
+    at: usize,
+    ieee: &[u32; TABLE_ENTRIES],
+    bin: &[u8],
+    cfg: &[u8],
+) -> bool {
     let b = has32(rec, at, 0, digest(ieee, bin));
     let c = has32(rec, at, 4, digest(ieee, cfg));
     both(both(b, c), ends(rec, at, 8))
@@ -39,7 +46,7 @@ fn same_buffers(rec: &[u8], at: usize, ieee: &[u32; 2048], bin: &[u8], cfg: &[u8
 fn back_case(
     rec: &[u8],
     at: usize,
-    ieee: &[u32; 2048],
+    ieee: &[u32; TABLE_ENTRIES],
     image: &[u8],
     bin: &mut [u8],
     n: usize,
@@ -54,7 +61,7 @@ fn back_case(
 
 pub fn back_agrees(
     rec: &[u8],
-    ieee: &[u32; 2048],
+    ieee: &[u32; TABLE_ENTRIES],
     image: &mut [u8],
     bin: &mut [u8],
     cfg: &mut [u8],

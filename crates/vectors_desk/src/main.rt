@@ -9,6 +9,7 @@ use cases::record::front;
 use cases::rooms;
 use cases::tally;
 use cases::tally::Tally;
+use sums::TABLE_ENTRIES;
 
 mod back;
 mod names;
@@ -37,7 +38,7 @@ fn buffer_room() -> [u8; 2097152]
 fn agrees(
     family: Family,
     rec: &[u8],
-    ieee: &[u32; 2048],
+    ieee: &[u32; TABLE_ENTRIES],
     image: &mut [u8],
     out: &mut [u8],
     text: &mut [u8],
@@ -55,7 +56,7 @@ fn agrees(
 fn run(
     family: Family,
     file: &[u8],
-    ieee: &[u32; 2048],
+    ieee: &[u32; TABLE_ENTRIES],
     image: &mut [u8],
     out: &mut [u8],
     text: &mut [u8],
@@ -98,7 +99,7 @@ fn run_records(
     family: Family,
     name: &[u8],
     file: &[u8],
-    ieee: &[u32; 2048],
+    ieee: &[u32; TABLE_ENTRIES],
     image: &mut [u8],
     out: &mut [u8],
     text: &mut [u8],
@@ -111,7 +112,7 @@ fn run_records(
 // Reads a family's file, NAME.vec, and runs it. A file that is missing, or not read to its end, has no case.
 fn run_file(
     family: Family,
-    ieee: &[u32; 2048],
+    ieee: &[u32; TABLE_ENTRIES],
     file: &mut [u8],
     image: &mut [u8],
     out: &mut [u8],

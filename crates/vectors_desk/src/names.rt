@@ -23,6 +23,7 @@ use metadata::Given;
 use metadata::Hours;
 use metadata::ReleaseDate;
 use metadata::Stands;
+use sums::TABLE_ENTRIES;
 
 // The place behind the sub-record at p, and how many were passed.
 struct Passed {
@@ -65,7 +66,7 @@ struct Told {
 }
 
 // The sub-records of the block x of type t, and its end.
-fn tell_block(x: &[u8], t: u8, q: usize, before: Told, ieee: &[u32; 2048]) -> Told {
+fn tell_block(x: &[u8], t: u8, q: usize, before: Told, ieee: &[u32; TABLE_ENTRIES]) -> Told {
     if t != blocks::METADATA_TYPE {
         return Told {
             over: false,
@@ -83,7 +84,7 @@ fn tell_block(x: &[u8], t: u8, q: usize, before: Told, ieee: &[u32; 2048]) -> To
     }
 }
 
-fn tell_next(image: &[u8], before: Told, ieee: &[u32; 2048]) -> Told {
+fn tell_next(image: &[u8], before: Told, ieee: &[u32; TABLE_ENTRIES]) -> Told {
     let f = blocks::frame_at(image, before.next);
     match f {
         Frame::Framed(t, q) => tell_block(rest(front(image, q), before.next), t, q, before, ieee),
@@ -103,7 +104,7 @@ fn tell_next(image: &[u8], before: Told, ieee: &[u32; 2048]) -> Told {
 }
 
 // The sub-records of an image, which has no more blocks than bytes.
-fn tell(image: &[u8], ieee: &[u32; 2048]) -> Told {
+fn tell(image: &[u8], ieee: &[u32; TABLE_ENTRIES]) -> Told {
     let mut now = Told {
         over: false,
         next: blocks::FIRST_BLOCK,
@@ -146,7 +147,13 @@ fn refusal_of(label: &[u8], image: &[u8]) -> Refusal {
 }
 
 // Number and place; then the sub-records and what is given twice, all 0 in a refusal.
-fn same_records(rec: &[u8], at: usize, ieee: &[u32; 2048], label: &[u8], image: &[u8]) -> bool {
+fn same_records(
+    rec: &[u8],
+    at: usize,
+    ieee: &[u32; TABLE_ENTRIES],
+    label: &[u8],
+    image: &[u8],
+) -> bool {
     let r = refusal_of(label, image);
     let number = has8(rec, at, 0, r.number as usize);
     let verdict = both(number, has32(rec, at, 1, r.place));
@@ -204,7 +211,13 @@ fn same_texts(
 }
 
 // Names: the lookup's refusal, the image's sub-records, and each text asked for.
-fn names_case(rec: &[u8], at: usize, ieee: &[u32; 2048], label: &[u8], image: &[u8]) -> bool {
+fn names_case(
+    rec: &[u8],
+    at: usize,
+    ieee: &[u32; TABLE_ENTRIES],
+    label: &[u8],
+    image: &[u8],
+) -> bool {
     let count = get16(rec, at);
     let asked = after(at, 2);
     let told = after(asked, 5 * count);
@@ -214,7 +227,12 @@ fn names_case(rec: &[u8], at: usize, ieee: &[u32; 2048], label: &[u8], image: &[
     )
 }
 
-pub fn names_agree(rec: &[u8], ieee: &[u32; 2048], image: &mut [u8], label: &mut [u8]) -> bool {
+pub fn names_agree(
+    rec: &[u8],
+    ieee: &[u32; TABLE_ENTRIES],
+    image: &mut [u8],
+    label: &mut [u8],
+) -> bool {
     let i = take_bytes(rec, 4, image);
     let l = take_bytes(rec, i.next, label);
     names_case(rec, l.next, ieee, front(label, l.n), front(image, i.n))
@@ -285,7 +303,12 @@ fn same_writing(rec: &[u8], at: usize, w: Writing, whole: usize) -> bool {
 }
 
 // A label's block: the answer, and the whole buffer.
-pub fn label_agrees(rec: &[u8], ieee: &[u32; 2048], label: &mut [u8], out: &mut [u8]) -> bool {
+pub fn label_agrees(
+    rec: &[u8],
+    ieee: &[u32; TABLE_ENTRIES],
+    label: &mut [u8],
+    out: &mut [u8],
+) -> bool {
     let l = take_bytes(rec, 4, label);
     let o = take_buffer(rec, l.next, out);
     let w = write_in(out, o.n, label, l.n);

@@ -15,6 +15,7 @@ use cases::record::has8;
 use cases::record::has32;
 use cases::state::load_in;
 use cases::state::same_end;
+use sums::TABLE_ENTRIES;
 
 // Room for the RAM, the flash and the answers of a case; one that had more would differ.
 const RAM_ROOM: usize = 73600;
@@ -155,7 +156,7 @@ fn same_told(rec: &[u8], at: usize, r: Ran, answers: &[u32]) -> bool {
 fn same_left(
     rec: &[u8],
     at: usize,
-    ieee: &[u32; 2048],
+    ieee: &[u32; TABLE_ENTRIES],
     c: Cartridge,
     ram: &[u16],
     flash: &[u16],
@@ -168,7 +169,7 @@ fn same_left(
 fn run_agrees(
     rec: &[u8],
     g: Given,
-    ieee: &[u32; 2048],
+    ieee: &[u32; TABLE_ENTRIES],
     image: &[u8],
     list: &[u8],
     scratch: &mut [u8],
@@ -194,7 +195,7 @@ fn run_agrees(
 
 pub fn runs_agree(
     rec: &[u8],
-    ieee: &[u32; 2048],
+    ieee: &[u32; TABLE_ENTRIES],
     image: &mut [u8],
     scratch: &mut [u8],
     list: &mut [u8],

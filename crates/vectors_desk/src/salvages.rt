@@ -15,6 +15,7 @@ use cases::record::has8;
 use cases::record::has32;
 use recovery::Salvaging;
 use recovery::Stopped;
+use sums::TABLE_ENTRIES;
 
 // Room for the places of the blocks that a case loses; one that lost more would differ.
 const PLACES: usize = 64;
@@ -112,7 +113,7 @@ fn behind_places(rec: &[u8], at: usize) -> usize {
 fn same_answer(
     rec: &[u8],
     at: usize,
-    ieee: &[u32; 2048],
+    ieee: &[u32; TABLE_ENTRIES],
     s: Salvaging,
     places: &[usize],
     whole: &[u8],
@@ -131,7 +132,7 @@ fn salvage_in(image: &[u8], out: &mut [u8], n: usize) -> Salvaging {
 fn salvage_case(
     rec: &[u8],
     at: usize,
-    ieee: &[u32; 2048],
+    ieee: &[u32; TABLE_ENTRIES],
     image: &[u8],
     out: &mut [u8],
     n: usize,
@@ -150,7 +151,7 @@ fn salvage_case(
 // A salvage: its answer, and the program's text.
 pub fn salvage_agrees(
     rec: &[u8],
-    ieee: &[u32; 2048],
+    ieee: &[u32; TABLE_ENTRIES],
     image: &mut [u8],
     out: &mut [u8],
     text: &mut [u8],
