@@ -4,10 +4,11 @@
 // and what cannot be read `result=stopped` with the file and the reason. Texts are shown by `shelf`, release dates by `date`.
 mod date;
 
-ghost use Prim.Native.Nat.{_≤_};
+ghost use Prim.Native.Nat.{_+_, _≤_};
 ghost use mathlib.Core.Path.{_≡_};
 ghost use lib.ListN.{length};
 ghost use Rattle.places.specs.Limits.{imageLimit};
+ghost use Rattle.blocks.specs.Blocks.{payloadLimit};
 use blocks::PAYLOAD_LIMIT;
 use lookup::Found;
 use metadata::LAST_TAG;
@@ -18,16 +19,20 @@ use places::IMAGE_LIMIT;
 const DATE_TAG: u8 = 0x04;
 
 // Room for one byte more than an image and a label may have, so that a longer file is seen to be longer.
-fn image_room() -> [u8; 2097153]
-    ensures { λ r. ⌜ 2097153 ≡ length r ⌝ }
+const IMAGE_ROOM: usize = IMAGE_LIMIT + 1;
+
+fn image_room() -> [u8; IMAGE_ROOM]
+    ensures { λ r. ⌜ imageLimit + 1 ≡ length r ⌝ }
 {
-    [0; 2097153]
+    [0; IMAGE_ROOM]
 }
 
-fn label_room() -> [u8; 65536]
-    ensures { λ r. ⌜ 65536 ≡ length r ⌝ }
+const LABEL_ROOM: usize = PAYLOAD_LIMIT + 1;
+
+fn label_room() -> [u8; LABEL_ROOM]
+    ensures { λ r. ⌜ payloadLimit + 1 ≡ length r ⌝ }
 {
-    [0; 65536]
+    [0; LABEL_ROOM]
 }
 
 // A tag by the name that 001's table gives its variable.

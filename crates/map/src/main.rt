@@ -2,9 +2,9 @@
 // has some, then `words=`, `jlp=` and `flash=`. Or `result=refused` with number and place, where the load refuses; or `result=stopped` with the file and
 // the reason.
 ghost use mathlib.Core.Path.{_≡_};
-ghost use Prim.Native.Nat.{_<_};
+ghost use Prim.Native.Nat.{_+_, _<_};
 ghost use lib.ListN.{length};
-ghost use Rattle.places.specs.Limits.{chapters};
+ghost use Rattle.places.specs.Limits.{chapters, imageLimit};
 use basics::Refusal;
 use cart::Cartridge;
 use chart::Leaf;
@@ -13,6 +13,7 @@ use places::CHAPTER_PAGES;
 use places::CHAPTER_PARAGRAPHS;
 use places::CHAPTERS;
 use places::FLIP_ENTRIES;
+use places::IMAGE_LIMIT;
 
 // The lengths of a chapter's line and of a line of pages, and where their first sign and their first page stand.
 const CHAPTER_LINE: usize = 37;
@@ -24,10 +25,12 @@ const PAGES_LINE: usize = 52;
 const PAGES_AT: usize = 4;
 
 // Room for one byte more than an image may have, so that a longer one is seen to be longer.
-fn file_room() -> [u8; 2097153]
-    ensures { λ r. ⌜ 2097153 ≡ length r ⌝ }
+const FILE_ROOM: usize = IMAGE_LIMIT + 1;
+
+fn file_room() -> [u8; FILE_ROOM]
+    ensures { λ r. ⌜ imageLimit + 1 ≡ length r ⌝ }
 {
-    [0; 2097153]
+    [0; FILE_ROOM]
 }
 
 fn refused(r: Refusal) {

@@ -3,31 +3,41 @@
 // or `result=stopped` with the file and the reason.
 ghost use mathlib.Core.Path.{_≡_};
 ghost use lib.ListN.{length};
-ghost use Rattle.places.specs.Limits.{imageLimit};
+ghost use Prim.Native.Nat.{_+_};
+ghost use Rattle.places.specs.Limits.{binLimit, cfgLimit, imageLimit};
+ghost use Rattle.blocks.specs.Blocks.{payloadLimit};
+use blocks::PAYLOAD_LIMIT;
 use build::Building;
 use files::INPUTS;
 use files::Seen;
 use places::BIN_LIMIT;
+use places::CFG_LIMIT;
 use places::IMAGE_LIMIT;
 
 // Room for one byte more than a BIN, a CFG and a label may have, so that a longer file is seen to be longer, and for any image that the
 // builder makes.
-fn bin_room() -> [u8; 524289]
-    ensures { λ r. ⌜ 524289 ≡ length r ⌝ }
+const BIN_ROOM: usize = BIN_LIMIT + 1;
+
+const CFG_ROOM: usize = CFG_LIMIT + 1;
+
+const LABEL_ROOM: usize = PAYLOAD_LIMIT + 1;
+
+fn bin_room() -> [u8; BIN_ROOM]
+    ensures { λ r. ⌜ binLimit + 1 ≡ length r ⌝ }
 {
-    [0; 524289]
+    [0; BIN_ROOM]
 }
 
-fn cfg_room() -> [u8; 16385]
-    ensures { λ r. ⌜ 16385 ≡ length r ⌝ }
+fn cfg_room() -> [u8; CFG_ROOM]
+    ensures { λ r. ⌜ cfgLimit + 1 ≡ length r ⌝ }
 {
-    [0; 16385]
+    [0; CFG_ROOM]
 }
 
-fn label_room() -> [u8; 65536]
-    ensures { λ r. ⌜ 65536 ≡ length r ⌝ }
+fn label_room() -> [u8; LABEL_ROOM]
+    ensures { λ r. ⌜ payloadLimit + 1 ≡ length r ⌝ }
 {
-    [0; 65536]
+    [0; LABEL_ROOM]
 }
 
 fn image_room() -> [u8; IMAGE_LIMIT]
