@@ -1,24 +1,28 @@
 -- One law for each return: what the code has tested and called, as the definition that it answers.
-use Prim.Native.Nat.{ℕ}
+use Prim.Native.Nat.{ℕ, _≤_}
+use native.Mathlib.Omega.{arith}
 use mathlib.Core.List.{List}
-use mathlib.Core.Path.{_≡_, refl, sym, ap, _∙_}
-use mathlib.Core.Bool.{Bool, true, false, not, _&&_}
-use Rattle.basics.specs.Laws.Tests.{and-left, and-right, not-true}
+use mathlib.Core.Path.{_≡_, refl, sym, ap, subst, _∙_}
+use mathlib.Core.Bool.{Bool, true, false, cond, not, _&&_}
+use Rattle.basics.specs.Laws.Tests.{cases, and-left, and-right, cond-true, not-true}
 use Rattle.places.specs.declared.Console.{Console}
 use Rattle.switches.specs.Flips.{Active}
-use Rattle.flash.specs.Flash.{memories, acted}
+use Rattle.flash.specs.declared.Command.the-variants.{Nothing}
+use Rattle.flash.specs.Flash.{Memories, memories, acted}
+use Rattle.flash.specs.Laws.Registers.{others-ask-nothing}
 use Rattle.flash.specs.Registers.{commandOf}
 use Rattle.jlp.specs.declared.Jlp.{Jlp}
-use Rattle.jlp.specs.Window.{inWindow, inRam}
+use Rattle.jlp.specs.Window.{inWindow, inRam, isOperand, operandsStart, operandsEnd, windowStart, windowEnd}
+use Rattle.jlp.specs.Laws.Window.{between-low, between-high, between-in}
 use Rattle.jlp.specs.Accelerators.{takes, latches, writtenJlp}
-use Rattle.jlp.specs.Laws.Accelerators.{unlatched}
-use Rattle.registers.specs.Words.{wordsOf, jlpFrom}
+use Rattle.jlp.specs.Laws.Accelerators.{on-takes, unlatched}
+use Rattle.registers.specs.Words.{wordsOf, jlpFrom, operates, behindOperand}
 use Rattle.cart.specs.declared.Answer.{Answer}
 use Rattle.cart.specs.declared.Cell.{Cell}
 use Rattle.cart.specs.Cells.{cellAt, windowCell}
 use Rattle.cart.specs.declared.Taker.the-variants.{Accelerators}
 use Rattle.cart.specs.Reads.{silent, heard, fetched, readBy}
-use Rattle.cart.specs.Writes.{takerOf, leaves, leavesRam, leavesFlash, assigned, leavesReadable}
+use Rattle.cart.specs.Writes.{takerOf, memoriesBy, leaves, leavesRam, leavesFlash, assigned, leavesReadable}
 use Rattle.cart.specs.Laws.Writes.{by-mapping, by-permissions, by-ram, by-flash, by-readable, by-assigned}
 use Rattle.direct.specs.declared.Reach.{Reach}
 use Rattle.direct.specs.declared.Reach.the-variants.{Asked, Nobody, At}
@@ -112,3 +116,58 @@ module _ (j : Jlp) (a : Active) (flips : List ℕ) (at : Console) (v kept : ℕ)
       × (f ≡ leavesFlash j a flips flash ram at v)
       → Left j a flips at v kept flash ram n q x y u z f
   by-switch n q x y u z f t l = (l .0, l .1, l .2, l .3, l .4 ∙ ap wordsOf (sym (unlatched j at v (sym e ∙ t))), l .5, l .6)
+
+unless : (b : Bool) (x y : List ℕ) → b ≡ false → cond b x y ≡ y
+unless b x y e = rw e
+
+-- before both, the write of an operand: nobody but the accelerators changes
+module _ (w : List ℕ) (a : Active) (flips : List ℕ) (at : Console) (v kept : ℕ) (flash ram : List ℕ) (b : Bool) (u : List ℕ) (e : (b ≡ operates (jlpFrom w) at) × (u ≡ behindOperand w at v)) where
+  module _ (t : b ≡ true) where
+    done : operates (jlpFrom w) at ≡ true
+    done = sym (e .0) ∙ t
+
+    on-so : jlpFrom w .on ≡ true
+    unfolding operates
+    on-so = and-left (jlpFrom w .on) (isOperand at) done
+
+    operand-so : isOperand at ≡ true
+    unfolding operates
+    operand-so = and-right (jlpFrom w .on) (isOperand at) done
+
+    low : operandsStart ≤ at .0
+    low = between-low _ _ _ operand-so
+
+    high : at .0 ≤ operandsEnd
+    high = between-high _ _ _ operand-so
+
+    no-ram : inRam at ≡ false
+    no-ram = cases (inRam at) (λ r. absurd (omega (arith, low, between-high _ _ _ r))) (λ r. r)
+
+    taken : takerOf (jlpFrom w) a flips at v ≡ Accelerators
+    taken = rw (on-takes (jlpFrom w) at v on-so (between-in windowStart windowEnd (at .0) (omega (arith, low)) (omega (arith, high))), no-ram)
+
+    nothing : commandOf (jlpFrom w .saves) at v ≡ Nothing
+    nothing = others-ask-nothing (jlpFrom w .saves) at v (λ q. omega (arith, low)) (λ q. omega (arith, low)) (λ q. omega (arith, low))
+
+    left-so : memoriesBy Accelerators (jlpFrom w .saves) (memories flash ram) at v ≡ memories flash ram
+    left-so = ap (acted (jlpFrom w .saves .sectors) (memories flash ram)) nothing
+
+    pub by-operand : Left (jlpFrom w) a flips at v kept flash ram 0 kept (a .mapping) (a .permissions) u ram flash
+    unfolding behindOperand
+    by-operand = (
+      by-assigned (jlpFrom w) a flips at v _ Accelerators refl taken 0 refl,
+      by-readable (jlpFrom w) a flips at v _ Accelerators refl taken kept kept refl,
+      by-mapping (jlpFrom w) a flips at v _ Accelerators refl taken (a .mapping) refl,
+      by-permissions (jlpFrom w) a flips at v _ Accelerators refl taken (a .permissions) refl,
+      e .1 ∙ cond-true (operates (jlpFrom w) at) (wordsOf (writtenJlp (jlpFrom w) at v)) w done,
+      by-ram (jlpFrom w) a flips at v _ Accelerators refl taken flash ram ram (ap (λ (m : Memories). m .ram) (sym left-so)),
+      by-flash (jlpFrom w) a flips at v _ Accelerators refl taken flash ram flash (ap (λ (m : Memories). m .flash) (sym left-so)),
+    )
+
+  -- any other leaves the words to the next
+  pub passed-on : b ≡ false → (n q : ℕ) (x y r z f : List ℕ) → Left (jlpFrom u) a flips at v kept flash ram n q x y r z f → Left (jlpFrom w) a flips at v kept flash ram n q x y r z f
+  unfolding behindOperand
+  passed-on t n q x y r z f =
+      let k : operates (jlpFrom w) at ≡ false = sym (e .0) ∙ t in
+      let s : u ≡ w = e .1 ∙ unless (operates (jlpFrom w) at) (wordsOf (writtenJlp (jlpFrom w) at v)) w k in
+      subst (λ (l : List ℕ). Left (jlpFrom l) a flips at v kept flash ram n q x y r z f) s

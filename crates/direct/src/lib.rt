@@ -212,6 +212,9 @@ pub fn write<'a>(
         × (now (ram .exit) ≡ leavesRam (jlpFrom (now (accelerators .entry))) (active (now (mapping .entry)) (now (permissions .entry))) (now (flips .entry)) (now (flash .entry)) (now (ram .entry)) at value)
         × (now (flash .exit) ≡ leavesFlash (jlpFrom (now (accelerators .entry))) (active (now (mapping .entry)) (now (permissions .entry))) (now (flips .entry)) (now (flash .entry)) (now (ram .entry)) at value) ⌝ }
 {
+    if registers::operates(accelerators, at, value) {
+        return 0;
+    }
     if registers::latches(accelerators, at, value) {
         latch(accelerators, ram, flash, at, value);
         return 0;

@@ -1,21 +1,22 @@
 -- One law for each return: what the code has tested and called, as the words that it leaves.
 use Prim.Native.Nat.{ℕ, _-_, _+_, _*_, _/_, _<_, _≤_}
-use mathlib.Core.Bool.{Bool, true, false, not, _&&_, _||_}
+use mathlib.Core.Bool.{Bool, true, false, cond, not, _&&_, _||_}
 use mathlib.Core.List.{List}
-use mathlib.Core.Path.{_≡_, sym, ap, _∙_}
+use mathlib.Core.Path.{_≡_, refl, sym, ap, _∙_}
 use native.Mathlib.Omega.{arith}
 use lib.ListN.{getD, set}
-use Rattle.basics.specs.Laws.Tests.{not-true, not-false}
+use borrow.Author.Tests.{ne-eqb}
+use Rattle.basics.specs.Laws.Tests.{cond-true, not-true, not-false}
 use Rattle.places.specs.declared.Console.{Console}
 use Rattle.flash.specs.declared.Saves.{Saves}
 use Rattle.flash.specs.Registers.{remembered}
 use Rattle.jlp.specs.declared.Jlp.{Jlp}
 use Rattle.jlp.specs.declared.Results.{Results}
 use Rattle.jlp.specs.Arith.{results}
-use Rattle.jlp.specs.Window.{inWindow, inRam, isOperand, operandsStart, operandsEnd}
+use Rattle.jlp.specs.Window.{inWindow, inRam, isOperand, onAt, offAt, operandsStart, operandsEnd}
 use Rattle.jlp.specs.Laws.Window.{between-low, between-high}
 use Rattle.jlp.specs.Accelerators.{operandCount, withOn, turnsOn, turnsOff, takes, latches, functionOf, operated, crcAfter, withCrcAndSaves, writtenOn, writtenJlp}
-use Rattle.registers.specs.Words.{wordsOf, jlpFrom}
+use Rattle.registers.specs.Words.{wordsOf, jlpFrom, operates, behindOperand}
 use Rattle.registers.specs.Code.Tidy.{Tidy}
 use Rattle.registers.specs.Laws.Words.{turned, noted, operand-at, laid-out, from-tidied, tidy-now}
 
@@ -38,6 +39,12 @@ operand-from at b e t = between-low _ _ _ (sym e ∙ t)
 
 pub operand-below : (at : Console) (b : Bool) → b ≡ isOperand at → b ≡ true → at .0 - operandsStart < operandCount
 operand-below at b e t = omega (arith, between-high _ _ _ (sym e ∙ t))
+
+pub operand-from-not : (at : Console) (b : Bool) → b ≡ isOperand at → not b ≡ false → operandsStart ≤ at .0
+operand-from-not at b e n = operand-from at b e (not-false b n)
+
+pub operand-below-not : (at : Console) (b : Bool) → b ≡ isOperand at → not b ≡ false → at .0 - operandsStart < operandCount
+operand-below-not at b e n = operand-below at b e (not-false b n)
 
 module _ (w : List ℕ) (t : Tidy w) where
   -- an operand that is stored, with its function's results
@@ -104,3 +111,46 @@ module _ (w₀ w : List ℕ) (e : w ≡ wordsOf (jlpFrom w₀)) (at : Console) (
 
     pub write-on : (x : List ℕ) → not o ≡ false → x ≡ wordsOf (writtenOn (jlpFrom w) at v) → x ≡ wordsOf (writtenJlp (jlpFrom w₀) at v)
     write-on x n p = tidied-too x (p ∙ ap wordsOf (sym (by-on (jlpFrom w) at v (sym turns ∙ t) (sym k ∙ not-false o n))))
+
+-- an operand's address is none of the words that turn on and off
+module _ (at : Console) (h : isOperand at ≡ true) where
+  operand-turns : (field v : ℕ) → turnsOn field at v ≡ false
+  unfolding turnsOn
+  operand-turns field v = rw (ne-eqb (at .0) onAt (λ e. omega (arith, between-low _ _ _ h)))
+
+  operand-keeps : (v : ℕ) → turnsOff at v ≡ false
+  unfolding turnsOff
+  operand-keeps v = rw (ne-eqb (at .0) offAt (λ e. omega (arith, between-low _ _ _ h)))
+
+  operand-written : (j : Jlp) (v : ℕ) → j .on ≡ true → writtenJlp j at v ≡ operated j (at .0 - operandsStart) v
+  unfolding writtenOn
+  operand-written j v o = by-on j at v (operand-turns (j .field) v) o ∙ rw (operand-keeps v, h)
+
+-- off, no operand, and one that computes
+unless : (b : Bool) (x y : List ℕ) → b ≡ false → cond b x y ≡ y
+unless b x y e = rw e
+
+module _ (w : List ℕ) (at : Console) (v : ℕ) where
+  stays : operates (jlpFrom w) at ≡ false → (false ≡ operates (jlpFrom w) at) × (w ≡ behindOperand w at v)
+  unfolding behindOperand
+  stays e = (sym e, sym (unless (operates (jlpFrom w) at) (wordsOf (writtenJlp (jlpFrom w) at v)) w e))
+
+  module _ (o : Bool) (k : o ≡ jlpFrom w .on) where
+    pub operates-off : not o ≡ true → (false ≡ operates (jlpFrom w) at) × (w ≡ behindOperand w at v)
+    unfolding operates
+    operates-off n = stays (rw (← k, not-true o n))
+
+    module _ (n : not o ≡ false) (b : Bool) (g : b ≡ isOperand at) where
+      pub operates-not : not b ≡ true → (false ≡ operates (jlpFrom w) at) × (w ≡ behindOperand w at v)
+      unfolding operates
+      operates-not m = stays (rw (← k, not-false o n, ← g, not-true b m))
+
+      pub operates-so : not b ≡ false → (x y : List ℕ) → x ≡ wordsOf (jlpFrom w) → y ≡ wordsOf (operated (jlpFrom x) (at .0 - operandsStart) v)
+          → (true ≡ operates (jlpFrom w) at) × (y ≡ behindOperand w at v)
+      unfolding operates behindOperand
+      operates-so m x y e f =
+          let i : isOperand at ≡ true = sym g ∙ not-false b m in
+          let h : operates (jlpFrom w) at ≡ true = rw (← k, not-false o n, i) in
+          let l : y ≡ wordsOf (writtenJlp (jlpFrom w) at v) =
+          f ∙ ap wordsOf (ap (λ (j : Jlp). operated j (at .0 - operandsStart) v) (from-tidied w x e) ∙ sym (operand-written at i (jlpFrom w) v (sym k ∙ not-false o n))) in
+          (sym h, l ∙ sym (cond-true (operates (jlpFrom w) at) (wordsOf (writtenJlp (jlpFrom w) at v)) w h))

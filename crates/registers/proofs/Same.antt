@@ -7,6 +7,7 @@ use Rattle.registers.proofs.jlp_from.Reads as jlp-from
 use Rattle.registers.proofs.is_on.Reads as is-on
 use Rattle.registers.proofs.saves_of.Reads as saves-of
 use Rattle.registers.proofs.latches.Reads as latches
+use Rattle.registers.proofs.operates.Reads as operates
 use Rattle.registers.proofs.tidy.Reads as tidy
 use Rattle.registers.proofs.write.Reads as write
 
@@ -30,3 +31,9 @@ one-tidy κs a y z e f p q = same p q
 
 pub one-write : OneLent write.Learnt (λ κs e. now (e .0))
 one-write κs a y z e f p q = same p q
+
+pub one-operates : OneAnswer operates.Learnt
+one-operates κs a y z e f p q = same (p .0) (q .0)
+
+pub one-operates-words : OneLent operates.Learnt (λ κs e. now (e .0))
+one-operates-words κs a y z e f p q = same (p .1) (q .1)

@@ -5,7 +5,7 @@ ghost use mathlib.Core.Path.{_≡_};
 ghost use lib.ListN.{length};
 ghost use Rattle.jlp.specs.Accelerators.{operandCount, takes, latches, operated, withCrcAndSaves, crcAfter, writtenOn, writtenJlp};
 ghost use Rattle.flash.specs.Registers.{remembered};
-ghost use Rattle.registers.specs.Words.{acceleratorWords, oneIf, wordsOf, jlpFrom};
+ghost use Rattle.registers.specs.Words.{acceleratorWords, oneIf, wordsOf, jlpFrom, operates, behindOperand};
 ghost use Rattle.registers.specs.Code.Tidy.{Tidy};
 use flash::Saves;
 use jlp::Jlp;
@@ -168,6 +168,21 @@ fn operate(w: &mut [u16; ACCELERATOR_WORDS], k: usize, value: u16)
     let r = jlp::function_of(n, w[2 + 2 * n], w[2 + (2 * n + 1)], old);
     w[14] = r.first;
     w[15] = r.second;
+}
+
+// The write of an operand while they are on, and whether it was one.
+pub fn operates(w: &mut [u16; ACCELERATOR_WORDS], at: Console, value: u16) -> bool
+    ensures { λ r. ⌜ (r ≡ operates (jlpFrom (now (w .entry))) at) × (now (w .exit) ≡ behindOperand (now (w .entry)) at value) ⌝ }
+{
+    if !is_on(w) {
+        return false;
+    }
+    if !jlp::is_operand(at) {
+        return false;
+    }
+    tidy(w);
+    operate(w, (at.0 - jlp::OPERANDS_START) as usize, value);
+    true
 }
 
 // The CRC and the registers of the flash behind a write.
