@@ -405,6 +405,10 @@ static uint16_t flash_size(const uint8_t *flags) {
     return flags[2] / 64 + 4 * flags[3];
 }
 
+size_t c_flash_words(const uint8_t *s, size_t n) {
+    return n >= 20 && (s[6] & 3) >= 2 ? (size_t)ROW * SECTOR * flash_size(s + 4) : 0;
+}
+
 /* Refusal 10, 11, or 13. */
 static int not_had(const uint8_t *flags, const Cartridge *c, size_t words, size_t flash_words) {
     bool flipped = false;
@@ -625,9 +629,27 @@ Salvaging c_salvage(const uint8_t *s, size_t n, uint8_t *out, size_t room) {
     return r;
 }
 
-/* ---- the writer: header, tables, a hunk for each marked paragraph, end ---- */
+size_t c_drops(const uint8_t *s, size_t n, size_t *places, size_t room) {
+    Tables dow, c324;
+    make_tables(DOW, dow);
+    make_tables(C324, c324);
+    size_t count = 0;
+    for (size_t p = 32; p < n && s[p] != 0xFF; p += 8 + get16(s + p + 1)) {
+        Judged j = judge(s, n, p, LENT_LIMIT, 0, dow, c324);
+        if (j.number == 5)
+            break;
+        if (!is_dropped(s[p], j.number))
+            continue;
+        if (count < room)
+            places[count] = p;
+        count++;
+    }
+    return count;
+}
 
-enum { TABLES_BYTES = 1288, MOST_WORDS = 62 };
+/* ---- the writer: header, tables, a label's block, a hunk for each marked paragraph, end ---- */
+
+enum { TABLES_BYTES = 1288, MOST_WORDS = 62, BLOCK_LIMIT = 65535 };
 
 static void put16(uint8_t *s, uint16_t w) {
     s[0] = w % 256;
@@ -704,7 +726,8 @@ static int cut_at(int i) {
     return 256 - i < MOST_WORDS ? 256 - i : MOST_WORDS;
 }
 
-static size_t write_image(uint8_t *out, const uint8_t *flags, const uint8_t *uid, const Cartridge *c, const uint16_t *ram, const bool *marks) {
+static size_t write_image(uint8_t *out, const uint8_t *flags, const uint8_t *uid, const Cartridge *c, const uint8_t *label, size_t nlabel, const uint16_t *ram,
+                          const bool *marks) {
     Tables dow, c324;
     make_tables(DOW, dow);
     make_tables(C324, c324);
@@ -721,6 +744,11 @@ static size_t write_image(uint8_t *out, const uint8_t *flags, const uint8_t *uid
     }
     frame(to, 1, 1280, dow, c324);
     to += TABLES_BYTES;
+    if (nlabel) {
+        memcpy(to + 8, label, nlabel);
+        frame(to, 3, nlabel, dow, c324);
+        to += 8 + nlabel;
+    }
     for (uint32_t p = 0; p < 2048; p++) {
         if (!marks[p])
             continue;
@@ -763,7 +791,7 @@ Writing c_write_image(const uint8_t *flags, const uint8_t *uid, const Cartridge 
         return (Writing){.number = 1};
     if (length > room)
         return (Writing){.number = 29, .length = length};
-    return (Writing){.length = write_image(out, flags, uid, c, ram, marks)};
+    return (Writing){.length = write_image(out, flags, uid, c, NULL, 0, ram, marks)};
 }
 
 /* ---- the builder: lines, rules, layout, image ---- */
@@ -1019,7 +1047,7 @@ static uint32_t lay_out(const Line *lines, const Owners *o, const bool *covers, 
     return pages;
 }
 
-Building c_build(const uint8_t *bin, size_t nbin, const uint8_t *cfg, size_t ncfg, uint8_t *out, size_t room) {
+Building c_build(const uint8_t *bin, size_t nbin, const uint8_t *cfg, size_t ncfg, const uint8_t *label, size_t nlabel, uint8_t *out, size_t room) {
     Line lines[MOST_LINES];
     Owners o;
     bool covers[16], marks[MOST_PAGES * 16] = {0};
@@ -1038,13 +1066,15 @@ Building c_build(const uint8_t *bin, size_t nbin, const uint8_t *cfg, size_t ncf
     uint32_t pages = lay_out(lines, &o, covers, bin, &c, ram, marks);
     if (4096 * pages > LENT_LIMIT)
         return refused_build(20, 0);
-    size_t length = length_of(ram, marks);
+    if (nlabel > BLOCK_LIMIT || !is_whole(label, nlabel))
+        return refused_build(12, 0);
+    size_t length = length_of(ram, marks) + (nlabel ? 8 + nlabel : 0);
     if (length > room)
         return (Building){.number = 29, .length = length};
     uint8_t flags[16] = {0x55, 0x05}, uid[8];
     put32(uid, c_crc32(bin, nbin));
     put32(uid + 4, c_crc32(cfg, ncfg));
-    return (Building){.length = write_image(out, flags, uid, &c, ram, marks), .needed = 4096 * pages};
+    return (Building){.length = write_image(out, flags, uid, &c, label, nlabel, ram, marks), .needed = 4096 * pages};
 }
 
 /* ---- back to BIN and CFG: the plan behind the tables, its lines, and whether they build the tables and words again ---- */

@@ -50,6 +50,7 @@ typedef struct {
     Cartridge cartridge;
 } Loading;
 
+size_t c_flash_words(const uint8_t *image, size_t n);
 Loading c_load(const uint8_t *image, size_t n, uint16_t *ram, size_t words, size_t flash_words);
 
 /* Where a text stands: file 1 is the label, 2 the image, 0 none. */
@@ -66,6 +67,7 @@ typedef struct {
 } Salvaging;
 
 Salvaging c_salvage(const uint8_t *image, size_t n, uint8_t *out, size_t room);
+size_t c_drops(const uint8_t *image, size_t n, size_t *places, size_t room);
 
 typedef struct {
     uint32_t number;
@@ -80,7 +82,7 @@ typedef struct {
     size_t place, length, needed;
 } Building;
 
-Building c_build(const uint8_t *bin, size_t nbin, const uint8_t *cfg, size_t ncfg, uint8_t *out, size_t room);
+Building c_build(const uint8_t *bin, size_t nbin, const uint8_t *cfg, size_t ncfg, const uint8_t *label, size_t nlabel, uint8_t *out, size_t room);
 
 /* The lengths of what is written; at 29 those that are needed. */
 typedef struct {

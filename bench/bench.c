@@ -13,7 +13,7 @@ typedef LuigiActive Active;
 enum { MIB = 1048576, BIN_BYTES = 524288, ROOM = IMAGE_LIMIT, WORDS = LENT_LIMIT, BLOCK = 65535 };
 enum { SECTORS = 8, FLASH = 768 * SECTORS }; /* the flash of the accelerated cartridge */
 enum { LINES = 1000000, LIST = 26 * LINES }; /* the lines of a list, and room for its text */
-enum { SCRIPT = 20000, TIMES = 500, SAVES = 50, RESETS = 1000000 }; /* 10 million accesses: 500 times a script of 20,000; of saves a million */
+enum { SCRIPT = 20000, TIMES = 500, SAVES = 50, RESETS = 1000000, CALLS = 1000000 }; /* 10 million accesses: 500 times a script of 20,000; of saves a million */
 
 /* ---- inputs, from one seed ---- */
 
@@ -188,12 +188,12 @@ static bool make_inputs(void) {
         narrow[i + 1] = random_bits();
     }
     make_cfg(55);
-    Building one = c_build(bin, BIN_BYTES, cfg, cfg_length, once, ROOM);
+    Building one = c_build(bin, BIN_BYTES, cfg, cfg_length, NULL, 0, once, ROOM);
     once_length = one.length;
     make_cfg(59);
     make_scripts();
     make_list();
-    Building b = c_build(bin, BIN_BYTES, cfg, cfg_length, image, ROOM);
+    Building b = c_build(bin, BIN_BYTES, cfg, cfg_length, NULL, 0, image, ROOM);
     image_length = b.length;
     make_packed();
     make_label();
@@ -236,10 +236,13 @@ static bool same_load(void) {
 }
 
 static void proved_build(void) { luigi_build(&built, bin, BIN_BYTES, cfg, cfg_length, cfg, 0, made[0], ROOM); }
-static void plain_build(void) { building = c_build(bin, BIN_BYTES, cfg, cfg_length, made[1], ROOM); }
+static void plain_build(void) { building = c_build(bin, BIN_BYTES, cfg, cfg_length, NULL, 0, made[1], ROOM); }
 
 static void proved_build_narrow(void) { luigi_build(&built, narrow, BIN_BYTES, cfg, cfg_length, cfg, 0, made[0], ROOM); }
-static void plain_build_narrow(void) { building = c_build(narrow, BIN_BYTES, cfg, cfg_length, made[1], ROOM); }
+static void plain_build_narrow(void) { building = c_build(narrow, BIN_BYTES, cfg, cfg_length, NULL, 0, made[1], ROOM); }
+
+static void proved_build_labelled(void) { luigi_build(&built, bin, BIN_BYTES, cfg, cfg_length, label, label_length, made[0], ROOM); }
+static void plain_build_labelled(void) { building = c_build(bin, BIN_BYTES, cfg, cfg_length, label, label_length, made[1], ROOM); }
 
 static bool same_build(void) {
     return built.number == 0 && building.number == 0 && built.length == building.length && built.needed == building.needed
@@ -293,6 +296,37 @@ static bool same_salvage(void) {
         && salvaged.dropped == salvaging.dropped && salvaged.stopped == salvaging.stopped && salvaged.stop == salvaging.stop
         && salvaging.dropped == damaged_hunks && salvaging.stopped && !memcmp(made[0], made[1], ROOM);
 }
+
+static size_t places[2][ROOM / 8], drops[2];
+
+static void proved_drops(void) { drops[0] = luigi_drops(damaged, damaged_length, places[0], ROOM / 8); }
+static void plain_drops(void) { drops[1] = c_drops(damaged, damaged_length, places[1], ROOM / 8); }
+static bool same_drops(void) { return drops[0] == damaged_hunks && drops[1] == damaged_hunks && !memcmp(places[0], places[1], sizeof places[0]); }
+
+/* Headers that ask for a flash of 0 to 15 sectors, by turns. */
+static uint8_t headers[16][32];
+static size_t asked[2];
+
+static void make_headers(void) {
+    for (int i = 0; i < 16; i++) {
+        headers[i][6] = 3 | i % 4 << 6;
+        headers[i][7] = i / 4;
+    }
+}
+
+static void proved_flash_words(void) {
+    asked[0] = 0;
+    for (int i = 0; i < CALLS; i++)
+        asked[0] += luigi_flash_words(headers[i % 16], 32);
+}
+
+static void plain_flash_words(void) {
+    asked[1] = 0;
+    for (int i = 0; i < CALLS; i++)
+        asked[1] += c_flash_words(headers[i % 16], 32);
+}
+
+static bool same_asked(void) { return asked[0] == asked[1] && asked[0] > CALLS; }
 
 static uint8_t bin_back[2][BIN_BYTES], cfg_back[2][CFG_LIMIT];
 static LuigiUnbuilt unbuilt;
@@ -465,6 +499,47 @@ static bool same_run(void) {
         && !memcmp(&proved_ran.state, &run_on, sizeof run_on) && !memcmp(words_read[0], words_read[1], sizeof words_read[0]) && !memcmp(ram[0], ram[1], sizeof ram[0]);
 }
 
+/* One call each with the cartridge by value; C changes it in place. */
+static LuigiState by_value;
+static LuigiWrittenState left;
+
+static void proved_read_calls(void) {
+    for (int i = 0; i < CALLS; i++)
+        heard[0][i % SCRIPT] = luigi_read_by_value(by_value, ram[0], WORDS, read_at[i % SCRIPT]);
+}
+
+static void plain_read_calls(void) {
+    for (int i = 0; i < CALLS; i++)
+        heard[1][i % SCRIPT] = c_read(&run_on, ram[1], WORDS, read_at[i % SCRIPT]);
+}
+
+static void proved_write_calls(void) {
+    for (int i = 0; i < CALLS; i++) {
+        luigi_write_by_value(&left, by_value, ram[0], WORDS, flash[0], FLASH, write_at[i % SCRIPT], value[i % SCRIPT]);
+        by_value = left.state;
+        assigned[0][i % SCRIPT] = left.assigned;
+    }
+}
+
+static void plain_write_calls(void) {
+    for (int i = 0; i < CALLS; i++)
+        assigned[1][i % SCRIPT] = c_write(&run_on, ram[1], WORDS, flash[1], FLASH, write_at[i % SCRIPT], value[i % SCRIPT]);
+}
+
+static void proved_reset_calls(void) {
+    for (int i = 0; i < CALLS; i++) {
+        luigi_reset_by_value(&left.state, by_value);
+        by_value = left.state;
+    }
+}
+
+static void plain_reset_calls(void) {
+    for (int i = 0; i < CALLS; i++)
+        c_reset(&run_on);
+}
+
+static bool same_by_value(void) { return !memcmp(&by_value, &run_on, sizeof run_on) && !memcmp(ram[0], ram[1], sizeof ram[0]) && same_numbers(); }
+
 /* ---- measuring ---- */
 
 typedef struct {
@@ -483,10 +558,12 @@ static const Row rows[] = {
     {"loading 600 KB in 16-bit data blocks", 25, proved_load, plain_load, same_load, 0},
     {"building from a BIN of 512 KB, 16-bit data blocks", 25, proved_build, plain_build, same_build, 0},
     {"building from a BIN of 512 KB, 8-bit and 10-bit data blocks", 25, proved_build_narrow, plain_build_narrow, same_build, 0},
+    {"building from a BIN of 512 KB with a label of 64 KB", 25, proved_build_labelled, plain_build_labelled, same_build, 0},
     {"writing an image of 600 KB from tables and RAM", 25, proved_write_image, plain_write_image, same_image, 0},
     {"looking up a text: a label of 64 KB, an image of 650 KB that repeats it", 25, proved_find, plain_find, same_find, 0},
     {"looking up a text: a label of 64 KB, an image of 67 KB without hunks", 25, proved_find_shelf, plain_find_shelf, same_find, 0},
     {"salvaging 600 KB, every tenth hunk damaged", 25, proved_salvage, plain_salvage, same_salvage, 0},
+    {"the places of what a salvage of these 600 KB leaves out", 25, proved_drops, plain_drops, same_drops, 0},
     {"back to a BIN of 512 KB and a CFG", 25, proved_unbuild, plain_unbuild, same_unbuild, 0},
     {"10 million bus reads", 9, proved_reads, plain_reads, same_heard, 1e7},
     {"10 million bus writes, every 16th a flip", 9, proved_writes, plain_writes, same_writes, 1e7},
@@ -499,8 +576,12 @@ static const Row rows[] = {
     {"10 million multiplies by JLP", 9, proved_multiplies, plain_multiplies, same_accelerated, 1e7},
     {"a million writes to the flash's registers, every third a command", 9, proved_saves, plain_saves, same_saves, 1e6},
     {"a list of a million lines, read and run", 9, proved_run, plain_run, same_run, 1e6},
+    {"a million questions how much flash an image asks for", 9, proved_flash_words, plain_flash_words, same_asked, 1e6},
     {"10 million bus reads, the cartridge by value", 3, proved_reads_by_value, plain_reads, same_heard, 1e7},
     {"10 million bus writes, the cartridge by value", 3, proved_writes_by_value, plain_writes, same_worlds, 1e7},
+    {"a million bus reads, the cartridge by value, a call each", 3, proved_read_calls, plain_read_calls, same_heard, 1e6},
+    {"a million bus writes, the cartridge by value, a call each", 3, proved_write_calls, plain_write_calls, same_by_value, 1e6},
+    {"a million resets, the cartridge by value", 3, proved_reset_calls, plain_reset_calls, same_by_value, 1e6},
 };
 
 /* Processor time, so that what else the machine does counts little. */
@@ -550,9 +631,13 @@ int main(void) {
         l.cartridge.permissions[p] |= 8; /* BANKSW */
     banked[0] = banked[1] = l.cartridge;
     make_marks();
+    make_headers();
     printf("| what | Rattle / C | C | Rattle's rate |\n|---|---|---|---|\n");
     bool fine = true;
-    for (size_t i = 0; i < sizeof rows / sizeof rows[0]; i++)
+    for (size_t i = 0; i < sizeof rows / sizeof rows[0]; i++) {
+        memcpy(&by_value, &given, sizeof given);
+        memcpy(&run_on, &given, sizeof given);
         fine = measure(&rows[i]) && fine;
+    }
     return fine ? 0 : 1;
 }
