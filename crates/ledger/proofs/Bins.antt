@@ -170,8 +170,8 @@ module _ (ks : List ℕ) (ps : List Bool) (ram : List ℕ) where
   pub rom-none : (out : List ℕ) → length (joined be16 (romWords (planIn ks ps) (wordsIn ram))) ≤ length out → RomPieces out out 0 0
   rom-none out h = pieces-none (isRom (planIn ks ps)) romPiece out h
 
-  rom-size : (p : ℕ) → 512 ≡ length (joined be16 (romPiece p))
-  rom-size p = sym (length-bytes (romPiece p) ∙ ap (λ (m : ℕ). 2 * m) (length-table 256 (λ i. wordsIn ram (plainPlace (planIn ks ps) p + i))))
+  rom-size : (p : ℕ) → 2 * paragraphSize ≡ length (joined be16 (romPiece p))
+  rom-size p = sym (length-bytes (romPiece p) ∙ ap (λ (m : ℕ). 2 * m) (length-table paragraphSize (λ i. wordsIn ram (plainPlace (planIn ks ps) p + i))))
 
   rom-on : (p : ℕ) → getD ks p 0 ≡ 1 → isRom (planIn ks ps) p ≡ true
   rom-on p e = rw (kind-in ks ps p) (eq-eqb (getD ks p 0) 1 e)
@@ -180,12 +180,12 @@ module _ (ks : List ℕ) (ps : List Bool) (ram : List ℕ) where
     pub rom-off : p < paragraphs → (getD ks p 0 ≡ 1 → ⊥) → (out′ : List ℕ) (at′ : ℕ) → out′ ≡ out → at′ ≡ at → RomPieces out₀ out′ at′ (p + 1)
     rom-off h e = pieces-off (isRom (planIn ks ps)) romPiece out₀ out at p c h (rw (kind-in ks ps p) (ne-eqb (getD ks p 0) 1 e))
 
-    pub rom-room : p < paragraphs → getD ks p 0 ≡ 1 → at + 512 ≤ length out
-    rom-room h e = pieces-room (isRom (planIn ks ps)) romPiece out₀ out at p c h (rom-on p e) 512 (rom-size p)
+    pub rom-room : p < paragraphs → getD ks p 0 ≡ 1 → at + 2 * paragraphSize ≤ length out
+    rom-room h e = pieces-room (isRom (planIn ks ps)) romPiece out₀ out at p c h (rom-on p e) (2 * paragraphSize) (rom-size p)
 
     pub rom-more : p < paragraphs → getD ks p 0 ≡ 1 → (a : ℕ) (ys : List ℕ) → a ≡ plainPlace (planIn ks ps) p → ys ≡ joined be16 (wordsFrom (wordsIn ram) a paragraphSize)
-        → (out′ : List ℕ) (at′ : ℕ) → out′ ≡ putMid at (at + 512 - at) out ys → at′ ≡ at + 512 → RomPieces out₀ out′ at′ (p + 1)
-    rom-more h e a ys ea ey = pieces-on (isRom (planIn ks ps)) romPiece out₀ out at p c h (rom-on p e) 512 (rom-size p) ys (ey ∙ rw ea)
+        → (out′ : List ℕ) (at′ : ℕ) → out′ ≡ putMid at (at + 2 * paragraphSize - at) out ys → at′ ≡ at + 2 * paragraphSize → RomPieces out₀ out′ at′ (p + 1)
+    rom-more h e a ys ea ey = pieces-on (isRom (planIn ks ps)) romPiece out₀ out at p c h (rom-on p e) (2 * paragraphSize) (rom-size p) ys (ey ∙ rw ea)
 
     pub rom-all : paragraphs ≤ p → out ≡ putFront (joined be16 (romWords (planIn ks ps) (wordsIn ram))) out₀
     rom-all h = pieces-all (isRom (planIn ks ps)) romPiece out₀ out at p c h

@@ -18,7 +18,7 @@ use Rattle.canon.specs.Canonical.{mappingEntries, pageEntry, ramEntry, romEntry
 use Rattle.canon.specs.Laws.Lines.{canonicalLines, line, memattrLine, pageLine, ramLine, romLine}
 use Rattle.basics.specs.Laws.Listed.{length-listed}
 use Rattle.basics.specs.Listed.{listed}
-use Rattle.ledger.specs.Code.Lists.{added, listOf, listingOf, mappingLines, romLines, shown}
+use Rattle.ledger.specs.Code.Lists.{added, listOf, listingOf, mappingLines, mostMapping, romLines, shown}
 use Rattle.ledger.specs.Held.{planIn}
 use Rattle.ledger.specs.Laws.Held.{page-in}
 use Rattle.ledger.specs.Laws.Lists.{added-list}
@@ -106,31 +106,31 @@ module _ (ks : List ℕ) (ps : List Bool) where
   pub roms-all : (f : Found) (p : ℕ) → Roms f p → paragraphs ≤ p → f ≡ listOf (romLines q)
   roms-all f p c h = gathered-all [] (startsRom q) (romLine q) 0 f p c h
 
-  pub roms-few : (f : Found) (p : ℕ) → Roms f p → f .count ≤ 256
+  pub roms-few : (f : Found) (p : ℕ) → Roms f p → f .count ≤ paragraphs
   roms-few f p c = gathered-few [] (startsRom q) (romLine q) 0 f p c
 
   -- pages
   abbrev pub Pages : Found → ℕ → Type 0
-  Pages f n = Gathered (romLines q) (hasPage q) (pageLine q) 256 f n
+  Pages f n = Gathered (romLines q) (hasPage q) (pageLine q) paragraphs f n
 
-  pub pages-none : (f : Found) → f ≡ listOf (romLines q) → f .count ≤ 256 → Pages f 0
-  pages-none f e h = gathered-none (romLines q) (hasPage q) (pageLine q) 256 f e (omega (arith, ap (λ (x : Found). x .count) e))
+  pub pages-none : (f : Found) → f ≡ listOf (romLines q) → f .count ≤ paragraphs → Pages f 0
+  pages-none f e h = gathered-none (romLines q) (hasPage q) (pageLine q) paragraphs f e (omega (arith, ap (λ (x : Found). x .count) e))
 
   pub pages-more : (f : Found) (n : ℕ) → Pages f n → n < flipEntries → getD ps n false ≡ true → (e : Entry) (a v : Found) → e ≡ pageEntry q n
       → a ≡ added f (line (2 + f .count) e) → v ≡ a → Pages v (n + 1)
   pages-more f n c h t e a v ee ea ev =
       let k : 2 + f .count ≡ 2 + count (startsRom q) 256 + count (hasPage q) n =
-      omega (arith, gathered-count (romLines q) (hasPage q) (pageLine q) 256 f n c, length-listed 256 (startsRom q) (romLine q)) in
-      gathered-on (romLines q) (hasPage q) (pageLine q) 256 f n c h (page-in ks ps n ∙ t) (line (2 + f .count) e) v (ap₂ line k ee) (ev ∙ ea)
+      omega (arith, gathered-count (romLines q) (hasPage q) (pageLine q) paragraphs f n c, length-listed 256 (startsRom q) (romLine q)) in
+      gathered-on (romLines q) (hasPage q) (pageLine q) paragraphs f n c h (page-in ks ps n ∙ t) (line (2 + f .count) e) v (ap₂ line k ee) (ev ∙ ea)
 
   pub pages-off : (f : Found) (n : ℕ) → Pages f n → n < flipEntries → getD ps n false ≡ false → (v : Found) → v ≡ f → Pages v (n + 1)
-  pages-off f n c h t v ev = gathered-off (romLines q) (hasPage q) (pageLine q) 256 f n c h (page-in ks ps n ∙ t) v ev
+  pages-off f n c h t v ev = gathered-off (romLines q) (hasPage q) (pageLine q) paragraphs f n c h (page-in ks ps n ∙ t) v ev
 
   pub pages-all : (f : Found) (n : ℕ) → Pages f n → flipEntries ≤ n → f ≡ listOf (mappingLines q)
-  pages-all f n c h = gathered-all (romLines q) (hasPage q) (pageLine q) 256 f n c h
+  pages-all f n c h = gathered-all (romLines q) (hasPage q) (pageLine q) paragraphs f n c h
 
-  pub pages-few : (f : Found) (n : ℕ) → Pages f n → f .count ≤ 512
-  pages-few f n c = gathered-few (romLines q) (hasPage q) (pageLine q) 256 f n c
+  pub pages-few : (f : Found) (n : ℕ) → Pages f n → f .count ≤ mostMapping
+  pages-few f n c = gathered-few (romLines q) (hasPage q) (pageLine q) paragraphs f n c
 
   -- RAM
   mapping-long : length (mappingLines q) ≡ length (mappingEntries q)
@@ -152,17 +152,17 @@ module _ (ks : List ℕ) (ps : List Bool) where
   pub record Rams (names : ℕ) (f : Found) (n : ℕ) : Type 0 where
     pub small : names ≤ 3
     pub named : names ≡ cond (eqb (length (mappingLines q)) 0) 2 3
-    pub gathered : Gathered (mappingLines q) (startsRam q) (ramLine q) 512 f n
-    pub few : f .count ≤ 512 + n
+    pub gathered : Gathered (mappingLines q) (startsRam q) (ramLine q) mostMapping f n
+    pub few : f .count ≤ mostMapping + n
     pub up : n ≤ 256
 
-  pub rams-none : (f : Found) (names : ℕ) → f ≡ listOf (mappingLines q) → f .count ≤ 512 → names ≡ cond (eqb (f .count) 0) 2 3 → names ≤ 3 → Rams names f 0
+  pub rams-none : (f : Found) (names : ℕ) → f ≡ listOf (mappingLines q) → f .count ≤ mostMapping → names ≡ cond (eqb (f .count) 0) 2 3 → names ≤ 3 → Rams names f 0
   rams-none f names e h en s =
       let k : f .count ≡ length (mappingLines q) = ap (λ (x : Found). x .count) e in
-      let g : Gathered (mappingLines q) (startsRam q) (ramLine q) 512 f 0 = gathered-none (mappingLines q) (startsRam q) (ramLine q) 512 f e (omega arith) in
+      let g : Gathered (mappingLines q) (startsRam q) (ramLine q) mostMapping f 0 = gathered-none (mappingLines q) (startsRam q) (ramLine q) mostMapping f e (omega arith) in
       record { small = s; named = en ∙ ap (λ (m : ℕ). cond (eqb m 0) 2 3) k; gathered = g; few = g .few; up = omega arith }
 
-  rams-next : (names p : ℕ) (f v : Found) → Rams names f p → Gathered (mappingLines q) (startsRam q) (ramLine q) 512 v (p + 1) → Rams names v (p + 1)
+  rams-next : (names p : ℕ) (f v : Found) → Rams names f p → Gathered (mappingLines q) (startsRam q) (ramLine q) mostMapping v (p + 1) → Rams names v (p + 1)
   rams-next names p f v c g = record { small = c .small; named = c .named; gathered = g; few = g .few; up = g .up }
 
   pub rams-more : (f : Found) (names p : ℕ) (o : Bool) → Rams names f p → p < paragraphs → o ≡ startsRam q p → o ≡ true → (e : Entry) (a v : Found) → e ≡ ramEntry q p
@@ -170,17 +170,17 @@ module _ (ks : List ℕ) (ps : List Bool) where
   rams-more f names p o c h eo t e a v ee ea ev =
       let m : ℕ = length (mappingLines q) in
       let k : names + f .count ≡ 1 + memattrLine q + count (startsRam q) p =
-      ap₂ _+_ (c .named) (gathered-count (mappingLines q) (startsRam q) (ramLine q) 512 f p (c .gathered))
+      ap₂ _+_ (c .named) (gathered-count (mappingLines q) (startsRam q) (ramLine q) mostMapping f p (c .gathered))
       ∙ numbered m (count (startsRam q) p) ∙ ap (λ (j : ℕ). 1 + cond (eqb j 0) 1 (2 + j) + count (startsRam q) p) mapping-long in
       rams-next names p f v c
-      (gathered-on (mappingLines q) (startsRam q) (ramLine q) 512 f p (c .gathered) h (sym eo ∙ t) (line (names + f .count) e) v (ap₂ line k ee) (ev ∙ ea))
+      (gathered-on (mappingLines q) (startsRam q) (ramLine q) mostMapping f p (c .gathered) h (sym eo ∙ t) (line (names + f .count) e) v (ap₂ line k ee) (ev ∙ ea))
 
   pub rams-off : (f : Found) (names p : ℕ) (o : Bool) → Rams names f p → p < paragraphs → o ≡ startsRam q p → o ≡ false → (v : Found) → v ≡ f → Rams names v (p + 1)
-  rams-off f names p o c h eo t v ev = rams-next names p f v c (gathered-off (mappingLines q) (startsRam q) (ramLine q) 512 f p (c .gathered) h (sym eo ∙ t) v ev)
+  rams-off f names p o c h eo t v ev = rams-next names p f v c (gathered-off (mappingLines q) (startsRam q) (ramLine q) mostMapping f p (c .gathered) h (sym eo ∙ t) v ev)
 
   pub rams-all : (f : Found) (names p : ℕ) → Rams names f p → paragraphs ≤ p → f ≡ listOf (canonicalLines q)
   rams-all f names p c h =
-      gathered-all (mappingLines q) (startsRam q) (ramLine q) 512 f p (c .gathered) h
+      gathered-all (mappingLines q) (startsRam q) (ramLine q) mostMapping f p (c .gathered) h
       ∙ ap listOf (append-assoc (romLines q) (listed 256 (hasPage q) (pageLine q)) (listed 256 (startsRam q) (ramLine q)))
 
   -- all

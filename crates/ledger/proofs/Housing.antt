@@ -10,7 +10,7 @@ use lib.ListN.{getD}
 use Rattle.basics.specs.Counts.{count}
 use Rattle.basics.specs.Laws.Counts.{count-last}
 use Rattle.basics.specs.Laws.Joined.{Somewhere, somewhere-all}
-use Rattle.places.specs.Limits.{chapterPages, chapterParagraphs, chapters, pageParagraphs, paragraphSize}
+use Rattle.places.specs.Limits.{chapterPages, chapterParagraphs, chapters, layers, pageParagraphs, paragraphSize}
 use Rattle.switches.specs.Flips.{firstK}
 use Rattle.plan.specs.Image.{base, holdsRam, pageAt, ramCoveredOf, size}
 use Rattle.plan.specs.Plan.{hasPlain}
@@ -64,7 +64,7 @@ size-is ks ps x a n b eb ea en = rw (ea, eb, en)
 pub record Based (ks : List ℕ) (ps : List Bool) (x b i : ℕ) : Type 0 where
   pub up : i ≤ x
   pub most : x ≤ chapters
-  pub few : b ≤ 17 * i
+  pub few : b ≤ layers * i
   pub is : b ≡ base (planIn ks ps) i
 
 module _ (ks : List ℕ) (ps : List Bool) (x : ℕ) where
@@ -73,14 +73,14 @@ module _ (ks : List ℕ) (ps : List Bool) (x : ℕ) where
   based-none h = record { up = omega arith; most = h; few = omega arith; is = refl }
 
   module _ (b i : ℕ) (c : Based ks ps x b i) where
-    pub based-more : (v : ℕ) → i < x → v ≡ size (planIn ks ps i) → v ≤ 17 → Based ks ps x (b + v) (i + 1)
+    pub based-more : (v : ℕ) → i < x → v ≡ size (planIn ks ps i) → v ≤ layers → Based ks ps x (b + v) (i + 1)
     unfolding base
     based-more v h e m = record { up = omega arith; most = c .most; few = omega (arith, c .few); is = rw (add-one, e, c .is) }
 
     pub based-all : x ≤ i → b ≡ base (planIn ks ps) x
     based-all h = let z : i ≡ x = omega (arith, c .up) in c .is ∙ ap (base (planIn ks ps)) z
 
-    pub based-few : b ≤ 17 * x
+    pub based-few : b ≤ layers * x
     based-few = omega (arith, c .up, c .few)
 
 -- the places

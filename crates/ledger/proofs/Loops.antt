@@ -118,7 +118,7 @@ page-next q i false g = let z : pageOffset q i + 0 ≡ pageOffset q i = omega ar
 pub record Offsets (ks : List ℕ) (ps : List Bool) (n o i : ℕ) : Type 0 where
   pub up : i ≤ n
   pub below : n ≤ flipEntries
-  pub few : o ≤ 65536 + 4096 * i
+  pub few : o ≤ paragraphSize * paragraphs + chapterSize * i
   pub is : o ≡ pageOffset (planIn ks ps) i
 
 module _ (ks : List ℕ) (ps : List Bool) (n : ℕ) where
@@ -127,14 +127,14 @@ module _ (ks : List ℕ) (ps : List Bool) (n : ℕ) where
   offsets-none o h e m = record { up = omega arith; below = h; few = omega arith; is = e }
 
   module _ (o i : ℕ) (c : Offsets ks ps n o i) where
-    pub offsets-more : (v : ℕ) → i < n → v ≡ cond (getD ps i false) (pageWords (i / 16)) 0 → v ≤ 4096 → Offsets ks ps n (o + v) (i + 1)
+    pub offsets-more : (v : ℕ) → i < n → v ≡ cond (getD ps i false) (pageWords (i / 16)) 0 → v ≤ chapterSize → Offsets ks ps n (o + v) (i + 1)
     offsets-more v h e m =
         record { up = omega arith; below = c .below; few = omega (arith, c .few); is = rw (add-one, e, c .is) (page-next (planIn ks ps) i (getD ps i false) (page-in ks ps i)) }
 
     pub offsets-all : n ≤ i → o ≡ pageOffset (planIn ks ps) n
     offsets-all h = let z : i ≡ n = omega (arith, c .up) in c .is ∙ ap (pageOffset (planIn ks ps)) z
 
-    pub offsets-few : o ≤ 65536 + 4096 * n
+    pub offsets-few : o ≤ paragraphSize * paragraphs + chapterSize * n
     offsets-few = omega (arith, c .up, c .few)
 
 -- by a flag

@@ -6,6 +6,7 @@ ghost use mathlib.Core.Bool.{not};
 ghost use lib.Dec.{eqb};
 ghost use lib.ListN.{getD, length};
 ghost use Rattle.basics.specs.Lists.{joined, putFront};
+ghost use Rattle.places.specs.Limits.{chapterSize, pageSize, slots};
 ghost use Rattle.canon.specs.Bin.{be16, canonicalBin, pagedWords, romWords, wordsFrom};
 ghost use Rattle.canon.specs.Laws.Bin.{binSize};
 ghost use Rattle.ledger.specs.Held.{planIn, wordsIn};
@@ -45,7 +46,7 @@ fn put_each(out: &mut [u8], words: &[u16])
 
 // n words from word a on, of which some may lie past the RAM's end, into a part of just their size.
 fn put_past(out: &mut [u8], ram: &[u16], a: usize, n: usize)
-    requires { ⌜ (length (now out) ≡ 2 * n) × (a ≤ 2000000) × (n ≤ 4096) ⌝ }
+    requires { ⌜ (length (now out) ≡ 2 * n) × (a ≤ pageSize * slots) × (n ≤ chapterSize) ⌝ }
     ensures { λ _. ⌜ now (out .exit) ≡ joined be16 (wordsFrom (wordsIn (now (ram .entry))) a n) ⌝ }
 {
     let mut i = 0;
@@ -59,7 +60,7 @@ fn put_past(out: &mut [u8], ram: &[u16], a: usize, n: usize)
 
 // n words from word a on, into a part of just their size: as a rule the RAM has them all, and none is asked for by itself.
 fn put_words(out: &mut [u8], ram: &[u16], a: usize, n: usize)
-    requires { ⌜ (length (now out) ≡ 2 * n) × (a ≤ 2000000) × (n ≤ 4096) ⌝ }
+    requires { ⌜ (length (now out) ≡ 2 * n) × (a ≤ pageSize * slots) × (n ≤ chapterSize) ⌝ }
     ensures { λ _. ⌜ now (out .exit) ≡ joined be16 (wordsFrom (wordsIn (now (ram .entry))) a n) ⌝ }
 {
     let e = a + n;
@@ -84,7 +85,7 @@ fn put_roms(
     let mut p = 0;
     while p < PARAGRAPHS {
         if kinds[p] == 1 {
-            let e = at + 512;
+            let e = at + 2 * PARAGRAPH_SIZE;
             let a = plain_place(kinds, pages, p);
             put_words(&mut out[at..e], ram, a, PARAGRAPH_SIZE);
             at = e;

@@ -3,7 +3,7 @@ ghost use Prim.Native.Nat.{_+_, _*_, _-_, _≤_, _<_};
 ghost use mathlib.Core.Path.{_≡_};
 ghost use mathlib.Core.Bool.{cond, _&&_};
 ghost use lib.Dec.{eqb};
-ghost use Rattle.places.specs.Limits.{chapters, flipEntries, paragraphs, paragraphSize};
+ghost use Rattle.places.specs.Limits.{chapterSize, flipEntries, paragraphs, paragraphSize};
 ghost use Rattle.canon.specs.Canonical.{pageEntry, pageOffset, pageWords, ramEntry, ramWidth, romEntry, romOffset, runAt, startsRam, startsRom};
 ghost use Rattle.ledger.specs.Held.{planIn, startsIn};
 use basics::both;
@@ -100,13 +100,13 @@ fn rom_offset(kinds: &[u8; PARAGRAPHS], pages: &[bool; FLIP_ENTRIES], p: usize) 
 
 // The words of a page of chapter x; none where there is no page.
 pub(crate) fn page_words(x: usize) -> usize
-    ensures { λ r. ⌜ (r ≡ pageWords x) × ((1 ≤ r) × (r ≤ 4096)) ⌝ }
+    ensures { λ r. ⌜ (r ≡ pageWords x) × ((1 ≤ r) × (r ≤ chapterSize)) ⌝ }
 {
     PARAGRAPH_SIZE * (CHAPTER_PARAGRAPHS - first_k(x))
 }
 
 fn words_if(on: bool, x: usize) -> usize
-    ensures { λ r. ⌜ (r ≡ cond on (pageWords x) 0) × (r ≤ 4096) ⌝ }
+    ensures { λ r. ⌜ (r ≡ cond on (pageWords x) 0) × (r ≤ chapterSize) ⌝ }
 {
     if on { page_words(x) } else { 0 }
 }
@@ -114,7 +114,7 @@ fn words_if(on: bool, x: usize) -> usize
 // The BIN word where page n % 16 of chapter n / 16 starts.
 pub(crate) fn page_offset(kinds: &[u8; PARAGRAPHS], pages: &[bool; FLIP_ENTRIES], n: usize) -> usize
     requires { ⌜ n ≤ flipEntries ⌝ }
-    ensures { λ r. ⌜ (r ≡ pageOffset (planIn (now (kinds .entry)) (now (pages .entry))) n) × (r ≤ 65536 + 4096 * n) ⌝ }
+    ensures { λ r. ⌜ (r ≡ pageOffset (planIn (now (kinds .entry)) (now (pages .entry))) n) × (r ≤ paragraphSize * paragraphs + chapterSize * n) ⌝ }
 {
     let mut o = rom_offset(kinds, pages, PARAGRAPHS);
     let mut i = 0;

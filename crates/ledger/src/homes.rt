@@ -2,7 +2,7 @@
 ghost use Prim.Native.Nat.{_*_, _≤_, _<_};
 ghost use mathlib.Core.Path.{_≡_};
 ghost use Rattle.basics.specs.Counts.{count};
-ghost use Rattle.places.specs.Limits.{chapterPages, chapters, flipEntries, paragraphs};
+ghost use Rattle.places.specs.Limits.{chapterPages, chapters, flipEntries, layers, pageSize, paragraphs, slots};
 ghost use Rattle.plan.specs.Image.{base, holdsRam, ramCoveredOf, size};
 ghost use Rattle.plan.specs.Plan.{hasPlain};
 ghost use Rattle.plan.specs.Valid.{isRamKind};
@@ -51,14 +51,14 @@ fn pages_below(kinds: &[u8; PARAGRAPHS], pages: &[bool; FLIP_ENTRIES], x: usize,
 // The Locutus pages of chapter x, and those of the chapters before it.
 fn size_of(kinds: &[u8; PARAGRAPHS], pages: &[bool; FLIP_ENTRIES], x: usize) -> usize
     requires { ⌜ x < chapters ⌝ }
-    ensures { λ r. ⌜ (r ≡ size (planIn (now (kinds .entry)) (now (pages .entry)) x)) × (r ≤ 17) ⌝ }
+    ensures { λ r. ⌜ (r ≡ size (planIn (now (kinds .entry)) (now (pages .entry)) x)) × (r ≤ layers) ⌝ }
 {
     one_if(has_plain(kinds, pages, x)) + pages_below(kinds, pages, x, CHAPTER_PAGES)
 }
 
 fn base_of(kinds: &[u8; PARAGRAPHS], pages: &[bool; FLIP_ENTRIES], x: usize) -> usize
     requires { ⌜ x ≤ chapters ⌝ }
-    ensures { λ r. ⌜ (r ≡ base (planIn (now (kinds .entry)) (now (pages .entry))) x) × (r ≤ 17 * x) ⌝ }
+    ensures { λ r. ⌜ (r ≡ base (planIn (now (kinds .entry)) (now (pages .entry))) x) × (r ≤ layers * x) ⌝ }
 {
     let mut b = 0;
     let mut i = 0;
@@ -72,7 +72,7 @@ fn base_of(kinds: &[u8; PARAGRAPHS], pages: &[bool; FLIP_ENTRIES], x: usize) -> 
 // The Locutus word where plain paragraph p starts.
 pub(crate) fn plain_place(kinds: &[u8; PARAGRAPHS], pages: &[bool; FLIP_ENTRIES], p: usize) -> usize
     requires { ⌜ p < paragraphs ⌝ }
-    ensures { λ r. ⌜ (r ≡ plainPlace (planIn (now (kinds .entry)) (now (pages .entry))) p) × (r ≤ 2000000) ⌝ }
+    ensures { λ r. ⌜ (r ≡ plainPlace (planIn (now (kinds .entry)) (now (pages .entry))) p) × (r ≤ pageSize * slots) ⌝ }
 {
     let b = base_of(kinds, pages, p / CHAPTER_PARAGRAPHS);
     PARAGRAPH_SIZE * (PAGE_PARAGRAPHS * b + p % CHAPTER_PARAGRAPHS)
@@ -81,7 +81,7 @@ pub(crate) fn plain_place(kinds: &[u8; PARAGRAPHS], pages: &[bool; FLIP_ENTRIES]
 // The one where page n % 16 of chapter n / 16 starts.
 pub(crate) fn page_place(kinds: &[u8; PARAGRAPHS], pages: &[bool; FLIP_ENTRIES], n: usize) -> usize
     requires { ⌜ n < flipEntries ⌝ }
-    ensures { λ r. ⌜ (r ≡ pagePlace (planIn (now (kinds .entry)) (now (pages .entry))) n) × (r ≤ 2000000) ⌝ }
+    ensures { λ r. ⌜ (r ≡ pagePlace (planIn (now (kinds .entry)) (now (pages .entry))) n) × (r ≤ pageSize * slots) ⌝ }
 {
     let x = n / CHAPTER_PAGES;
     let b = base_of(kinds, pages, x);

@@ -3,15 +3,16 @@ mod bin;
 mod entries;
 mod homes;
 
-ghost use Prim.Native.Nat.{_≤_};
+ghost use Prim.Native.Nat.{_+_, _≤_};
 ghost use mathlib.Core.Path.{_≡_};
 ghost use mathlib.Core.List.{[]};
 ghost use mathlib.Core.Bool.{cond};
 ghost use lib.Dec.{eqb};
 ghost use lib.ListN.{set};
+ghost use Rattle.places.specs.Limits.{paragraphs};
 ghost use Rattle.canon.specs.Laws.Lines.{canonicalLines, line};
 ghost use Rattle.ledger.specs.Held.{planIn};
-ghost use Rattle.ledger.specs.Code.Lists.{added, listOf, listingOf, mappingLines, romLines};
+ghost use Rattle.ledger.specs.Code.Lists.{added, listOf, listingOf, mappingLines, mostLines, mostMapping, romLines};
 pub use bin::bin_size;
 pub use bin::put_bin;
 pub use bin::word_of;
@@ -65,7 +66,7 @@ fn store(lines: [Line; LINE_LIMIT], at: usize, e: Line) -> [Line; LINE_LIMIT]
 
 // One line more.
 fn add(f: Found, source: usize, e: Entry) -> Found
-    requires { ⌜ (f .count ≤ 65536) × (source ≤ 65536) ⌝ }
+    requires { ⌜ (f .count ≤ mostLines) × (source ≤ 3 + mostLines) ⌝ }
     ensures { λ r. ⌜ r ≡ added f (line source e) ⌝ }
 {
     let old = f.lines;
@@ -85,7 +86,7 @@ fn add(f: Found, source: usize, e: Entry) -> Found
 
 // The lines of ROM.
 fn roms_of(kinds: &[u8; PARAGRAPHS], pages: &[bool; FLIP_ENTRIES]) -> Found
-    ensures { λ r. ⌜ (r ≡ listOf (romLines (planIn (now (kinds .entry)) (now (pages .entry))))) × (r .count ≤ 256) ⌝ }
+    ensures { λ r. ⌜ (r ≡ listOf (romLines (planIn (now (kinds .entry)) (now (pages .entry))))) × (r .count ≤ paragraphs) ⌝ }
 {
     let mut f = none_found();
     let mut p = 0;
@@ -100,8 +101,8 @@ fn roms_of(kinds: &[u8; PARAGRAPHS], pages: &[bool; FLIP_ENTRIES]) -> Found
 
 // Behind them those of the pages.
 fn with_pages(kinds: &[u8; PARAGRAPHS], pages: &[bool; FLIP_ENTRIES], roms: Found) -> Found
-    requires { ⌜ (roms ≡ listOf (romLines (planIn (now kinds) (now pages)))) × (roms .count ≤ 256) ⌝ }
-    ensures { λ r. ⌜ (r ≡ listOf (mappingLines (planIn (now (kinds .entry)) (now (pages .entry))))) × (r .count ≤ 512) ⌝ }
+    requires { ⌜ (roms ≡ listOf (romLines (planIn (now kinds) (now pages)))) × (roms .count ≤ paragraphs) ⌝ }
+    ensures { λ r. ⌜ (r ≡ listOf (mappingLines (planIn (now (kinds .entry)) (now (pages .entry))))) × (r .count ≤ mostMapping) ⌝ }
 {
     let mut f = roms;
     let mut n = 0;
@@ -128,7 +129,7 @@ fn with_rams(
     names: usize,
     mapping: Found,
 ) -> Found
-    requires { ⌜ (mapping ≡ listOf (mappingLines (planIn (now kinds) (now pages)))) × (mapping .count ≤ 512) × (names ≡ cond (eqb (mapping .count) 0) 2 3) × (names ≤ 3) ⌝ }
+    requires { ⌜ (mapping ≡ listOf (mappingLines (planIn (now kinds) (now pages)))) × (mapping .count ≤ mostMapping) × (names ≡ cond (eqb (mapping .count) 0) 2 3) × (names ≤ 3) ⌝ }
     ensures { λ r. ⌜ r ≡ listOf (canonicalLines (planIn (now (kinds .entry)) (now (pages .entry)))) ⌝ }
 {
     let mut f = mapping;

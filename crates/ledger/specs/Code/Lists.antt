@@ -35,6 +35,13 @@ romLines q = listed paragraphs (startsRom q) (romLine q)
 abbrev pub mappingLines : Plan → List Line
 mappingLines q = romLines q ++ listed flipEntries (hasPage q) (pageLine q)
 
+-- no plan has more lines of [mapping] than one for each paragraph and one for each page; those of RAM are no more than the paragraphs
+abbrev pub mostMapping : ℕ
+mostMapping = paragraphs + flipEntries
+
+abbrev pub mostLines : ℕ
+mostLines = mostMapping + paragraphs
+
 -- all canonical lines
 unfoldable pub listingOf : Plan → Listing
 listingOf q = record { mapping = length (mappingEntries q); count = length (canonicalLines q); lines = shown (canonicalLines q) }

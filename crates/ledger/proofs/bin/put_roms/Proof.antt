@@ -37,6 +37,7 @@ put-roms-spec =
     loop-holds
     (λ c. search needs)
     (λ c. search needs)
+    (λ c. search needs)
     (λ c κs. search needs)
     (λ c. search needs)
     (λ c. search needs)
