@@ -11,7 +11,7 @@ use Rattle.basics.specs.Counts.{all}
 use Rattle.basics.specs.Laws.Counts.{all-more, all-none}
 use Rattle.basics.specs.Laws.Tables.{Filled, filled-all, filled-more, filled-none, getD-table}
 use Rattle.basics.specs.Tables.{table}
-use Rattle.places.specs.Limits.{chapters, flipEntries, locutusParagraphs, paragraphs}
+use Rattle.places.specs.Limits.{chapters, flipEntries, layers, locutusParagraphs, paragraphs, slots}
 use Rattle.tables.specs.Tables.{tables}
 use Rattle.plan.specs.Image.{size}
 use Rattle.plan.specs.Plan.{Chapter, hasPage, kinds}
@@ -31,8 +31,8 @@ module _ (ps fs : List ℕ) (ms : List Bool) where
 
   -- the rows of the first x chapters, which have b Locutus pages
   pub record Rows (rows : List Shown) (b x : ℕ) : Type 0 where
-    pub up : x ≤ 16
-    pub few : b ≤ 17 * x
+    pub up : x ≤ chapters
+    pub few : b ≤ layers * x
     pub is : b ≡ base x
     pub filled : Filled blankRow chapters (shownBehind ps fs ms) x rows
 
@@ -46,7 +46,7 @@ module _ (ps fs : List ℕ) (ms : List Bool) where
         filled = filled-none blankRow chapters (shownBehind ps fs ms) rows (ap length e ∙ length-replicate chapters blankRow);
       }
 
-  pub rows-more : (rows : List Shown) (b x : ℕ) (s : Shown) (n : ℕ) → Rows rows b x → x < chapters → s ≡ shownAt fs ms x b → n ≡ size (chapterOf ps fs s x) → n ≤ 17
+  pub rows-more : (rows : List Shown) (b x : ℕ) (s : Shown) (n : ℕ) → Rows rows b x → x < chapters → s ≡ shownAt fs ms x b → n ≡ size (chapterOf ps fs s x) → n ≤ layers
       → Rows (set rows x s) (b + n) (x + 1)
   unfolding baseBehind
   rows-more rows b x s n c h es en l =
@@ -61,7 +61,7 @@ module _ (ps fs : List ℕ) (ms : List Bool) where
   pub rows-all : (rows : List Shown) (b x : ℕ) → Rows rows b x → chapters ≤ x → rows ≡ table chapters (shownBehind ps fs ms)
   rows-all rows b x c h = filled-all blankRow chapters (shownBehind ps fs ms) x rows (c .filled) h
 
-  pub rows-low : (rows : List Shown) (b x : ℕ) → Rows rows b x → b ≤ 272
+  pub rows-low : (rows : List Shown) (b x : ℕ) → Rows rows b x → b ≤ slots
   rows-low rows b x c = omega (arith, c .few, c .up)
 
   -- a row of them

@@ -9,7 +9,7 @@ use lib.Dec.{eqb, leb}
 use lib.ListN.{List·getD-eq-default, getD, length}
 use Rattle.basics.specs.Counts.{any, count}
 use Rattle.basics.specs.Laws.Counts.{any-more, any-none, count-last}
-use Rattle.places.specs.Limits.{chapterPages}
+use Rattle.places.specs.Limits.{chapterPages, layers}
 use Rattle.switches.specs.Flips.{firstK}
 use Rattle.plan.specs.Image.{size}
 use Rattle.plan.specs.Plan.{Chapter, hasPlain}
@@ -87,5 +87,5 @@ module _ (c : Chapter) where
       let q : n ≡ count (c .page) 16 = s .pages ∙ ap (count (c .page)) z in
       rw (ea, p, q)
 
-  pub sized-few : (plain : Bool) (n k a : ℕ) → Sized c plain n k → a ≤ 1 → a + n ≤ 17
+  pub sized-few : (plain : Bool) (n k a : ℕ) → Sized c plain n k → a ≤ 1 → a + n ≤ layers
   sized-few plain n k a s h = omega (arith, s .up, s .few)

@@ -5,7 +5,7 @@ ghost use mathlib.Core.Bool.{_&&_, cond, false, not};
 ghost use lib.Dec.{eqb};
 ghost use lib.ListN.{getD};
 ghost use Rattle.basics.specs.Counts.{any};
-ghost use Rattle.places.specs.Limits.{chapterPages, chapterParagraphs, chapters, pageParagraphs, paragraphs};
+ghost use Rattle.places.specs.Limits.{chapterPages, chapterParagraphs, chapters, layers, pageParagraphs, paragraphs, slots};
 ghost use Rattle.plan.specs.Image.{size};
 ghost use Rattle.plan.specs.Valid.{allowed, mayFlip, quiet};
 ghost use Rattle.behind.specs.Behind.{absent, hasEntries, kindShown};
@@ -14,6 +14,7 @@ use basics::both;
 use basics::either;
 use places::CHAPTER_PAGES;
 use places::CHAPTER_PARAGRAPHS;
+use places::Console;
 use places::FLIP_ENTRIES;
 use places::LOCUTUS_PARAGRAPHS;
 use places::PAGE_PARAGRAPHS;
@@ -72,7 +73,7 @@ fn is_paged(flips: &[u16; FLIP_ENTRIES], x: usize) -> bool
 
 // The entry of a page that is not there, where the chapter's Locutus pages start at b.
 fn empty_entry(flips: &[u16; FLIP_ENTRIES], x: usize, b: usize) -> u16
-    requires { ⌜ (x < chapters) × (b ≤ 272) ⌝ }
+    requires { ⌜ (x < chapters) × (b ≤ slots) ⌝ }
     ensures { λ r. ⌜ r ≡ absent (rowIn (now (flips .entry)) x) b ⌝ }
 {
     if has_eight(flips, x) {
@@ -91,7 +92,7 @@ fn is_marked(marks: &[bool], p: usize) -> bool
 
 // Plain ROM lies beneath the pages: the entry is not 8, and paragraph 8 of Locutus page b is named.
 fn is_under(marks: &[bool; LOCUTUS_PARAGRAPHS], empty: u16, b: usize) -> bool
-    requires { ⌜ b ≤ 272 ⌝ }
+    requires { ⌜ b ≤ slots ⌝ }
     ensures { λ r. ⌜ r ≡ (not (eqb empty 8) && getD (now (marks .entry)) (pageParagraphs * b + 8) false) ⌝ }
 {
     both(empty != 8, is_marked(marks, PAGE_PARAGRAPHS * b + 8))
@@ -103,7 +104,7 @@ pub(crate) fn row_at(
     x: usize,
     b: usize,
 ) -> Shown
-    requires { ⌜ (x < chapters) × (b ≤ 272) ⌝ }
+    requires { ⌜ (x < chapters) × (b ≤ slots) ⌝ }
     ensures { λ r. ⌜ r ≡ shownAt (now (flips .entry)) (now (marks .entry)) x b ⌝ }
 {
     let paged = is_paged(flips, x);
@@ -121,8 +122,7 @@ fn is_quiet(p: usize) -> bool
     requires { ⌜ p < paragraphs ⌝ }
     ensures { λ r. ⌜ r ≡ quiet p ⌝ }
 {
-    let a = PARAGRAPH_SIZE * p;
-    either(either(a < 0x500, a / 0x1000 == 1), a / 0x1000 == 3)
+    cart::is_silent(Console((PARAGRAPH_SIZE * p) as u16))
 }
 
 // Paragraph p may be of this kind.
@@ -181,7 +181,7 @@ pub(crate) fn size_of(
     x: usize,
 ) -> usize
     requires { ⌜ x < chapters ⌝ }
-    ensures { λ r. ⌜ (r ≡ size (chapterOf (now (permissions .entry)) (now (flips .entry)) s x)) × (r ≤ 17) ⌝ }
+    ensures { λ r. ⌜ (r ≡ size (chapterOf (now (permissions .entry)) (now (flips .entry)) s x)) × (r ≤ layers) ⌝ }
 {
     let mut plain = false;
     let mut n = 0;
