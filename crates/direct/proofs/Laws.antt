@@ -3,8 +3,8 @@ use Prim.Native.Nat.{ℕ, _≤_}
 use native.Mathlib.Omega.{arith}
 use mathlib.Core.List.{List}
 use mathlib.Core.Path.{_≡_, refl, sym, ap, subst, _∙_}
-use mathlib.Core.Bool.{Bool, true, false, cond, not, _&&_}
-use Rattle.basics.specs.Laws.Tests.{cases, and-left, and-right, cond-true, not-true}
+use mathlib.Core.Bool.{Bool, true, false, not, _&&_}
+use Rattle.basics.specs.Laws.Tests.{cases, and-left, and-right, not-true}
 use Rattle.places.specs.declared.Console.{Console}
 use Rattle.switches.specs.Flips.{Active}
 use Rattle.flash.specs.declared.Command.the-variants.{Nothing}
@@ -17,6 +17,7 @@ use Rattle.jlp.specs.Laws.Window.{between-low, between-high, between-in}
 use Rattle.jlp.specs.Accelerators.{takes, latches, writtenJlp}
 use Rattle.jlp.specs.Laws.Accelerators.{on-takes, unlatched}
 use Rattle.registers.specs.Words.{wordsOf, jlpFrom, operates, behindOperand}
+use Rattle.registers.specs.Laws.Words.{behind-operand, behind-other}
 use Rattle.cart.specs.declared.Answer.{Answer}
 use Rattle.cart.specs.declared.Cell.{Cell}
 use Rattle.cart.specs.Cells.{cellAt, windowCell}
@@ -117,9 +118,6 @@ module _ (j : Jlp) (a : Active) (flips : List ℕ) (at : Console) (v kept : ℕ)
       → Left j a flips at v kept flash ram n q x y u z f
   by-switch n q x y u z f t l = (l .0, l .1, l .2, l .3, l .4 ∙ ap wordsOf (sym (unlatched j at v (sym e ∙ t))), l .5, l .6)
 
-unless : (b : Bool) (x y : List ℕ) → b ≡ false → cond b x y ≡ y
-unless b x y e = rw e
-
 -- before both, the write of an operand: nobody but the accelerators changes
 module _ (w : List ℕ) (a : Active) (flips : List ℕ) (at : Console) (v kept : ℕ) (flash ram : List ℕ) (b : Bool) (u : List ℕ) (e : (b ≡ operates (jlpFrom w) at) × (u ≡ behindOperand w at v)) where
   module _ (t : b ≡ true) where
@@ -153,21 +151,19 @@ module _ (w : List ℕ) (a : Active) (flips : List ℕ) (at : Console) (v kept :
     left-so = ap (acted (jlpFrom w .saves .sectors) (memories flash ram)) nothing
 
     pub by-operand : Left (jlpFrom w) a flips at v kept flash ram 0 kept (a .mapping) (a .permissions) u ram flash
-    unfolding behindOperand
     by-operand = (
       by-assigned (jlpFrom w) a flips at v _ Accelerators refl taken 0 refl,
       by-readable (jlpFrom w) a flips at v _ Accelerators refl taken kept kept refl,
       by-mapping (jlpFrom w) a flips at v _ Accelerators refl taken (a .mapping) refl,
       by-permissions (jlpFrom w) a flips at v _ Accelerators refl taken (a .permissions) refl,
-      e .1 ∙ cond-true (operates (jlpFrom w) at) (wordsOf (writtenJlp (jlpFrom w) at v)) w done,
+      e .1 ∙ behind-operand w at v done,
       by-ram (jlpFrom w) a flips at v _ Accelerators refl taken flash ram ram (ap (λ (m : Memories). m .ram) (sym left-so)),
       by-flash (jlpFrom w) a flips at v _ Accelerators refl taken flash ram flash (ap (λ (m : Memories). m .flash) (sym left-so)),
     )
 
   -- any other leaves the words to the next
   pub passed-on : b ≡ false → (n q : ℕ) (x y r z f : List ℕ) → Left (jlpFrom u) a flips at v kept flash ram n q x y r z f → Left (jlpFrom w) a flips at v kept flash ram n q x y r z f
-  unfolding behindOperand
   passed-on t n q x y r z f =
       let k : operates (jlpFrom w) at ≡ false = sym (e .0) ∙ t in
-      let s : u ≡ w = e .1 ∙ unless (operates (jlpFrom w) at) (wordsOf (writtenJlp (jlpFrom w) at v)) w k in
+      let s : u ≡ w = e .1 ∙ behind-other w at v k in
       subst (λ (l : List ℕ). Left (jlpFrom l) a flips at v kept flash ram n q x y r z f) s

@@ -1,12 +1,12 @@
 -- One law for each return: what the code has tested and called, as the words that it leaves.
 use Prim.Native.Nat.{ℕ, _-_, _+_, _*_, _/_, _<_, _≤_}
-use mathlib.Core.Bool.{Bool, true, false, cond, not, _&&_, _||_}
+use mathlib.Core.Bool.{Bool, true, false, not, _&&_, _||_}
 use mathlib.Core.List.{List}
 use mathlib.Core.Path.{_≡_, refl, sym, ap, _∙_}
 use native.Mathlib.Omega.{arith}
 use lib.ListN.{getD, set}
 use borrow.Author.Tests.{ne-eqb}
-use Rattle.basics.specs.Laws.Tests.{cond-true, not-true, not-false}
+use Rattle.basics.specs.Laws.Tests.{not-true, not-false}
 use Rattle.places.specs.declared.Console.{Console}
 use Rattle.flash.specs.declared.Saves.{Saves}
 use Rattle.flash.specs.Registers.{remembered}
@@ -18,7 +18,7 @@ use Rattle.jlp.specs.Laws.Window.{between-low, between-high}
 use Rattle.jlp.specs.Accelerators.{operandCount, withOn, turnsOn, turnsOff, takes, latches, functionOf, operated, crcAfter, withCrcAndSaves, writtenOn, writtenJlp}
 use Rattle.registers.specs.Words.{wordsOf, jlpFrom, operates, behindOperand}
 use Rattle.registers.specs.Code.Tidy.{Tidy}
-use Rattle.registers.specs.Laws.Words.{turned, noted, operand-at, laid-out, from-tidied, tidy-now}
+use Rattle.registers.specs.Laws.Words.{turned, noted, operand-at, laid-out, from-tidied, tidy-now, behind-operand, behind-other}
 
 pub takes-is : (w : List ℕ) (at : Console) (v f : ℕ) (t o i b r : Bool) → f ≡ jlpFrom w .field → t ≡ turnsOn f at v → o ≡ jlpFrom w .on → i ≡ inWindow at
     → b ≡ o && i → r ≡ t || b → r ≡ takes (jlpFrom w) at v
@@ -127,13 +127,9 @@ module _ (at : Console) (h : isOperand at ≡ true) where
   operand-written j v o = by-on j at v (operand-turns (j .field) v) o ∙ rw (operand-keeps v, h)
 
 -- off, no operand, and one that computes
-unless : (b : Bool) (x y : List ℕ) → b ≡ false → cond b x y ≡ y
-unless b x y e = rw e
-
 module _ (w : List ℕ) (at : Console) (v : ℕ) where
   stays : operates (jlpFrom w) at ≡ false → (false ≡ operates (jlpFrom w) at) × (w ≡ behindOperand w at v)
-  unfolding behindOperand
-  stays e = (sym e, sym (unless (operates (jlpFrom w) at) (wordsOf (writtenJlp (jlpFrom w) at v)) w e))
+  stays e = (sym e, sym (behind-other w at v e))
 
   module _ (o : Bool) (k : o ≡ jlpFrom w .on) where
     pub operates-off : not o ≡ true → (false ≡ operates (jlpFrom w) at) × (w ≡ behindOperand w at v)
@@ -147,10 +143,10 @@ module _ (w : List ℕ) (at : Console) (v : ℕ) where
 
       pub operates-so : not b ≡ false → (x y : List ℕ) → x ≡ wordsOf (jlpFrom w) → y ≡ wordsOf (operated (jlpFrom x) (at .0 - operandsStart) v)
           → (true ≡ operates (jlpFrom w) at) × (y ≡ behindOperand w at v)
-      unfolding operates behindOperand
+      unfolding operates
       operates-so m x y e f =
           let i : isOperand at ≡ true = sym g ∙ not-false b m in
           let h : operates (jlpFrom w) at ≡ true = rw (← k, not-false o n, i) in
           let l : y ≡ wordsOf (writtenJlp (jlpFrom w) at v) =
           f ∙ ap wordsOf (ap (λ (j : Jlp). operated j (at .0 - operandsStart) v) (from-tidied w x e) ∙ sym (operand-written at i (jlpFrom w) v (sym k ∙ not-false o n))) in
-          (sym h, l ∙ sym (cond-true (operates (jlpFrom w) at) (wordsOf (writtenJlp (jlpFrom w) at v)) w h))
+          (sym h, l ∙ sym (behind-operand w at v h))

@@ -16,7 +16,7 @@ use Rattle.jlp.specs.declared.Jlp.{Jlp}
 use Rattle.jlp.specs.declared.Results.{Results}
 use Rattle.jlp.specs.Window.{isOperand, operandsStart}
 use Rattle.jlp.specs.Accelerators.{operandCount, withOn, turnsOn, turnsOff, withCrcAndSaves, writtenOn, writtenJlp}
-use Rattle.registers.specs.Words.{acceleratorWords, oneIf, wordsOf, jlpFrom}
+use Rattle.registers.specs.Words.{acceleratorWords, oneIf, wordsOf, jlpFrom, operates, behindOperand}
 use Rattle.registers.specs.Code.Tidy.{Tidy}
 
 on-again : (b : Bool) → not (eqb (oneIf b) 0) ≡ b
@@ -68,6 +68,16 @@ pub written-again : (w : List ℕ) (at : Console) (v : ℕ) → jlpFrom (wordsOf
 written-again w at v =
     words-again (writtenJlp (jlpFrom w) at v) (omega (arith, field-kept (jlpFrom w) at v))
     (count-kept (jlpFrom w) at v ∙ length-table operandCount (λ i. getD w (2 + i) 0))
+
+-- a write to an operand while they are on leaves the words that it computes; any other leaves them as they are
+module _ (w : List ℕ) (at : Console) (v : ℕ) where
+  pub behind-operand : operates (jlpFrom w) at ≡ true → behindOperand w at v ≡ wordsOf (writtenJlp (jlpFrom w) at v)
+  unfolding behindOperand
+  behind-operand e = rw e
+
+  pub behind-other : operates (jlpFrom w) at ≡ false → behindOperand w at v ≡ w
+  unfolding behindOperand
+  behind-other e = rw e
 
 -- any words made tidy, in place
 pub tidied : (w : List ℕ) (on : ℕ) → length w ≡ acceleratorWords → on ≡ oneIf (not (eqb (getD w 1 0) 0)) → set (set w 0 (getD w 0 0 % 256)) 1 on ≡ wordsOf (jlpFrom w)
