@@ -18,7 +18,7 @@ use Rattle.lines.specs.declared.Entry.the-variants.{Rom}
 use Rattle.lines.specs.declared.Line.{Line}
 use Rattle.print.specs.Code.Texts.{textOf}
 use Rattle.print.specs.declared.Text.{Text}
-use Rattle.sheet.specs.Code.Sheets.{cfgLines, entryBytes, headed, linesBytes, mappingName, memattrName, sectionsBytes, sheetOf}
+use Rattle.sheet.specs.Code.Sheets.{cfgLines, entryBytes, headed, linesBytes, mappingName, memattrName, sectionsBytes, sheetOf, sheetSize}
 use Rattle.sheet.specs.Laws.Sheets.{sections-cfg, text-front, text-room}
 use Rattle.sheet.specs.declared.Sheet.{Sheet}
 
@@ -158,7 +158,7 @@ module _ (ls : List Line) (m n : ℕ) (x y : List ℕ) (ex : x ≡ mappingName) 
 
 -- the sheet
 pub sheet-is : (mapping count c m len : ℕ) (ls : List Line) (bytes : List ℕ) → c ≡ min count lineLimit → m ≡ min mapping c → len ≡ length (sectionsBytes ls m (c - m))
-    → bytes ≡ putFront (sectionsBytes ls m (c - m)) (replicate 4096 0) → _≡_ {A = Sheet} (record { bytes = bytes; length = len }) (sheetOf (cfgLines mapping count ls))
+    → bytes ≡ putFront (sectionsBytes ls m (c - m)) (replicate sheetSize 0) → _≡_ {A = Sheet} (record { bytes = bytes; length = len }) (sheetOf (cfgLines mapping count ls))
 unfolding sheetOf
 sheet-is mapping count c m len ls bytes ec em el eb =
     let x : sectionsBytes ls m (c - m) ≡ cfgLines mapping count ls = sections-cfg ls m (c - m) ∙ rw (em, ec) in

@@ -14,7 +14,7 @@ use Rattle.canon.specs.Laws.Bin.{binSize, length-bin}
 use Rattle.ledger.specs.Held.{planIn, wordsIn}
 use Rattle.ledger.specs.declared.Listing.{Listing}
 use Rattle.retrace.specs.declared.Sketch.{Sketch}
-use Rattle.sheet.specs.Code.Sheets.{sheetOf}
+use Rattle.sheet.specs.Code.Sheets.{sheetOf, sheetSize}
 use Rattle.sheet.specs.Laws.Sheets.{cfg-few, sheet-front}
 use Rattle.sheet.specs.declared.Sheet.{Sheet}
 use Rattle.unbuild.specs.Code.Answers.{AnswersBy, bare, binIn, cfgIn}
@@ -32,7 +32,7 @@ module _ (l : Listing) (text : Sheet) (et : text ≡ sheetOf (cfgIn l)) where
   unfolding sheetOf
   text-long = ap (λ (t : Sheet). t .length) et
 
-  pub text-few : text .length ≤ 4096
+  pub text-few : text .length ≤ sheetSize
   text-few = omega (arith, text-long, cfg-few (l .mapping) (l .count) (l .lines))
 
   module _ (s : Sketch) (ram bin cfg : List ℕ) (h : length (binIn s ram) ≤ binLimit) (n : ℕ) (en : n ≡ 2 * max 1 (binSize (planIn (s .kinds) (s .pages)))) (t : Bool)

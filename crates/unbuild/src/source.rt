@@ -7,7 +7,7 @@ ghost use Rattle.basics.specs.Lists.{putFront};
 ghost use Rattle.places.specs.Limits.{binLimit};
 ghost use Rattle.canon.specs.Laws.Bin.{binSize};
 ghost use Rattle.ledger.specs.Held.{planIn, wordsIn};
-ghost use Rattle.sheet.specs.Code.Sheets.{sheetOf};
+ghost use Rattle.sheet.specs.Code.Sheets.{sheetOf, sheetSize};
 ghost use Rattle.unbuild.specs.Code.Answers.{AnswersBy, bare, binIn, cfgIn};
 use crate::Unbuilding;
 use basics::Refusal;
@@ -52,7 +52,7 @@ fn write_bin(s: Sketch, ram: &[u16], bin: &mut [u8])
 }
 
 fn write_cfg(s: Sheet, cfg: &mut [u8])
-    requires { ⌜ s .length ≤ 4096 ⌝ }
+    requires { ⌜ s .length ≤ sheetSize ⌝ }
     ensures { λ _. ⌜ now (cfg .exit) ≡ putFront (take (s .length) (s .bytes)) (now (cfg .entry)) ⌝ }
 {
     let n = s.length;

@@ -23,9 +23,13 @@ abbrev pub cfgLines : ℕ → ℕ → List Line → List ℕ
 cfgLines mapping count ls =
     cfgOfLines ls (min mapping (min count lineLimit)) (min count lineLimit - min mapping (min count lineLimit))
 
--- a written CFG at the front of 4,096 zeros
+-- the most bytes of a written CFG, and some more
+abbrev pub sheetSize : ℕ
+sheetSize = 4096
+
+-- a written CFG at the front of so many zeros
 unfoldable pub sheetOf : List ℕ → Sheet
-sheetOf x = record { bytes = putFront x (replicate 4096 0); length = length x }
+sheetOf x = record { bytes = putFront x (replicate sheetSize 0); length = length x }
 
 -- what is written of one entry, of lines, of a section with this first line, of both sections
 unfoldable pub entryBytes : Entry → List ℕ

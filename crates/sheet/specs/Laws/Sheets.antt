@@ -21,7 +21,7 @@ use Rattle.print.specs.Cfg.{cfgText, entryLine, lineText, sectionText}
 use Rattle.print.specs.Code.Texts.{pageDigit, textOf}
 use Rattle.print.specs.declared.Text.{Text}
 use Rattle.places.specs.Limits.{lineLimit}
-use Rattle.sheet.specs.Code.Sheets.{cfgLines, cfgOfLines, entriesIn, entryBytes, headed, linesBytes, mappingName, memattrName, sectionsBytes, sheetOf}
+use Rattle.sheet.specs.Code.Sheets.{cfgLines, cfgOfLines, entriesIn, entryBytes, headed, linesBytes, mappingName, memattrName, sectionsBytes, sheetOf, sheetSize}
 use Rattle.sheet.specs.declared.Sheet.{Sheet}
 
 -- a line has at most 31 bytes
@@ -72,7 +72,7 @@ headed-few : (name : List ℕ) (ls : List Line) → length name ≤ 10 → lengt
 headed-few name [] h = omega arith
 headed-few name (l ∷ ls) h = omega (arith, lines-few (l ∷ ls), length-append name (linesBytes (l ∷ ls)))
 
-pub cfg-few : (mapping count : ℕ) (ls : List Line) → length (cfgLines mapping count ls) ≤ 4096
+pub cfg-few : (mapping count : ℕ) (ls : List Line) → length (cfgLines mapping count ls) ≤ sheetSize
 cfg-few mapping count ls =
     let c : ℕ = min count lineLimit in
     let m : ℕ = min mapping c in
@@ -87,7 +87,7 @@ cfg-few mapping count ls =
     ))
 
 -- what stands at the sheet's front
-pub sheet-front : (x : List ℕ) (s : Sheet) → length x ≤ 4096 → s ≡ sheetOf x → take (s .length) (s .bytes) ≡ x
+pub sheet-front : (x : List ℕ) (s : Sheet) → length x ≤ sheetSize → s ≡ sheetOf x → take (s .length) (s .bytes) ≡ x
 unfolding sheetOf
 sheet-front x s h e =
-    rw e (ap (take (length x)) (put-room x (replicate 4096 0) (omega (arith, length-replicate {A = ℕ} 4096 0))) ∙ take-append-seam x (drop (length x) (replicate 4096 0)))
+    rw e (ap (take (length x)) (put-room x (replicate sheetSize 0) (omega (arith, length-replicate {A = ℕ} sheetSize 0))) ∙ take-append-seam x (drop (length x) (replicate sheetSize 0)))
