@@ -11,7 +11,7 @@ ghost use lib.ListN.{length};
 ghost use Rattle.places.specs.Limits.{lent};
 ghost use Rattle.sums.specs.Crc.{dowcrcOf, crc324Of, crc32Of};
 ghost use Rattle.cart.specs.Cartridges.{fresh};
-ghost use Rattle.lending.specs.Lending.{askedFlash};
+ghost use Rattle.lending.specs.Lending.{flashFor};
 ghost use Rattle.load.specs.Load.{loadingOf, loadRamOf};
 ghost use Rattle.build.specs.Building.{buildingOf, builtOf};
 ghost use Rattle.registers.specs.Words.{jlpFrom};
@@ -106,9 +106,9 @@ fn answered(l: Loading) -> Loaded
 // The words of flash that a load is to be lent: a host asks before it loads. None where the image has no JLP flash, or is too short to ask.
 #[no_mangle]
 pub extern "C" fn luigi_flash_words(image: &[u8]) -> usize
-    ensures { λ r. ⌜ r ≡ askedFlash (now (image .entry)) ⌝ }
+    ensures { λ r. ⌜ r ≡ flashFor (now (image .entry)) ⌝ }
 {
-    lending::asked_flash(image)
+    lending::flash_for(image)
 }
 
 // The load of an image into a lent RAM, with a lent flash.

@@ -8,10 +8,10 @@ use Rattle.header.specs.Header.{flagsOf, uidAt}
 use Rattle.flash.specs.Flash.{sectorLimit, sectorWords}
 use Rattle.tables.specs.Tables.{sectorsOf}
 
--- the most that an image can ask for: 682 sectors of 768 words
+-- the most that refusal 13 lets through: 682 sectors of 768 words, where the ten bits of the flags can say 1,023
 abbrev pub flashLimit : ℕ
 flashLimit = sectorLimit * sectorWords
 
 -- what its flags ask for; none where it is too short to have flags
-unfoldable pub askedFlash : List ℕ → ℕ
-askedFlash image = cond (ltb (length image) uidAt) 0 (sectorsOf (flagsOf image) * sectorWords)
+unfoldable pub flashFor : List ℕ → ℕ
+flashFor image = cond (ltb (length image) uidAt) 0 (sectorsOf (flagsOf image) * sectorWords)

@@ -4,10 +4,10 @@ ghost use mathlib.Core.Path.{_≡_};
 ghost use lib.ListN.{length, replicate};
 ghost use Rattle.places.specs.Limits.{lentLimit};
 ghost use Rattle.flash.specs.Flash.{erasedWord};
-ghost use Rattle.lending.specs.Lending.{flashLimit, askedFlash};
+ghost use Rattle.lending.specs.Lending.{flashLimit, flashFor};
 use places::LENT_LIMIT;
 
-// The most words of flash that an image can ask for.
+// The most words of flash that refusal 13 lets through; the flags of an image can ask for more.
 pub const FLASH_LIMIT: usize = flash::SECTOR_LIMIT * flash::SECTOR_WORDS;
 
 pub fn blank_ram() -> [u16; LENT_LIMIT]
@@ -23,8 +23,8 @@ pub fn erased_flash() -> [u16; FLASH_LIMIT]
 }
 
 // The words of flash that an image asks for: none where it has no JLP flash, or is too short to ask.
-pub fn asked_flash(image: &[u8]) -> usize
-    ensures { λ r. ⌜ r ≡ askedFlash (now (image .entry)) ⌝ }
+pub fn flash_for(image: &[u8]) -> usize
+    ensures { λ r. ⌜ r ≡ flashFor (now (image .entry)) ⌝ }
 {
     if image.len() < header::UID_AT {
         return 0;
@@ -38,7 +38,7 @@ pub fn asked_flash(image: &[u8]) -> usize
 
 // Of so many at most.
 pub fn flash_words(image: &[u8], most: usize) -> usize
-    ensures { λ r. ⌜ r ≡ min (askedFlash (now (image .entry))) most ⌝ }
+    ensures { λ r. ⌜ r ≡ min (flashFor (now (image .entry))) most ⌝ }
 {
-    basics::least(asked_flash(image), most)
+    basics::least(flash_for(image), most)
 }

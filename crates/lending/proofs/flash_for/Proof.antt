@@ -1,9 +1,9 @@
--- `lending::asked_flash` meets its contract: one law for each return.
+-- `lending::flash_for` meets its contract: one law for each return.
 use native.Mathlib.Omega.{arith}
 use borrow.Author.Needs.{needs}
 use Rattle.lending.proofs.Laws.{asks-none, asks-some}
-use Rattle.lending.proofs.asked_flash.Statement.{statement}
-use Rattle.lending.proofs.asked_flash.Tie as tie
+use Rattle.lending.proofs.flash_for.Statement.{statement}
+use Rattle.lending.proofs.flash_for.Tie as tie
 
 returns : tie.Need-returns
 returns c = search (needs, asks-none)
@@ -11,8 +11,8 @@ returns c = search (needs, asks-none)
 returns-2 : tie.Need-returns-2
 returns-2 c = search (needs, asks-some)
 
-pub asked-flash-spec : {M : Type 1} → statement M
-asked-flash-spec =
+pub flash-for-spec : {M : Type 1} → statement M
+flash-for-spec =
     tie.close
     (tie.spec
     returns
