@@ -3,21 +3,21 @@ use Prim.Native.Nat.{ℕ}
 use mathlib.Core.Path.{_∙_, _≡_}
 use mathlib.Core.Bool.{Bool, _||_, cond, false, not, true}
 use lib.Dec.{eqb}
-use borrow.Author.Tests.{eq-eqb, ne-eqb}
 use Rattle.basics.specs.Laws.Tests.{not-false, not-true}
 
 -- one word
-pub word-same : (a b : ℕ) (c : Bool) → a ≡ b → c ≡ cond (eqb a b) c (not c)
-word-same a b c e = rw (eq-eqb a b e)
-
-pub word-other : (a b : ℕ) (c : Bool) → (a ≡ b → ⊥) → not c ≡ cond (eqb a b) c (not c)
-word-other a b c e = rw (ne-eqb a b e)
-
-pub word-is : (a b x y : ℕ) (c r : Bool) → a ≡ x → b ≡ y → r ≡ cond (eqb a b) c (not c) → r ≡ cond (eqb x y) c (not c)
-word-is a b x y c r ea eb er = er ∙ rw (ea, eb)
+pub other-is : (a b x y : ℕ) → a ≡ x → b ≡ y → not (eqb a b) ≡ not (eqb x y)
+other-is a b x y ea eb = rw (ea, eb)
 
 pub blank-is : (a x : ℕ) → a ≡ x → eqb a 0 ≡ eqb x 0
 blank-is a x e = rw e
+
+-- by whether it is drawn
+pub drawn-so : (d n u : Bool) → d ≡ true → n ≡ cond d n u
+drawn-so d n u e = rw e
+
+pub drawn-not : (d n u r : Bool) → d ≡ false → r ≡ u → r ≡ cond d n u
+drawn-not d n u r e q = q ∙ rw e
 
 -- by whether it is RAM
 pub ram-not : (h x b : Bool) → h ≡ x → not h ≡ true → true ≡ (not x || b)

@@ -2,19 +2,18 @@
 ghost use Prim.Native.Nat.{_<_};
 ghost use mathlib.Core.Path.{_≡_};
 ghost use mathlib.Core.Bool.{_||_, cond, not};
-ghost use lib.Dec.{eqb};
+ghost use Rattle.basics.specs.Tables.{table};
 ghost use Rattle.places.specs.Limits.{flipEntries, locutusParagraphs, paragraphs};
 ghost use Rattle.plan.specs.Image.{ramCoveredOf};
 ghost use Rattle.canon.specs.Made.{blankIn};
 ghost use Rattle.ledger.specs.Held.{planIn, wordsIn};
-ghost use Rattle.retrace.specs.Code.Named.{wordNamed};
+ghost use Rattle.retrace.specs.Code.Named.{namedIn, wordNamed};
 ghost use Rattle.rebuild.specs.Fits.{agree, ramFits};
-ghost use Rattle.rebuild.specs.Code.Retraced.{marksFit};
+ghost use Rattle.rebuild.specs.Code.Retraced.{marksFit, unnamedIn};
 use basics::both;
 use ledger::holds_ram;
 use ledger::word_of;
 use places::FLIP_ENTRIES;
-use places::LENT_LIMIT;
 use places::LOCUTUS_PARAGRAPHS;
 use places::PARAGRAPH_SIZE;
 use places::PARAGRAPHS;
@@ -44,27 +43,47 @@ pub(crate) fn agree_bytes(a: &[u8; PARAGRAPHS], b: &[u8; PARAGRAPHS]) -> bool
     r
 }
 
-// A word that two RAMs hold alike is named, and is to be covered; any other is not.
-fn word_fits(a: u16, b: u16, covered: bool) -> bool
-    ensures { λ r. ⌜ r ≡ cond (eqb a b) covered (not covered) ⌝ }
-{
-    if a == b { covered } else { !covered }
-}
-
-// The words that are named are those of the marked paragraphs.
-pub(crate) fn names_fit(zeros: &[u16], ones: &[u16], marks: &[bool; LOCUTUS_PARAGRAPHS]) -> bool
-    ensures { λ r. ⌜ r ≡ marksFit (now (marks .entry)) (wordNamed (now (zeros .entry)) (now (ones .entry))) ⌝ }
+// No word of paragraph p is named: two RAMs hold none alike.
+fn is_unnamed(zeros: &[u16], ones: &[u16], p: usize) -> bool
+    requires { ⌜ p < locutusParagraphs ⌝ }
+    ensures { λ r. ⌜ r ≡ unnamedIn (now (zeros .entry)) (now (ones .entry)) p ⌝ }
 {
     let mut r = true;
     let mut i = 0;
-    while i < LENT_LIMIT {
-        let w = word_fits(
-            word_of(zeros, i),
-            word_of(ones, i),
-            marks[i / PARAGRAPH_SIZE],
-        );
-        r = both(w, r);
+    while i < PARAGRAPH_SIZE {
+        let at = PARAGRAPH_SIZE * p + i;
+        r = both(word_of(zeros, at) != word_of(ones, at), r);
         i += 1;
+    }
+    r
+}
+
+// A paragraph that is drawn is named, whole; of any other no word is.
+fn paragraph_fits(zeros: &[u16], ones: &[u16], named: bool, drawn: bool, p: usize) -> bool
+    requires { ⌜ p < locutusParagraphs ⌝ }
+    ensures { λ r. ⌜ r ≡ cond drawn named (unnamedIn (now (zeros .entry)) (now (ones .entry)) p) ⌝ }
+{
+    if drawn {
+        return named;
+    }
+    is_unnamed(zeros, ones, p)
+}
+
+// The words that are named are those of the drawn paragraphs, where it is known which paragraphs are named.
+pub(crate) fn names_fit(
+    zeros: &[u16],
+    ones: &[u16],
+    named: &[bool; LOCUTUS_PARAGRAPHS],
+    drawn: &[bool; LOCUTUS_PARAGRAPHS],
+) -> bool
+    requires { ⌜ now named ≡ table locutusParagraphs (namedIn (now zeros) (now ones)) ⌝ }
+    ensures { λ r. ⌜ r ≡ marksFit (now (drawn .entry)) (wordNamed (now (zeros .entry)) (now (ones .entry))) ⌝ }
+{
+    let mut r = true;
+    let mut p = 0;
+    while p < LOCUTUS_PARAGRAPHS {
+        r = both(paragraph_fits(zeros, ones, named[p], drawn[p], p), r);
+        p += 1;
     }
     r
 }

@@ -6,9 +6,10 @@ ghost use Prim.Native.Nat.{_*_};
 ghost use mathlib.Core.Path.{_≡_};
 ghost use lib.Dec.{leb};
 ghost use lib.ListN.{length};
-ghost use Rattle.places.specs.Limits.{flipEntries, lentLimit, pageSize, paragraphs};
+ghost use Rattle.basics.specs.Tables.{table};
+ghost use Rattle.places.specs.Limits.{flipEntries, lentLimit, locutusParagraphs, pageSize, paragraphs};
 ghost use Rattle.tables.specs.Tables.{tables};
-ghost use Rattle.retrace.specs.Code.Named.{wordNamed};
+ghost use Rattle.retrace.specs.Code.Named.{namedIn, wordNamed};
 ghost use Rattle.ledger.specs.Code.Lists.{listingOf};
 ghost use Rattle.ledger.specs.Held.{planIn, wordsIn};
 ghost use Rattle.rebuild.specs.Code.Retraced.{drawingFits, listingFits, retracedOf};
@@ -23,6 +24,7 @@ use ledger::lines_of;
 use places::FLIP_ENTRIES;
 use places::LENT_LIMIT;
 use places::LINE_LIMIT;
+use places::LOCUTUS_PARAGRAPHS;
 use places::PAGE_SIZE;
 use places::PARAGRAPHS;
 use retrace::Sketch;
@@ -51,20 +53,22 @@ fn drawing_fits(
     flips: &[u16; FLIP_ENTRIES],
     zeros: &[u16],
     ones: &[u16],
+    named: &[bool; LOCUTUS_PARAGRAPHS],
 ) -> bool
+    requires { ⌜ now named ≡ table locutusParagraphs (namedIn (now zeros) (now ones)) ⌝ }
     ensures { λ r. ⌜ r ≡ drawingFits d (tables (now (mapping .entry)) (now (permissions .entry)) (now (flips .entry))) (wordNamed (now (zeros .entry)) (now (ones .entry))) ⌝ }
 {
     let m = d.mapping;
     let p = d.permissions;
     let f = d.flips;
-    let marks = d.marks;
+    let drawn = d.marks;
     let flat = both(
         agree_words(&m, mapping),
         both(agree_bytes(&p, permissions), agree_words(&f, flips)),
     );
     both(
         pages_fit(d.pages),
-        both(flat, names_fit(zeros, ones, &marks)),
+        both(flat, names_fit(zeros, ones, named, &drawn)),
     )
 }
 
@@ -77,7 +81,9 @@ fn listing_fits(
     flips: &[u16; FLIP_ENTRIES],
     zeros: &[u16],
     ones: &[u16],
+    named: &[bool; LOCUTUS_PARAGRAPHS],
 ) -> bool
+    requires { ⌜ now named ≡ table locutusParagraphs (namedIn (now zeros) (now ones)) ⌝ }
     ensures { λ r. ⌜ r ≡ listingFits l (planIn (s .kinds) (s .pages)) (tables (now (mapping .entry)) (now (permissions .entry)) (now (flips .entry))) (wordNamed (now (zeros .entry)) (now (ones .entry))) (wordsIn (now (zeros .entry))) ⌝ }
 {
     let n = l.count;
@@ -92,7 +98,7 @@ fn listing_fits(
     let kinds = s.kinds;
     let pages = s.pages;
     both(
-        drawing_fits(d, mapping, permissions, flips, zeros, ones),
+        drawing_fits(d, mapping, permissions, flips, zeros, ones, named),
         ram_fits(&kinds, &pages, zeros),
     )
 }
@@ -116,10 +122,10 @@ fn retrace_tables(
     requires { ⌜ (length (now permissions) ≡ paragraphs) × (length (now flips) ≡ flipEntries) ⌝ }
     ensures { λ r. ⌜ r ≡ retracedOf (tables (now (mapping .entry)) (now (permissions .entry)) (now (flips .entry))) (now (zeros .entry)) (now (ones .entry)) ⌝ }
 {
-    let marks = marks_of(zeros, ones);
-    let s = plan_behind(permissions, flips, &marks);
+    let named = marks_of(zeros, ones);
+    let s = plan_behind(permissions, flips, &named);
     let l = listing_of(s);
-    let fits = listing_fits(l, s, mapping, permissions, flips, zeros, ones);
+    let fits = listing_fits(l, s, mapping, permissions, flips, zeros, ones, &named);
     Retraced {
         sketch: s,
         listing: l,

@@ -1,5 +1,5 @@
 -- What is drawn, beside an image's tables and named words; and the plan behind, with its lines.
-use Prim.Native.Nat.{_*_, _/_, ℕ}
+use Prim.Native.Nat.{_*_, _+_, _/_, ℕ}
 use mathlib.Core.List.{List}
 use mathlib.Core.Bool.{Bool, _&&_, cond, false, not}
 use lib.Dec.{leb}
@@ -23,6 +23,10 @@ use Rattle.rebuild.specs.declared.Retraced.{Retraced}
 -- the words that are named are those of the marked paragraphs
 abbrev pub marksFit : List Bool → (ℕ → Bool) → Bool
 marksFit marks named = all lentLimit (λ i. cond (named i) (getD marks (i / paragraphSize) false) (not (getD marks (i / paragraphSize) false)))
+
+-- no word of paragraph p is named
+abbrev pub unnamedIn : List ℕ → List ℕ → ℕ → Bool
+unnamedIn zeros ones p = all paragraphSize (λ i. not (wordNamed zeros ones (paragraphSize * p + i)))
 
 -- the tables, pages and marks of a drawing
 unfoldable pub drawingFits : Drawing → Tables → (ℕ → Bool) → Bool
