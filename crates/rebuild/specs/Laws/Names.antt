@@ -2,7 +2,7 @@
 use Prim.Native.Nat.{_*_, _+_, _/_, suc, zero, ℕ}
 use mathlib.Core.List.{List}
 use mathlib.Core.Path.{_∙_, _≡_, refl, sym}
-use mathlib.Core.Bool.{Bool, _&&_, cond, false, not, true}
+use mathlib.Core.Bool.{Bool, _&&_, and-assoc, cond, false, not, true}
 use native.Mathlib.Omega.{arith}
 use native.Mathlib.Nat.{mul-suc}
 use lib.ListN.{getD}
@@ -14,17 +14,13 @@ use Rattle.places.specs.Limits.{locutusParagraphs, paragraphSize}
 use Rattle.retrace.specs.Code.Named.{namedIn, wordNamed}
 use Rattle.rebuild.specs.Code.Retraced.{marksFit, unnamedIn}
 
-and-and : (a b c : Bool) → a && (b && c) ≡ (a && b) && c
-and-and true b c = refl
-and-and false b c = refl
-
 -- the first n places and those behind them; m parts of n places
 all-add : (f : ℕ → Bool) (n m : ℕ) → all (n + m) f ≡ all m (λ i. f (n + i)) && all n f
 unfolding all
 all-add f n zero = let e : n + 0 ≡ n = omega arith in rw e
 all-add f n (suc m) =
     let e : n + suc m ≡ suc (n + m) = omega arith in
-    rw (e, all-add f n m) (and-and (f (n + m)) (all m (λ i. f (n + i))) (all n f))
+    rw (e, all-add f n m) (sym (and-assoc (f (n + m)) (all m (λ i. f (n + i))) (all n f)))
 
 all-parts : (n m : ℕ) (f : ℕ → Bool) → all (n * m) f ≡ all m (λ p. all n (λ i. f (n * p + i)))
 unfolding all
