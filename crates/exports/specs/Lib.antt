@@ -4,4 +4,5 @@ pub mod Runs
 pub mod States
 pub mod Images
 pub mod Desk
+pub mod Code
 pub mod Laws

@@ -7,10 +7,10 @@ ghost use Rattle.accesses.specs.Runs.{world, ranOf, left, answersIn};
 ghost use Rattle.registers.specs.Words.{jlpFrom};
 ghost use Rattle.cart.specs.Reads.{heard};
 ghost use Rattle.exports.specs.States.{stateOf, cartridgeFrom, writtenAs, ranAs};
+ghost use Rattle.exports.specs.Code.States.{stateWith};
 use crate::fresh;
 use accesses::Ran;
 use cart::Cartridge;
-use cart::Written;
 use places::Console;
 use places::FLIP_ENTRIES;
 use places::PARAGRAPHS;
@@ -89,7 +89,10 @@ pub extern "C" fn luigi_state<'a>(
 pub extern "C" fn luigi_read_by_value(state: State, ram: &[u16], at: u16) -> u32
     ensures { λ r. ⌜ r ≡ heard (readOf (cartridgeFrom state) (now (ram .entry)) (console at)) ⌝ }
 {
-    cart::heard(cart::read(cartridge_from(state), ram, Console(at)))
+    let mapping = state.mapping;
+    let permissions = state.permissions;
+    let words = state.accelerators;
+    direct::read(&mapping, &permissions, &words, ram, Console(at))
 }
 
 // The state that a write leaves, and how many mapping entries it has assigned.
@@ -99,13 +102,27 @@ pub struct WrittenState {
     pub assigned: u8,
 }
 
-fn written_as(w: Written) -> WrittenState
-    ensures { λ r. ⌜ r ≡ writtenAs w ⌝ }
+// The state with other tables that act, another number of readable paragraphs, and other accelerators.
+fn with_active(
+    state: State,
+    mapping: [u16; PARAGRAPHS],
+    permissions: [u8; PARAGRAPHS],
+    readable: u16,
+    accelerators: [u16; ACCELERATOR_WORDS],
+) -> State
+    ensures { λ r. ⌜ r ≡ stateWith state mapping permissions readable accelerators ⌝ }
 {
-    let state = state_of(w.cartridge);
-    WrittenState {
-        state,
-        assigned: w.assigned,
+    let initial_mapping = state.initial_mapping;
+    let initial_permissions = state.initial_permissions;
+    let flips = state.flips;
+    State {
+        initial_mapping,
+        initial_permissions,
+        mapping,
+        permissions,
+        flips,
+        readable,
+        accelerators,
     }
 }
 
@@ -121,8 +138,26 @@ pub extern "C" fn luigi_write_by_value(
         × (now (ram .exit) ≡ writeRamOf (cartridgeFrom state) (now (flash .entry)) (now (ram .entry)) (console at) value)
         × (now (flash .exit) ≡ writeFlashOf (cartridgeFrom state) (now (flash .entry)) (now (ram .entry)) (console at) value) ⌝ }
 {
-    let c = cartridge_from(state);
-    written_as(cart::write(c, ram, flash, Console(at), value))
+    let mut m = state.mapping;
+    let mut p = state.permissions;
+    let flips = state.flips;
+    let mut readable = state.readable;
+    let mut words = state.accelerators;
+    let assigned = direct::write(
+        &mut m,
+        &mut p,
+        &flips,
+        &mut readable,
+        &mut words,
+        ram,
+        flash,
+        Console(at),
+        value,
+    );
+    WrittenState {
+        state: with_active(state, m, p, readable, words),
+        assigned,
+    }
 }
 
 #[no_mangle]
