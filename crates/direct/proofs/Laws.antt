@@ -4,7 +4,7 @@ use native.Mathlib.Omega.{arith}
 use mathlib.Core.List.{List}
 use mathlib.Core.Path.{_≡_, refl, sym, ap, subst, _∙_}
 use mathlib.Core.Bool.{Bool, true, false, not, _&&_}
-use Rattle.basics.specs.Laws.Tests.{cases, and-left, and-right, not-true}
+use Rattle.basics.specs.Laws.Tests.{cases, and-left, and-right, not-true, not-false}
 use Rattle.places.specs.declared.Console.{Console}
 use Rattle.switches.specs.Flips.{Active}
 use Rattle.flash.specs.declared.Command.the-variants.{Nothing}
@@ -22,64 +22,65 @@ use Rattle.cart.specs.declared.Answer.{Answer}
 use Rattle.cart.specs.declared.Cell.{Cell}
 use Rattle.cart.specs.Cells.{cellAt, windowCell}
 use Rattle.cart.specs.declared.Taker.the-variants.{Accelerators}
-use Rattle.cart.specs.Reads.{silent, heard, fetched, readBy}
-use Rattle.cart.specs.Writes.{takerOf, memoriesBy, leaves, leavesRam, leavesFlash, assigned, leavesReadable}
+use Rattle.cart.specs.Reads.{silent, silence, heard, fetched, readBy}
+use Rattle.cart.specs.Writes.{stored, takerOf, memoriesBy, leaves, leavesRam, leavesFlash, assigned, leavesReadable}
 use Rattle.cart.specs.Laws.Writes.{by-mapping, by-permissions, by-ram, by-flash, by-readable, by-assigned}
-use Rattle.direct.specs.declared.Reach.{Reach}
-use Rattle.direct.specs.declared.Reach.the-variants.{Asked, Nobody, At}
-use Rattle.direct.specs.Direct.{windowReach, readReach, asksMore, writeReach, hears, isDone, keeps}
+use Rattle.direct.specs.Direct.{windowReach, readReach, asksMore, writeReach, asked, hears, isDone, keeps}
 use Rattle.direct.specs.Laws.Direct.{Left}
 
--- in the window
+-- in the window, its RAM and a register
 module _ (at : Console) (b : Bool) (e : b ≡ inRam at) where
-  pub window-ram : (c : Cell) → b ≡ true → c ≡ windowCell at → At c ≡ windowReach at
-  window-ram c t h = rw (← e, t, h)
+  pub asks-window : (ram : List ℕ) → not b ≡ true → asked ≡ hears (windowReach at) ram
+  asks-window ram t = rw (← e, not-true b t)
 
-  pub window-register : b ≡ false → Asked ≡ windowReach at
-  window-register t = rw (← e, t)
+  pub hears-window : (ram : List ℕ) (c : Cell) (x : Answer) (n : ℕ) → not b ≡ false → c ≡ windowCell at → x ≡ fetched c ram → n ≡ heard x → n ≡ hears (windowReach at) ram
+  hears-window ram c x n t h k f = rw (← e, not-false b t, ← h, ← k) f
 
-pub ruleset window = (window-ram, window-register)
+  pub done-ram : b ≡ true → true ≡ isDone (windowReach at)
+  done-ram t = rw (← e, t)
+
+  pub keeps-ram : (ram : List ℕ) (c : Cell) (v : ℕ) (x : List ℕ) → b ≡ true → c ≡ windowCell at → x ≡ stored c ram v → x ≡ keeps (windowReach at) ram v
+  keeps-ram ram c v x t h k = rw (← e, t, ← h) k
+
+  pub asks-register : b ≡ false → false ≡ isDone (windowReach at)
+  asks-register t = rw (← e, t)
+
+  pub leaves-register : (ram : List ℕ) (v : ℕ) → b ≡ false → ram ≡ keeps (windowReach at) ram v
+  leaves-register ram v t = rw (← e, t)
 
 -- in the window while they are on, and elsewhere
 module _ (on : Bool) (a : Active) (at : Console) (w b : Bool) (i : w ≡ inWindow at) (e : b ≡ on && w) where
-  pub read-window : (r : Reach) → b ≡ true → r ≡ windowReach at → r ≡ readReach on a at
-  read-window r t h = rw (← i, ← e, t) h
+  pub hears-inside : (ram : List ℕ) (n : ℕ) → b ≡ true → n ≡ hears (windowReach at) ram → n ≡ hears (readReach on a at) ram
+  hears-inside ram n t h = rw (← i, ← e, t) h
 
-  pub write-window : (r : Reach) → b ≡ true → r ≡ windowReach at → r ≡ writeReach on a at
-  write-window r t h = rw (← i, ← e, t) h
+  pub done-inside : (r : Bool) → b ≡ true → r ≡ isDone (windowReach at) → r ≡ isDone (writeReach on a at)
+  done-inside r t h = rw (← i, ← e, t) h
+
+  pub keeps-inside : (ram : List ℕ) (v : ℕ) (x : List ℕ) → b ≡ true → x ≡ keeps (windowReach at) ram v → x ≡ keeps (writeReach on a at) ram v
+  keeps-inside ram v x t h = rw (← i, ← e, t) h
 
   module _ (t : b ≡ false) where
-    pub read-nobody : (s : Bool) → s ≡ silent at → s ≡ true → Nobody ≡ readReach on a at
-    read-nobody s f g = rw (← i, ← e, t, ← f, g)
+    pub hears-nobody : (ram : List ℕ) (s : Bool) → s ≡ silent at → s ≡ true → silence ≡ hears (readReach on a at) ram
+    hears-nobody ram s f g = rw (← i, ← e, t, ← f, g)
 
-    pub read-cell : (s : Bool) (c : Cell) → s ≡ silent at → s ≡ false → c ≡ cellAt a at → At c ≡ readReach on a at
-    read-cell s c f g h = rw (← i, ← e, t, ← f, g, h)
+    pub hears-cell : (ram : List ℕ) (s : Bool) (c : Cell) (x : Answer) (n : ℕ) → s ≡ silent at → s ≡ false → c ≡ cellAt a at → x ≡ fetched c ram → n ≡ heard x → n ≡ hears (readReach on a at) ram
+    hears-cell ram s c x n f g h k q = rw (← i, ← e, t, ← f, g, ← h, ← k) q
 
-    pub write-asks : (m : Bool) → m ≡ asksMore at → m ≡ true → Asked ≡ writeReach on a at
-    write-asks m f g = rw (← i, ← e, t, ← f, g)
+    pub asks-first : (m : Bool) → m ≡ asksMore at → m ≡ true → false ≡ isDone (writeReach on a at)
+    asks-first m f g = rw (← i, ← e, t, ← f, g)
 
-    pub write-cell : (m : Bool) (c : Cell) → m ≡ asksMore at → m ≡ false → c ≡ cellAt a at → At c ≡ writeReach on a at
-    write-cell m c f g h = rw (← i, ← e, t, ← f, g, h)
+    pub leaves-asked : (ram : List ℕ) (m : Bool) (v : ℕ) → m ≡ asksMore at → m ≡ true → ram ≡ keeps (writeReach on a at) ram v
+    leaves-asked ram m v f g = rw (← i, ← e, t, ← f, g)
 
-pub ruleset reads = (read-window, read-nobody, read-cell)
+    pub done-cell : (m : Bool) → m ≡ asksMore at → m ≡ false → true ≡ isDone (writeReach on a at)
+    done-cell m f g = rw (← i, ← e, t, ← f, g)
 
-pub ruleset writes = (write-window, write-asks, write-cell)
+    pub keeps-cell : (ram : List ℕ) (m : Bool) (c : Cell) (v : ℕ) (x : List ℕ) → m ≡ asksMore at → m ≡ false → c ≡ cellAt a at → x ≡ stored c ram v → x ≡ keeps (writeReach on a at) ram v
+    keeps-cell ram m c v x f g h k = rw (← i, ← e, t, ← f, g, ← h) k
 
--- by the case w that the code has found a reach r to be
-module _ (q r w : Reach) (e : r ≡ q) (f : r ≡ w) (ram : List ℕ) where
-  pub hears-by : (n : ℕ) → n ≡ hears w ram → n ≡ hears q ram
-  hears-by n g = rw (← e, f) g
+pub ruleset reads = (asks-window, hears-window, hears-inside, hears-nobody, hears-cell)
 
-  pub hears-cell : (c : Cell) (x : Answer) (n : ℕ) → w ≡ At c → x ≡ fetched c ram → n ≡ heard x → n ≡ hears q ram
-  hears-cell c x n g h k = rw (← e, f, g, ← h) k
-
-  pub done-by : (b : Bool) → b ≡ isDone w → b ≡ isDone q
-  done-by b g = rw (← e, f) g
-
-  pub keeps-by : (v : ℕ) (x : List ℕ) → x ≡ keeps w ram v → x ≡ keeps q ram v
-  keeps-by v x g = rw (← e, f) g
-
-pub ruleset by-reach = (hears-by, hears-cell, done-by, keeps-by)
+pub ruleset stores = (done-ram, keeps-ram, asks-register, leaves-register, done-inside, keeps-inside, asks-first, leaves-asked, done-cell, keeps-cell)
 
 -- a read, by the accelerators that the words are
 pub read-is : (w : List ℕ) (a : Active) (at : Console) (ram : List ℕ) (j : Jlp) (x : Answer) (n : ℕ) → j ≡ jlpFrom w → x ≡ readBy j a ram at → n ≡ heard x → n ≡ heard (readBy (jlpFrom w) a ram at)

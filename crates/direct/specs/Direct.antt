@@ -9,8 +9,13 @@ use Rattle.jlp.specs.Window.{inWindow, inRam, onAt}
 use Rattle.cart.specs.Cells.{cellAt, windowCell}
 use Rattle.cart.specs.Reads.{silent, silence, heard, fetched}
 use Rattle.cart.specs.Writes.{stored}
-use Rattle.direct.specs.declared.Reach.{Reach}
-use Rattle.direct.specs.declared.Reach.the-variants.{Asked, Nobody, At}
+use Rattle.cart.specs.declared.Cell.{Cell}
+
+-- where an access goes: somebody is to be asked first, nobody answers, or a word of the RAM
+pub data Reach : Type 0 where
+  Asked : Reach
+  Nobody : Reach
+  At : Cell → Reach
 
 -- in the accelerators' window, while they are on: their RAM, or a register that is to be asked
 abbrev pub windowReach : Console → Reach

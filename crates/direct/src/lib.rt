@@ -10,7 +10,6 @@ ghost use Rattle.registers.specs.Words.{wordsOf, jlpFrom};
 ghost use Rattle.cart.specs.Reads.{heard, readBy};
 ghost use Rattle.cart.specs.Writes.{leaves, leavesRam, leavesFlash, assigned, leavesReadable};
 ghost use Rattle.direct.specs.Direct.{windowReach, readReach, asksMore, writeReach, hears, isDone, keeps};
-use cart::Cell;
 use places::Console;
 use places::FLIP_ENTRIES;
 use places::PARAGRAPHS;
@@ -19,39 +18,33 @@ use registers::ACCELERATOR_WORDS;
 // What the short way hears where a register is to be asked: above every word, and above silence.
 pub const ASKED: u32 = 0x10001;
 
-// Where an access goes: somebody is to be asked first, nobody answers, or a word of the RAM.
-pub enum Reach {
-    Asked,
-    Nobody,
-    At(Cell),
-}
-
-// In the accelerators' window, while they are on: their RAM, or a register.
-fn window_reach(at: Console) -> Reach
-    ensures { λ r. ⌜ r ≡ windowReach at ⌝ }
+// A read in the accelerators' window, while they are on: of their RAM, or a register is to be asked.
+fn hear_window(ram: &[u16], at: Console) -> u32
+    ensures { λ r. ⌜ r ≡ hears (windowReach at) (now (ram .entry)) ⌝ }
 {
-    if jlp::in_ram(at) {
-        return Reach::At(cart::window_cell(at));
+    if !jlp::in_ram(at) {
+        return ASKED;
     }
-    Reach::Asked
+    cart::heard(cart::fetch(cart::window_cell(at), ram))
 }
 
-// Where a read goes.
-fn read_reach<'a>(
+// What a read gets as one number, or that a register is to be asked.
+pub fn hear<'a>(
     mapping: &'a [u16; PARAGRAPHS],
     permissions: &'a [u8; PARAGRAPHS],
     on: bool,
+    ram: &[u16],
     at: Console,
-) -> Reach
-    ensures { λ r. ⌜ r ≡ readReach on (active (now (mapping .entry)) (now (permissions .entry))) at ⌝ }
+) -> u32
+    ensures { λ r. ⌜ r ≡ hears (readReach on (active (now (mapping .entry)) (now (permissions .entry))) at) (now (ram .entry)) ⌝ }
 {
     if basics::both(on, jlp::in_window(at)) {
-        return window_reach(at);
+        return hear_window(ram, at);
     }
     if cart::is_silent(at) {
-        return Reach::Nobody;
+        return cart::SILENCE;
     }
-    Reach::At(cart::cell_at(mapping, permissions, at))
+    cart::heard(cart::fetch(cart::cell_at(mapping, permissions, at), ram))
 }
 
 // Whether a write there can be more than a store: a bankswitch register, the address of a chapter's page requests, and the one that turns the
@@ -69,39 +62,15 @@ fn asks_more(at: Console) -> bool
     a == jlp::ON_AT
 }
 
-// Where a write goes.
-fn write_reach<'a>(
-    mapping: &'a [u16; PARAGRAPHS],
-    permissions: &'a [u8; PARAGRAPHS],
-    on: bool,
-    at: Console,
-) -> Reach
-    ensures { λ r. ⌜ r ≡ writeReach on (active (now (mapping .entry)) (now (permissions .entry))) at ⌝ }
+// A write in the accelerators' window, while they are on, and whether it was a store to their RAM.
+fn store_window(ram: &mut [u16], at: Console, value: u16) -> bool
+    ensures { λ r. ⌜ (r ≡ isDone (windowReach at)) × (now (ram .exit) ≡ keeps (windowReach at) (now (ram .entry)) value) ⌝ }
 {
-    if basics::both(on, jlp::in_window(at)) {
-        return window_reach(at);
+    if jlp::in_ram(at) {
+        cart::store(cart::window_cell(at), ram, value);
+        return true;
     }
-    if asks_more(at) {
-        return Reach::Asked;
-    }
-    Reach::At(cart::cell_at(mapping, permissions, at))
-}
-
-// What a read gets as one number, or that a register is to be asked.
-pub fn hear<'a>(
-    mapping: &'a [u16; PARAGRAPHS],
-    permissions: &'a [u8; PARAGRAPHS],
-    on: bool,
-    ram: &[u16],
-    at: Console,
-) -> u32
-    ensures { λ r. ⌜ r ≡ hears (readReach on (active (now (mapping .entry)) (now (permissions .entry))) at) (now (ram .entry)) ⌝ }
-{
-    match read_reach(mapping, permissions, on, at) {
-        Reach::Asked => ASKED,
-        Reach::Nobody => cart::SILENCE,
-        Reach::At(cell) => cart::heard(cart::fetch(cell, ram)),
-    }
+    false
 }
 
 // A write that is a store and no more, and whether it was one.
@@ -116,14 +85,14 @@ pub fn store<'a>(
     ensures { λ r. ⌜ (r ≡ isDone (writeReach on (active (now (mapping .entry)) (now (permissions .entry))) at))
         × (now (ram .exit) ≡ keeps (writeReach on (active (now (mapping .entry)) (now (permissions .entry))) at) (now (ram .entry)) value) ⌝ }
 {
-    match write_reach(mapping, permissions, on, at) {
-        Reach::Asked => false,
-        Reach::Nobody => false,
-        Reach::At(cell) => {
-            cart::store(cell, ram, value);
-            true
-        }
+    if basics::both(on, jlp::in_window(at)) {
+        return store_window(ram, at, value);
     }
+    if asks_more(at) {
+        return false;
+    }
+    cart::store(cart::cell_at(mapping, permissions, at), ram, value);
+    true
 }
 
 // What a read gets as one number, whoever answers it.
