@@ -6,7 +6,7 @@ use mathlib.Core.Path.{_≡_, refl, sym, ap, _∙_}
 use native.Mathlib.Omega.{arith}
 use lib.ListN.{getD, set}
 use borrow.Author.Tests.{ne-eqb}
-use Rattle.basics.specs.Laws.Tests.{not-true, not-false}
+use Rattle.basics.specs.Laws.Tests.{cases, and-false, true-is-not-false, not-true, not-false}
 use Rattle.places.specs.declared.Console.{Console}
 use Rattle.flash.specs.declared.Saves.{Saves}
 use Rattle.flash.specs.Registers.{remembered}
@@ -16,14 +16,28 @@ use Rattle.jlp.specs.Arith.{results}
 use Rattle.jlp.specs.Window.{inWindow, inRam, isOperand, onAt, offAt, operandsStart, operandsEnd}
 use Rattle.jlp.specs.Laws.Window.{between-low, between-high}
 use Rattle.jlp.specs.Accelerators.{operandCount, withOn, turnsOn, turnsOff, takes, latches, functionOf, operated, crcAfter, withCrcAndSaves, writtenOn, writtenJlp}
+use Rattle.jlp.specs.Laws.Accelerators.{on-in-window, off-takes, on-takes}
 use Rattle.registers.specs.Words.{wordsOf, jlpFrom, operates, behindOperand}
 use Rattle.registers.specs.Code.Tidy.{Tidy}
 use Rattle.registers.specs.Laws.Words.{turned, noted, operand-at, laid-out, from-tidied, tidy-now, behind-operand, behind-other}
 
-pub takes-is : (w : List ℕ) (at : Console) (v f : ℕ) (t o i b r : Bool) → f ≡ jlpFrom w .field → t ≡ turnsOn f at v → o ≡ jlpFrom w .on → i ≡ inWindow at
-    → b ≡ o && i → r ≡ t || b → r ≡ takes (jlpFrom w) at v
-unfolding takes
-takes-is w at v f t o i b r e g h k l m = m ∙ rw (l, k, h, g, e)
+-- a write is not in the window, or comes while on, or while off
+module _ (w : List ℕ) (at : Console) (v : ℕ) where
+  pub takes-outside : (i : Bool) → i ≡ inWindow at → not i ≡ true → false ≡ takes (jlpFrom w) at v
+  unfolding takes
+  takes-outside i e n =
+      let out : inWindow at ≡ false = sym e ∙ not-true i n in
+      let off : turnsOn (jlpFrom w .field) at v ≡ false =
+      cases (turnsOn (jlpFrom w .field) at v) (λ t. true-is-not-false (on-in-window (jlpFrom w .field) at v t) out) (λ t. t) in
+      rw (off, out) (sym (and-false (jlpFrom w .on) false refl))
+
+  pub takes-on : (i o : Bool) → i ≡ inWindow at → not i ≡ false → o ≡ jlpFrom w .on → o ≡ true → true ≡ takes (jlpFrom w) at v
+  takes-on i o e n f t = sym (on-takes (jlpFrom w) at v (sym f ∙ t) (sym e ∙ not-false i n))
+
+  pub takes-off : (o : Bool) (k : ℕ) (r : Bool) → o ≡ jlpFrom w .on → o ≡ false → k ≡ jlpFrom w .field → r ≡ turnsOn k at v → r ≡ takes (jlpFrom w) at v
+  takes-off o k r f t g h = h ∙ ap (λ (x : ℕ). turnsOn x at v) g ∙ sym (off-takes (jlpFrom w) at v (sym f ∙ t))
+
+pub ruleset taken = (takes-outside, takes-on, takes-off)
 
 pub latches-ram : (w : List ℕ) (at : Console) (v : ℕ) (b : Bool) → b ≡ inRam at → b ≡ true → false ≡ latches (jlpFrom w) at v
 unfolding latches

@@ -117,14 +117,17 @@ pub fn saves_of(w: &[u16; ACCELERATOR_WORDS]) -> Saves
     }
 }
 
-// Whether they take a write.
+// Whether they take a write. The address decides most.
 fn takes(w: &[u16; ACCELERATOR_WORDS], at: Console, value: u16) -> bool
     ensures { λ r. ⌜ r ≡ takes (jlpFrom (now (w .entry))) at value ⌝ }
 {
-    basics::either(
-        jlp::turns_on(field_of(w), at, value),
-        basics::both(is_on(w), jlp::in_window(at)),
-    )
+    if !jlp::in_window(at) {
+        return false;
+    }
+    if is_on(w) {
+        return true;
+    }
+    jlp::turns_on(field_of(w), at, value)
 }
 
 // Whether a write goes to one of their registers.
