@@ -85,18 +85,16 @@ fn entry(t: &[u32; TABLE_ENTRIES], j: usize, c: u32, b: u8) -> u32
     t[256 * j + k]
 }
 
-// Eight bytes of s from place i on.
+// Eight bytes of s from place i on. The last four come first: they ask nothing of c, which each step waits for.
 fn eight(t: &[u32; TABLE_ENTRIES], c: u32, s: &[u8], i: usize) -> u32
     requires { ⌜ i + 8 ≤ length (now s) ⌝ }
     ensures { λ r. ⌜ r ≡ byEight (now (t .entry)) c (now (s .entry)) i ⌝ }
 {
+    let last = entry(t, 3, 0, s[i + 4])
+        ^ (entry(t, 2, 0, s[i + 5]) ^ (entry(t, 1, 0, s[i + 6]) ^ entry(t, 0, 0, s[i + 7])));
     entry(t, 7, c, s[i])
         ^ (entry(t, 6, c >> 8, s[i + 1])
-            ^ (entry(t, 5, c >> 16, s[i + 2])
-                ^ (entry(t, 4, c >> 24, s[i + 3])
-                    ^ (entry(t, 3, 0, s[i + 4])
-                        ^ (entry(t, 2, 0, s[i + 5])
-                            ^ (entry(t, 1, 0, s[i + 6]) ^ entry(t, 0, 0, s[i + 7])))))))
+            ^ (entry(t, 5, c >> 16, s[i + 2]) ^ (entry(t, 4, c >> 24, s[i + 3]) ^ last)))
 }
 
 // All eights of s.
