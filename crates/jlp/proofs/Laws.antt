@@ -1,10 +1,11 @@
 -- One law for each return: what the code has tested and called, as the definition that it answers.
-use Prim.Native.Nat.{ℕ, _-_, _*_, _/_, _%_, _<_, _≤_}
+use Prim.Native.Nat.{ℕ, zero, suc, _-_, _*_, _/_, _%_, _<_, _≤_}
 use mathlib.Core.Bool.{Bool, true, false, not, _&&_}
 use mathlib.Core.Path.{_≡_, refl, sym, _∙_}
 use native.Mathlib.Omega.{arith}
 use native.Mathlib.Nat.{mul-le-mul-left, le-of-lt}
 use lib.Bits.{bitXor}
+use lib.Dec.{eqb, ltb}
 use lib.ListN.{set}
 use borrow.Author.Tests.{le-leb, lt-leb, eq-eqb, ne-eqb}
 use Rattle.basics.specs.Laws.Tests.{cases, not-true, not-false, true-is-not-false, and-false, or-right, cond-true}
@@ -76,14 +77,21 @@ pub word-done : (c w n x : ℕ) → n ≤ 16 → 16 ≤ n → x ≡ crcBits jlpP
 unfolding crcWord
 word-done c w n x a b f = let e : n ≡ 16 = omega arith in rw e at f
 
--- a function by the row that its number chooses, and by the last where no other does
-pub row : (n k a b : ℕ) (old r : Results) → n ≡ k → r ≡ functionOf k a b old → r ≡ functionOf n a b old
-row n k a b old r e f = rw e f
-
-pub last-row : (n a b : ℕ) (old r : Results) → (n ≡ 0 → ⊥) → (n ≡ 1 → ⊥) → (n ≡ 2 → ⊥) → (n ≡ 3 → ⊥) → (n ≡ 4 → ⊥)
-    → r ≡ divided false a b old → r ≡ functionOf n a b old
+-- a function by its number: the four products, by which of their factors are signed, and the two quotients
+pub product-row : (n a b : ℕ) (old r : Results) → n < 4 → r ≡ multiplied (ltb n 2) (eqb (n % 2) 0) a b → r ≡ functionOf n a b old
 unfolding functionOf
-last-row n a b old r e₀ e₁ e₂ e₃ e₄ f = rw (ne-eqb _ _ e₀, ne-eqb _ _ e₁, ne-eqb _ _ e₂, ne-eqb _ _ e₃, ne-eqb _ _ e₄) f
+product-row zero a b old r h e = e
+product-row (suc zero) a b old r h e = e
+product-row (suc (suc zero)) a b old r h e = e
+product-row (suc (suc (suc zero))) a b old r h e = e
+product-row (suc (suc (suc (suc n)))) a b old r h e = absurd (omega (arith, h))
+
+pub quotient-row : (n a b : ℕ) (old r : Results) → 4 ≤ n → r ≡ divided (eqb n 4) a b old → r ≡ functionOf n a b old
+unfolding functionOf
+quotient-row n a b old r h e =
+    cases (eqb n 4)
+    (λ t. rw (ne-eqb n 0 (λ z. omega arith), ne-eqb n 1 (λ z. omega arith), ne-eqb n 2 (λ z. omega arith), ne-eqb n 3 (λ z. omega arith), t) (rw t at e))
+    (λ t. rw (ne-eqb n 0 (λ z. omega arith), ne-eqb n 1 (λ z. omega arith), ne-eqb n 2 (λ z. omega arith), ne-eqb n 3 (λ z. omega arith), t) (rw t at e))
 
 -- an operand's number
 pub operand-from : (a : ℕ) (b : Bool) → b ≡ between operandsStart operandsEnd a → b ≡ true → operandsStart ≤ a

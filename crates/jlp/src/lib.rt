@@ -195,18 +195,15 @@ pub fn latches(j: Jlp, at: Console, value: u16) -> bool
     takes(j, at, value)
 }
 
-// The functions as 000's table has them; the last row is DIVUU, function 5.
+// The functions as 000's table has them: products, S before U in each factor, then quotients, DIVSS before DIVUU. The number tells which factors are signed,
+// so that no product waits for a row of the table that cannot be foreseen.
 pub fn function_of(n: usize, a: u16, b: u16, old: Results) -> Results
     ensures { λ r. ⌜ r ≡ functionOf n a b old ⌝ }
 {
-    match n {
-        0 => multiply(true, true, a, b),
-        1 => multiply(true, false, a, b),
-        2 => multiply(false, true, a, b),
-        3 => multiply(false, false, a, b),
-        4 => divide(true, a, b, old),
-        _ => divide(false, a, b, old),
+    if n < 4 {
+        return multiply(n < 2, n % 2 == 0, a, b);
     }
+    divide(n == 4, a, b, old)
 }
 
 // Operand k is written, and its own function computes.
