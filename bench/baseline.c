@@ -255,6 +255,21 @@ void c_reset(Cartridge *c) {
     reset(c);
 }
 
+/* The same with the cartridge by value. */
+uint32_t c_read_by_value(Cartridge c, const uint16_t *ram, size_t words, uint16_t at) {
+    return c_read(&c, ram, words, at);
+}
+
+Written c_write_by_value(Cartridge c, uint16_t *ram, size_t words, uint16_t *flash, size_t flash_words, uint16_t at, uint16_t value) {
+    uint8_t assigned = c_write(&c, ram, words, flash, flash_words, at, value);
+    return (Written){c, assigned};
+}
+
+Cartridge c_reset_by_value(Cartridge c) {
+    reset(&c);
+    return c;
+}
+
 /* ---- a list of accesses: a pass that checks every line, then one that makes the accesses ---- */
 
 typedef enum { MALFORMED, READS, WRITES, RESETS } Op;

@@ -31,6 +31,17 @@ typedef struct {
 uint32_t c_read(const Cartridge *c, const uint16_t *ram, size_t words, uint16_t at);
 uint8_t c_write(Cartridge *c, uint16_t *ram, size_t words, uint16_t *flash, size_t flash_words, uint16_t at, uint16_t value);
 void c_reset(Cartridge *c);
+
+/* The same with the cartridge by value: a write and a reset answer the next one. */
+typedef struct {
+    Cartridge cartridge;
+    uint8_t assigned;
+} Written;
+
+uint32_t c_read_by_value(Cartridge c, const uint16_t *ram, size_t words, uint16_t at);
+Written c_write_by_value(Cartridge c, uint16_t *ram, size_t words, uint16_t *flash, size_t flash_words, uint16_t at, uint16_t value);
+Cartridge c_reset_by_value(Cartridge c);
+
 void c_reads(const Cartridge *c, const uint16_t *ram, size_t words, const uint16_t *at, size_t n, uint32_t *out);
 /* assigned[i]: how many mapping entries write i assigned. */
 void c_writes(Cartridge *c, uint16_t *ram, size_t words, uint16_t *flash, size_t flash_words, const uint16_t *at, const uint16_t *value, size_t n, uint8_t *assigned);
