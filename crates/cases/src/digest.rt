@@ -7,6 +7,8 @@ use crate::record::front;
 use crate::record::get16;
 use crate::record::rest;
 use basics::both;
+use places::FLIP_ENTRIES;
+use places::PARAGRAPHS;
 use sums::TABLE_ENTRIES;
 
 pub const ONES: u32 = 0xFFFF_FFFF;
@@ -56,9 +58,9 @@ pub fn digest_words(ieee: &[u32; TABLE_ENTRIES], words: &[u16], scratch: &mut [u
 // The tables, as a tables block has them.
 pub fn digest_tables<'a>(
     ieee: &[u32; TABLE_ENTRIES],
-    mapping: &'a [u16; 256],
-    permissions: &'a [u8; 256],
-    flips: &'a [u16; 256],
+    mapping: &'a [u16; PARAGRAPHS],
+    permissions: &'a [u8; PARAGRAPHS],
+    flips: &'a [u16; FLIP_ENTRIES],
     scratch: &mut [u8],
 ) -> usize {
     let m = sum_words(ieee, ONES, mapping, scratch);

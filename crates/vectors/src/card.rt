@@ -7,11 +7,9 @@ use cases::fill::put;
 use cases::fill::put_line;
 use cases::fill::take_bytes;
 use cases::record::front;
+use places::CARD_WORDS;
 use report::Report;
 use sums::TABLE_ENTRIES;
-
-// The card's RAM.
-const CARD_WORDS: usize = 16384;
 
 // The card's text; answers its length.
 fn put_card(out: &mut [u8], r: Report) -> usize {

@@ -1,7 +1,9 @@
 // Runs 001's vectors, and the vector files that the independent second program makes (second/README.md), and compares:
 // a line for each family, and the first case that differs; the last line says whether every file was there and had cases.
 ghost use mathlib.Core.Path.{_≡_};
+ghost use Prim.Native.Nat.{_+_};
 ghost use lib.ListN.{length};
+ghost use Rattle.places.specs.Limits.{lentLimit};
 use cases::file;
 use cases::fill::put;
 use cases::record::end_of;
@@ -9,6 +11,7 @@ use cases::record::front;
 use cases::rooms;
 use cases::tally;
 use cases::tally::Tally;
+use places::LENT_LIMIT;
 use sums::TABLE_ENTRIES;
 
 mod card;
@@ -39,10 +42,12 @@ fn buffer_room() -> [u8; 1200000]
     [0; 1200000]
 }
 
-fn word_room() -> [u16; 524545]
-    ensures { λ r. ⌜ 524545 ≡ length r ⌝ }
+const WORD_ROOM: usize = LENT_LIMIT + 257;
+
+fn word_room() -> [u16; WORD_ROOM]
+    ensures { λ r. ⌜ lentLimit + 257 ≡ length r ⌝ }
 {
-    [0; 524545]
+    [0; WORD_ROOM]
 }
 
 // Whether the record, its length and its fields, agrees.

@@ -2,6 +2,7 @@
 // labels, salvage, lists of accesses, back to BIN and CFG. It prints what `vectors` prints of the other families.
 ghost use mathlib.Core.Path.{_≡_};
 ghost use lib.ListN.{length};
+ghost use Rattle.places.specs.Limits.{imageLimit};
 use cases::file;
 use cases::fill::put;
 use cases::record::end_of;
@@ -9,6 +10,7 @@ use cases::record::front;
 use cases::rooms;
 use cases::tally;
 use cases::tally::Tally;
+use places::IMAGE_LIMIT;
 use sums::TABLE_ENTRIES;
 
 mod back;
@@ -28,10 +30,10 @@ pub enum Family {
 const FAMILIES: usize = 6;
 
 // Room for any buffer.
-fn buffer_room() -> [u8; 2097152]
-    ensures { λ r. ⌜ 2097152 ≡ length r ⌝ }
+fn buffer_room() -> [u8; IMAGE_LIMIT]
+    ensures { λ r. ⌜ imageLimit ≡ length r ⌝ }
 {
-    [0; 2097152]
+    [0; IMAGE_LIMIT]
 }
 
 // Whether the record, its length and its fields, agrees.

@@ -13,6 +13,7 @@ use cases::record::front;
 use cases::record::get32;
 use cases::record::has8;
 use cases::record::has32;
+use places::CARD_LIMIT;
 use recovery::Salvaging;
 use recovery::Stopped;
 use sums::TABLE_ENTRIES;
@@ -21,7 +22,7 @@ use sums::TABLE_ENTRIES;
 const PLACES: usize = 64;
 
 // The buffer that the program has.
-const PROGRAM_ROOM: usize = 24577;
+const PROGRAM_ROOM: usize = CARD_LIMIT + 1;
 
 // Where it stopped, as a record says it: all ones for nowhere, and 0 in a refusal.
 fn stopped_of(s: Salvaging) -> usize {
