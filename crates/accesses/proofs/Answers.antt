@@ -9,9 +9,9 @@ use lib.Dec.{eqb, ltb}
 use lib.ListN.{length, take}
 use borrow.Author.Tests.{lt-ltb, le-ltb, ne_eqb, ltb-true, ltb-false}
 use Rattle.basics.specs.declared.Refusal.{Refusal}
-use Rattle.basics.specs.Refusals.{refuse, noRefusal}
+use Rattle.basics.specs.Refusals.{refuse, no_refusal}
 use Rattle.basics.specs.Laws.Lists.{take_min}
-use Rattle.basics.specs.Laws.Puts.{put-room}
+use Rattle.basics.specs.Laws.Puts.{put_room}
 use Rattle.basics.specs.Laws.Tests.{cases}
 use Rattle.cart.specs.declared.Cartridge.{Cartridge}
 use Rattle.cart.specs.Run.{after}
@@ -19,33 +19,33 @@ use Rattle.text.specs.Lines.{lines_of}
 use Rattle.accesses.specs.declared.Checked.{Checked}
 use Rattle.accesses.specs.declared.Checked.TheVariants.{Wrong, Good}
 use Rattle.accesses.specs.declared.Ran.{Ran}
-use Rattle.accesses.specs.Accesses.{accessesOf, malformedLine, reads_of}
-use Rattle.accesses.specs.Runs.{refusalOf, run_of, world, left, ranOf, answersIn}
-use Rattle.accesses.specs.Code.Steps.{checkedOf, Runnable, refusedWith, ranTo, answersTo}
+use Rattle.accesses.specs.Accesses.{accesses_of, malformed_line, reads_of}
+use Rattle.accesses.specs.Runs.{refusal_of, run_of, world, left, ran_of, answers_in}
+use Rattle.accesses.specs.Code.Steps.{checked_of, Runnable, refused_with, ran_to, answers_to}
 use Rattle.accesses.specs.Laws.Accesses.{as_many}
 
 -- what the checking pass says of the list
-wrong-is : (list : List ℕ) (m : ℕ) → checkedOf list ≡ Wrong m → (0 < malformedLine list) × (m ≡ malformedLine list)
-unfolding checkedOf
+wrong-is : (list : List ℕ) (m : ℕ) → checked_of list ≡ Wrong m → (0 < malformed_line list) × (m ≡ malformed_line list)
+unfolding checked_of
 wrong-is list m h =
-    cases (ltb 0 (malformedLine list)) (λ e. let q : Wrong (malformedLine list) ≡ Wrong m = rw e at h in (ltb-true _ _ e, cc))
+    cases (ltb 0 (malformed_line list)) (λ e. let q : Wrong (malformed_line list) ≡ Wrong m = rw e at h in (ltb-true _ _ e, cc))
     (λ e. let q : Good (length (lines_of list)) (reads_of list) ≡ Wrong m = rw e at h in let z : ◌≡◌ {A = ℕ} 0 1 = cc in absurd (omega arith))
 
 record Good-is (list : List ℕ) (a b : ℕ) : Type 0 where
-  none : malformedLine list ≡ 0
+  none : malformed_line list ≡ 0
   lines : a ≡ length (lines_of list)
   reads : b ≡ reads_of list
 
-good-is : (list : List ℕ) (a b : ℕ) → checkedOf list ≡ Good a b → Good-is list a b
-unfolding checkedOf
+good-is : (list : List ℕ) (a b : ℕ) → checked_of list ≡ Good a b → Good-is list a b
+unfolding checked_of
 good-is list a b h =
-    cases (ltb 0 (malformedLine list))
-    (λ e. let q : Wrong (malformedLine list) ≡ Good a b = rw e at h in let z : ◌≡◌ {A = ℕ} 0 1 = cc in absurd (omega arith))
+    cases (ltb 0 (malformed_line list))
+    (λ e. let q : Wrong (malformed_line list) ≡ Good a b = rw e at h in let z : ◌≡◌ {A = ℕ} 0 1 = cc in absurd (omega arith))
     (λ e.
     let q : Good (length (lines_of list)) (reads_of list) ≡ Good a b = rw e at h in
-    record { none = omega (arith, ltb-false 0 (malformedLine list) e); lines = cc; reads = cc })
+    record { none = omega (arith, ltb-false 0 (malformed_line list) e); lines = cc; reads = cc })
 
-pub runnable : (list : List ℕ) (k : Checked) (lines reads limit n room : ℕ) → k ≡ checkedOf list → k ≡ Good lines reads → n ≡ min limit lines → reads ≤ room → Runnable list n room
+pub runnable : (list : List ℕ) (k : Checked) (lines reads limit n room : ℕ) → k ≡ checked_of list → k ≡ Good lines reads → n ≡ min limit lines → reads ≤ room → Runnable list n room
 runnable list k lines reads limit n room a b e l =
     let g = good-is list lines reads (sym a ∙ b) in
     record { good = g.none; lines = omega (arith, g.lines, min-le_right limit lines); fits = omega (arith, g.reads) }
@@ -53,43 +53,43 @@ runnable list k lines reads limit n room a b e l =
 -- the answer, and what becomes of the RAM, the flash and the buffer
 abbrev Answered : Cartridge → List ℕ → ℕ → Ran → List ℕ → List ℕ → List ℕ → List ℕ → List ℕ → List ℕ → Type 0
 Answered c list limit r flash₀ ram₀ out₀ flash ram out =
-    (r ≡ ranOf (world c flash₀ ram₀) list limit (length out₀)) × (ram ≡ (left (world c flash₀ ram₀) list limit (length out₀)).ram)
-    × (flash ≡ (left (world c flash₀ ram₀) list limit (length out₀)).flash) × (out ≡ answersIn (world c flash₀ ram₀) list limit out₀)
+    (r ≡ ran_of (world c flash₀ ram₀) list limit (length out₀)) × (ram ≡ (left (world c flash₀ ram₀) list limit (length out₀)).ram)
+    × (flash ≡ (left (world c flash₀ ram₀) list limit (length out₀)).flash) × (out ≡ answers_in (world c flash₀ ram₀) list limit out₀)
 
 module _ (c : Cartridge) (list : List ℕ) (limit : ℕ) (flash ram out : List ℕ) where
-  none-run : (q : Refusal) → (q.number ≡ 0 → ⊥) → refusalOf list (length out) ≡ q → run_of list limit (length out) ≡ []
+  none_run : (q : Refusal) → (q.number ≡ 0 → ⊥) → refusal_of list (length out) ≡ q → run_of list limit (length out) ≡ []
   unfolding run_of
-  none-run q h e = rw (e, ne_eqb q.number 0 h)
+  none_run q h e = rw (e, ne_eqb q.number 0 h)
 
   -- nothing is run, and all is as it was
-  refused_all : (q : Refusal) (n : ℕ) → (q.number ≡ 0 → ⊥) → refusalOf list (length out) ≡ q → n ≡ cond (eqb q.number 29) (reads_of list) 0
-      → (r : Ran) → r ≡ refusedWith c q n → Answered c list limit r flash ram out flash ram out
-  unfolding ranOf
+  refused_all : (q : Refusal) (n : ℕ) → (q.number ≡ 0 → ⊥) → refusal_of list (length out) ≡ q → n ≡ cond (eqb q.number 29) (reads_of list) 0
+      → (r : Ran) → r ≡ refused_with c q n → Answered c list limit r flash ram out flash ram out
+  unfolding ran_of
   refused_all q n h e f r g =
-      let z = none-run q h e in (
+      let z = none_run q h e in (
         g ∙ rw (e, z, f),
         rw z,
         rw z,
-        rw z (sym (put-room [] out (omega arith))),
+        rw z (sym (put_room [] out (omega arith))),
       )
 
-  pub answer-33 : (k : Checked) (m : ℕ) (q : Refusal) (r : Ran) → k ≡ checkedOf list → k ≡ Wrong m → q ≡ refuse 33 m → r ≡ refusedWith c q 0 → Answered c list limit r flash ram out flash ram out
+  pub answer-33 : (k : Checked) (m : ℕ) (q : Refusal) (r : Ran) → k ≡ checked_of list → k ≡ Wrong m → q ≡ refuse 33 m → r ≡ refused_with c q 0 → Answered c list limit r flash ram out flash ram out
   answer-33 k m q r a b d e =
       let w = wrong-is list m (sym a ∙ b) in
-      let f : refusalOf list (length out) ≡ refuse 33 (malformedLine list) = rw (lt-ltb 0 (malformedLine list) w.0) in
-      refused_all (refuse 33 m) 0 (λ z. omega arith) (f ∙ ap (refuse 33) (sym w.1)) refl r (e ∙ ap (λ (x : Refusal). refusedWith c x 0) d)
+      let f : refusal_of list (length out) ≡ refuse 33 (malformed_line list) = rw (lt-ltb 0 (malformed_line list) w.0) in
+      refused_all (refuse 33 m) 0 (λ z. omega arith) (f ∙ ap (refuse 33) (sym w.1)) refl r (e ∙ ap (λ (x : Refusal). refused_with c x 0) d)
 
-  module _ (k : Checked) (lines reads : ℕ) (a : k ≡ checkedOf list) (b : k ≡ Good lines reads) where
+  module _ (k : Checked) (lines reads : ℕ) (a : k ≡ checked_of list) (b : k ≡ Good lines reads) where
     good : Good-is list lines reads
     good = good-is list lines reads (sym a ∙ b)
 
-    answer-29 : (q : Refusal) (r : Ran) → length out < reads → q ≡ refuse 29 0 → r ≡ refusedWith c q reads → Answered c list limit r flash ram out flash ram out
+    answer-29 : (q : Refusal) (r : Ran) → length out < reads → q ≡ refuse 29 0 → r ≡ refused_with c q reads → Answered c list limit r flash ram out flash ram out
     answer-29 q r l d e =
-        let f : refusalOf list (length out) ≡ refuse 29 0 = rw (good.none, lt-ltb (length out) (reads_of list) (omega (arith, good.reads))) in
-        refused_all (refuse 29 0) reads (λ z. omega arith) f good.reads r (e ∙ ap (λ (x : Refusal). refusedWith c x reads) d)
+        let f : refusal_of list (length out) ≡ refuse 29 0 = rw (good.none, lt-ltb (length out) (reads_of list) (omega (arith, good.reads))) in
+        refused_all (refuse 29 0) reads (λ z. omega arith) f good.reads r (e ∙ ap (λ (x : Refusal). refused_with c x reads) d)
 
     module _ (l : length out < reads) where
-      pub short-ran : (q : Refusal) (r : Ran) → q ≡ refuse 29 0 → r ≡ refusedWith c q reads → r ≡ ranOf (world c flash ram) list limit (length out)
+      pub short-ran : (q : Refusal) (r : Ran) → q ≡ refuse 29 0 → r ≡ refused_with c q reads → r ≡ ran_of (world c flash ram) list limit (length out)
       short-ran q r d e = (answer-29 q r l d e).0
 
       pub short-ram : ram ≡ (left (world c flash ram) list limit (length out)).ram
@@ -98,37 +98,37 @@ module _ (c : Cartridge) (list : List ℕ) (limit : ℕ) (flash ram out : List �
       pub short-flash : flash ≡ (left (world c flash ram) list limit (length out)).flash
       short-flash = (answer-29 _ _ l refl refl).2
 
-      pub short-out : out ≡ answersIn (world c flash ram) list limit out
-      short-out = (answer-29 _ _ l refl refl).3
+      pub short_out : out ≡ answers_in (world c flash ram) list limit out
+      short_out = (answer-29 _ _ l refl refl).3
 
     module _ (n : ℕ) (e : n ≡ min limit lines) (l : reads ≤ length out) where
-      pass : refusalOf list (length out) ≡ noRefusal
+      pass : refusal_of list (length out) ≡ no_refusal
       pass = rw (good.none, le-ltb (length out) (reads_of list) (omega (arith, good.reads)))
 
-      run_is : run_of list limit (length out) ≡ take n (accessesOf list)
+      run_is : run_of list limit (length out) ≡ take n (accesses_of list)
       unfolding run_of
       run_is =
-          rw pass (sym (take_min n limit (accessesOf list) (e ∙ ap (min limit) (good.lines ∙ sym (as_many 0 (lines_of list) good.none)))))
+          rw pass (sym (take_min n limit (accesses_of list) (e ∙ ap (min limit) (good.lines ∙ sym (as_many 0 (lines_of list) good.none)))))
 
       answer-run : (r : Ran) (flash₁ ram₁ out₁ : List ℕ)
-          → (r ≡ ranTo (world c flash ram) (take n (accessesOf list))) × (ram₁ ≡ (after (world c flash ram) (take n (accessesOf list))).ram)
-          × (flash₁ ≡ (after (world c flash ram) (take n (accessesOf list))).flash) × (out₁ ≡ answersTo (world c flash ram) (take n (accessesOf list)) out)
+          → (r ≡ ran_to (world c flash ram) (take n (accesses_of list))) × (ram₁ ≡ (after (world c flash ram) (take n (accesses_of list))).ram)
+          × (flash₁ ≡ (after (world c flash ram) (take n (accesses_of list))).flash) × (out₁ ≡ answers_to (world c flash ram) (take n (accesses_of list)) out)
           → Answered c list limit r flash ram out flash₁ ram₁ out₁
-      unfolding ranOf
+      unfolding ran_of
       answer-run r flash₁ ram₁ out₁ h = (h.0 ∙ rw (run_is, pass), h.1 ∙ rw run_is, h.2 ∙ rw run_is, h.3 ∙ rw run_is)
 
-      pub good-ran : (r : Ran) → r ≡ ranTo (world c flash ram) (take n (accessesOf list)) → r ≡ ranOf (world c flash ram) list limit (length out)
+      pub good-ran : (r : Ran) → r ≡ ran_to (world c flash ram) (take n (accesses_of list)) → r ≡ ran_of (world c flash ram) list limit (length out)
       good-ran r h = (answer-run r _ _ _ (h, refl, refl, refl)).0
 
-      pub good-ram : (x : List ℕ) → x ≡ (after (world c flash ram) (take n (accessesOf list))).ram → x ≡ (left (world c flash ram) list limit (length out)).ram
+      pub good-ram : (x : List ℕ) → x ≡ (after (world c flash ram) (take n (accesses_of list))).ram → x ≡ (left (world c flash ram) list limit (length out)).ram
       good-ram x h = (answer-run _ _ x _ (refl, h, refl, refl)).1
 
-      pub good-flash : (x : List ℕ) → x ≡ (after (world c flash ram) (take n (accessesOf list))).flash → x ≡ (left (world c flash ram) list limit (length out)).flash
+      pub good-flash : (x : List ℕ) → x ≡ (after (world c flash ram) (take n (accesses_of list))).flash → x ≡ (left (world c flash ram) list limit (length out)).flash
       good-flash x h = (answer-run _ x _ _ (refl, refl, h, refl)).2
 
-      pub good-out : (x : List ℕ) → x ≡ answersTo (world c flash ram) (take n (accessesOf list)) out → x ≡ answersIn (world c flash ram) list limit out
+      pub good-out : (x : List ℕ) → x ≡ answers_to (world c flash ram) (take n (accesses_of list)) out → x ≡ answers_in (world c flash ram) list limit out
       good-out x h = (answer-run _ _ _ x (refl, refl, refl, h)).3
 
-pub ruleset answers-29 = (short-ran, short-ram, short-flash, short-out)
+pub ruleset answers-29 = (short-ran, short-ram, short-flash, short_out)
 
 pub ruleset answers-run = (good-ran, good-ram, good-flash, good-out)

@@ -2,15 +2,15 @@
 ghost use Rattle.std.specs.Prelude.{◌+◌, ◌≤◌, ◌<◌, ◌≡◌, length, take};
 ghost use Rattle.basics.specs.Lists.{part};
 ghost use Rattle.switches.specs.Flips.{active};
-ghost use Rattle.jlp.specs.Accelerators.{writtenJlp};
-ghost use Rattle.cart.specs.Readable.{readableOf};
-ghost use Rattle.cart.specs.Cartridges.{withActive};
+ghost use Rattle.jlp.specs.Accelerators.{written_jlp};
+ghost use Rattle.cart.specs.Readable.{readable_of};
+ghost use Rattle.cart.specs.Cartridges.{with_active};
 ghost use Rattle.cart.specs.Run.{after};
-ghost use Rattle.text.specs.Lines.{lineEnd};
-ghost use Rattle.accesses.specs.Line.{digitAt, lineSays};
-ghost use Rattle.accesses.specs.Accesses.{accessesOf};
-ghost use Rattle.accesses.specs.Runs.{world, left, ranOf, answersIn};
-ghost use Rattle.accesses.specs.Code.Steps.{says, isMalformed, readsSaid, checkedOf, tabled, stepped, made, number_of, writeBy, count_of, noted, Fits, Runnable, refusedWith, ranTo, answersTo};
+ghost use Rattle.text.specs.Lines.{line_end};
+ghost use Rattle.accesses.specs.Line.{digit_at, line_says};
+ghost use Rattle.accesses.specs.Accesses.{accesses_of};
+ghost use Rattle.accesses.specs.Runs.{world, left, ran_of, answers_in};
+ghost use Rattle.accesses.specs.Code.Steps.{says, is_malformed, reads_said, checked_of, tabled, stepped, made, number_of, write_by, count_of, noted, Fits, Runnable, refused_with, ran_to, answers_to};
 
 use basics::Refusal;
 use cart::Cartridge;
@@ -78,7 +78,7 @@ struct Made {
 }
 
 fn digit_at(line: &[u8], at: usize) -> u32
-    ensures { (result ≡ digitAt line.now at) × (result ≤ 16) }
+    ensures { (result ≡ digit_at line.now at) × (result ≤ 16) }
 {
     text::digit_of(basics::byte_at(line, at))
 }
@@ -110,7 +110,7 @@ fn word_at(line: &[u8], at: usize) -> Number
 // `op=x`
 fn reset_line(line: &[u8]) -> Says
     requires { length line.now ≡ 4 }
-    ensures { result ≡ says (lineSays line.now) }
+    ensures { result ≡ says (line_says line.now) }
 {
     if text::same_text(line, b"op=x") {
         return Says::Reset;
@@ -121,7 +121,7 @@ fn reset_line(line: &[u8]) -> Says
 // `op=r addr=HHHH`
 fn read_line(line: &[u8]) -> Says
     requires { length line.now ≡ 14 }
-    ensures { result ≡ says (lineSays line.now) }
+    ensures { result ≡ says (line_says line.now) }
 {
     if !text::same_text(&line[0..ADDRESS_AT], b"op=r addr=") {
         return Says::Malformed;
@@ -133,7 +133,7 @@ fn read_line(line: &[u8]) -> Says
 }
 
 fn write_of(a: Number, v: Number) -> Says
-    ensures { result ≡ writeBy a v }
+    ensures { result ≡ write_by a v }
 {
     let Number::Is(at) = a else {
         return Says::Malformed;
@@ -147,7 +147,7 @@ fn write_of(a: Number, v: Number) -> Says
 // `op=w addr=HHHH value=HHHH`
 fn write_line(line: &[u8]) -> Says
     requires { length line.now ≡ 25 }
-    ensures { result ≡ says (lineSays line.now) }
+    ensures { result ≡ says (line_says line.now) }
 {
     if !text::same_text(&line[0..ADDRESS_AT], b"op=w addr=") {
         return Says::Malformed;
@@ -160,7 +160,7 @@ fn write_line(line: &[u8]) -> Says
 
 // What a line says: its length tells which of the three forms it may have.
 fn line_says(line: &[u8]) -> Says
-    ensures { result ≡ says (lineSays line.now) }
+    ensures { result ≡ says (line_says line.now) }
 {
     let n = line.len();
     if n == READ_LENGTH {
@@ -177,14 +177,14 @@ fn line_says(line: &[u8]) -> Says
 
 // What the line that stands at `at` and ends at `end` says.
 fn says_at(list: &[u8], at: usize, end: usize) -> Says
-    requires { (at ≤ length list.now) × (end ≡ lineEnd list.now at) }
-    ensures { result ≡ says (lineSays (part list.now at (lineEnd list.now at))) }
+    requires { (at ≤ length list.now) × (end ≡ line_end list.now at) }
+    ensures { result ≡ says (line_says (part list.now at (line_end list.now at))) }
 {
     line_says(&list[at..end])
 }
 
 fn is_malformed(s: Says) -> bool
-    ensures { result ≡ isMalformed s }
+    ensures { result ≡ is_malformed s }
 {
     match s {
         Says::Malformed => true,
@@ -195,7 +195,7 @@ fn is_malformed(s: Says) -> bool
 }
 
 fn reads_said(s: Says) -> usize
-    ensures { (result ≡ readsSaid s) × (result ≤ 1) }
+    ensures { (result ≡ reads_said s) × (result ≤ 1) }
 {
     match s {
         Says::Malformed => 0,
@@ -207,7 +207,7 @@ fn reads_said(s: Says) -> usize
 
 // The checking pass.
 fn check_lines(list: &[u8]) -> Checked
-    ensures { result ≡ checkedOf list.now }
+    ensures { result ≡ checked_of list.now }
 {
     let mut at = 0;
     let mut lines = 0;
@@ -227,7 +227,7 @@ fn check_lines(list: &[u8]) -> Checked
 
 // What a write leaves of the accelerators; most go to no register of theirs.
 fn latched(j: Jlp, at: Console, value: u16) -> Jlp
-    ensures { result ≡ writtenJlp j at value }
+    ensures { result ≡ written_jlp j at value }
 {
     if jlp::latches(j, at, value) {
         return jlp::write(j, at, value);
@@ -249,7 +249,7 @@ fn make<'a>(
     flash: &mut [u16],
     s: Says,
 ) -> Made
-    requires { start ≡ readableOf initial_permissions.now }
+    requires { start ≡ readable_of initial_permissions.now }
     ensures { (result ≡ made (tabled (active initial_mapping.now initial_permissions.now) (active mapping.old permissions.old) flips.now readable.old j flash.old ram.old) s)
         × (mapping.new ≡ (stepped (tabled (active initial_mapping.now initial_permissions.now) (active mapping.old permissions.old) flips.now readable.old j flash.old ram.old) s).cartridge.mapping)
         × (permissions.new ≡ (stepped (tabled (active initial_mapping.now initial_permissions.now) (active mapping.old permissions.old) flips.now readable.old j flash.old ram.old) s).cartridge.permissions)
@@ -317,7 +317,7 @@ fn with_active(
     readable: u16,
     j: Jlp,
 ) -> Cartridge
-    ensures { result ≡ withActive c (active mapping permissions) readable j }
+    ensures { result ≡ with_active c (active mapping permissions) readable j }
 {
     let mut d = c;
     d.mapping = mapping;
@@ -337,10 +337,10 @@ fn run_lines(
     out: &mut [u32],
 ) -> Ran
     requires { Runnable list.now n (length out.old) }
-    ensures { (result ≡ ranTo (world c flash.old ram.old) (take n (accessesOf list.now)))
-        × (ram.new ≡ (after (world c flash.old ram.old) (take n (accessesOf list.now))).ram)
-        × (flash.new ≡ (after (world c flash.old ram.old) (take n (accessesOf list.now))).flash)
-        × (out.new ≡ answersTo (world c flash.old ram.old) (take n (accessesOf list.now)) out.old) }
+    ensures { (result ≡ ran_to (world c flash.old ram.old) (take n (accesses_of list.now)))
+        × (ram.new ≡ (after (world c flash.old ram.old) (take n (accesses_of list.now))).ram)
+        × (flash.new ≡ (after (world c flash.old ram.old) (take n (accesses_of list.now))).flash)
+        × (out.new ≡ answers_to (world c flash.old ram.old) (take n (accesses_of list.now)) out.old) }
 {
     let again = cart::reset(c);
     let start = again.readable;
@@ -384,7 +384,7 @@ fn run_lines(
 
 // A refused run: nothing is run, and the state comes back.
 fn refused(c: Cartridge, refusal: Refusal, length: usize) -> Ran
-    ensures { result ≡ refusedWith c refusal length }
+    ensures { result ≡ refused_with c refusal length }
 {
     Ran {
         refusal,
@@ -403,10 +403,10 @@ pub fn run(
     flash: &mut [u16],
     out: &mut [u32],
 ) -> Ran
-    ensures { (result ≡ ranOf (world cartridge flash.old ram.old) list.now limit (length out.old))
+    ensures { (result ≡ ran_of (world cartridge flash.old ram.old) list.now limit (length out.old))
         × (ram.new ≡ (left (world cartridge flash.old ram.old) list.now limit (length out.old)).ram)
         × (flash.new ≡ (left (world cartridge flash.old ram.old) list.now limit (length out.old)).flash)
-        × (out.new ≡ answersIn (world cartridge flash.old ram.old) list.now limit out.old) }
+        × (out.new ≡ answers_in (world cartridge flash.old ram.old) list.now limit out.old) }
 {
     match check_lines(list) {
         Checked::Wrong(line) => refused(cartridge, basics::refuse(33, line), 0),

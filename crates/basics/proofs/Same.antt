@@ -15,41 +15,41 @@ use Rattle.basics.proofs.either.Reads as either
 use Rattle.basics.proofs.put_bytes.Reads as put-bytes
 use Rattle.basics.proofs.put_words.Reads as put-words
 
-pub one-refuse : OneAnswer refuse.Learnt
-one-refuse κs a y z e f = same
+pub one_refuse : OneAnswer refuse.Learnt
+one_refuse κs a y z e f = same
 
-pub one-no-refusal : OneAnswer no-refusal.Learnt
-one-no-refusal κs a y z e f = same
+pub one_no_refusal : OneAnswer no-refusal.Learnt
+one_no_refusal κs a y z e f = same
 
-pub one-wide : OneAnswer wide.Learnt
-one-wide κs a y z e f p q = same p.0 q.0
+pub one_wide : OneAnswer wide.Learnt
+one_wide κs a y z e f p q = same p.0 q.0
 
-pub one-wide16 : OneAnswer wide16.Learnt
-one-wide16 κs a y z e f p q = same p.0 q.0
+pub one_wide16 : OneAnswer wide16.Learnt
+one_wide16 κs a y z e f p q = same p.0 q.0
 
-pub one-low : OneAnswer low.Learnt
-one-low κs a y z e f = same
+pub one_low : OneAnswer low.Learnt
+one_low κs a y z e f = same
 
-pub one-high : OneAnswer high.Learnt
-one-high κs a y z e f = same
+pub one_high : OneAnswer high.Learnt
+one_high κs a y z e f = same
 
-pub one-byte-at : OneAnswer byte_at.Learnt
-one-byte-at κs a y z e f = same
+pub one_byte_at : OneAnswer byte_at.Learnt
+one_byte_at κs a y z e f = same
 
-pub one-word-at : OneAnswer word_at.Learnt
-one-word-at κs a y z e f = same
+pub one_word_at : OneAnswer word_at.Learnt
+one_word_at κs a y z e f = same
 
-pub one-least : OneAnswer least.Learnt
-one-least κs a y z e f = same
+pub one_least : OneAnswer least.Learnt
+one_least κs a y z e f = same
 
-pub one-both : OneAnswer both.Learnt
-one-both κs a y z e f = same
+pub one_both : OneAnswer both.Learnt
+one_both κs a y z e f = same
 
-pub one-either : OneAnswer either.Learnt
-one-either κs a y z e f = same
+pub one_either : OneAnswer either.Learnt
+one_either κs a y z e f = same
 
-pub one-put-bytes : OneLent put-bytes.Learnt (λ κs e. e.0.now)
-one-put-bytes κs a y z e f = same
+pub one_put_bytes : OneLent put-bytes.Learnt (λ κs e. e.0.now)
+one_put_bytes κs a y z e f = same
 
-pub one-put-words : OneLent put-words.Learnt (λ κs e. e.0.now)
-one-put-words κs a y z e f = same
+pub one_put_words : OneLent put-words.Learnt (λ κs e. e.0.now)
+one_put_words κs a y z e f = same

@@ -16,13 +16,13 @@ any zero f = false
 any (suc n) f = f n || any n f
 
 -- the lowest that passes, of the n places from p on; the place after them where none passes
-unfoldable pub lowestFrom : ℕ → ℕ → (ℕ → Bool) → ℕ
-lowestFrom zero p f = p
-lowestFrom (suc n) p f = cond (f p) p (lowestFrom n (p + 1) f)
+unfoldable pub lowest_from : ℕ → ℕ → (ℕ → Bool) → ℕ
+lowest_from zero p f = p
+lowest_from (suc n) p f = cond (f p) p (lowest_from n (p + 1) f)
 
 -- below n; n where none passes
 abbrev pub lowest : ℕ → (ℕ → Bool) → ℕ
-lowest n f = lowestFrom n 0 f
+lowest n f = lowest_from n 0 f
 
 -- the place below n that passes and has i passing places before it; 0 where there is none
 unfoldable pub nth : (ℕ → Bool) → ℕ → ℕ → ℕ

@@ -28,5 +28,5 @@ pub data Each {A : Type 0} (P : A → Type 0) : List A → Type 0 where
   also : {x : A} {xs : List A} → P x → Each P xs → Each P (x ∷ xs)
 
 -- a buffer with x at its front and all else kept; as it was where it has no room for x (01, How an image is laid out by the builder)
-unfoldable pub putFront : List ℕ → List ℕ → List ℕ
-putFront x out = cond (ltb (length out) (length x)) out (x ++ drop (length x) out)
+unfoldable pub put_front : List ℕ → List ℕ → List ℕ
+put_front x out = cond (ltb (length out) (length x)) out (x ++ drop (length x) out)

@@ -6,12 +6,12 @@ use Rattle.basics.specs.Rows.{Row, first_of}
 abbrev pub refuse : ℕ → ℕ → Refusal
 refuse number place = record { number = number; place = place }
 
-abbrev pub noRefusal : Refusal
-noRefusal = refuse 0 0
+abbrev pub no_refusal : Refusal
+no_refusal = refuse 0 0
 
 -- of a table of refusals, that of the first row that holds
-abbrev pub firstRefusal : List (Row Refusal) → Refusal
-firstRefusal rows = first_of rows noRefusal
+abbrev pub first_refusal : List (Row Refusal) → Refusal
+first_refusal rows = first_of rows no_refusal
 
 -- nothing is refused
 abbrev pub passes : Refusal → Bool

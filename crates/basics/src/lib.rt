@@ -1,8 +1,8 @@
 // Bytes and words as numbers, and refusals: the leaves that every crate above calls.
 ghost use Rattle.std.specs.Prelude.{◌/◌, ◌%◌, ◌<◌, ◌≤◌, min, ◌≡◌, ◌&&◌, ◌||◌, length, get_or};
 ghost use Rattle.basics.specs.Bytes.{at16, bytes16};
-ghost use Rattle.basics.specs.Lists.{putFront};
-ghost use Rattle.basics.specs.Refusals.{refuse, noRefusal};
+ghost use Rattle.basics.specs.Lists.{put_front};
+ghost use Rattle.basics.specs.Refusals.{refuse, no_refusal};
 
 // A refusal: a number of 01's table, and its place; 0 and 0 where nothing is refused.
 #[derive(Drop)]
@@ -18,7 +18,7 @@ pub fn refuse(number: u32, place: usize) -> Refusal
 }
 
 pub fn no_refusal() -> Refusal
-    ensures { result ≡ noRefusal }
+    ensures { result ≡ no_refusal }
 {
     refuse(0, 0)
 }
@@ -86,7 +86,7 @@ pub fn either(a: bool, b: bool) -> bool
 
 // Bytes, and words of two bytes each, at the front of a buffer that has room for them.
 pub fn put_bytes(out: &mut [u8], bytes: &[u8])
-    ensures { out.new ≡ putFront bytes.now out.old }
+    ensures { out.new ≡ put_front bytes.now out.old }
 {
     if out.len() < bytes.len() {
         return;
@@ -99,7 +99,7 @@ pub fn put_bytes(out: &mut [u8], bytes: &[u8])
 }
 
 pub fn put_words(out: &mut [u8], words: &[u16])
-    ensures { out.new ≡ putFront (bytes16 words.now) out.old }
+    ensures { out.new ≡ put_front (bytes16 words.now) out.old }
 {
     if out.len() / 2 < words.len() {
         return;

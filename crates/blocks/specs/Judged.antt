@@ -3,51 +3,51 @@
 use Rattle.std.specs.Prelude.{ℕ, ◌+◌, List, [], ◌∷◌, Bool, cond, not, ◌&&◌, ◌||◌, length, eqb}
 use Rattle.basics.specs.declared.Refusal.{Refusal}
 use Rattle.basics.specs.Rows.{Row}
-use Rattle.basics.specs.Refusals.{refuse, firstRefusal, passes}
-use Rattle.hunk.specs.Hunk.{checkHunk, broken, breakOf, words_of}
-use Rattle.tables.specs.Tables.{tablesSize}
-use Rattle.metadata.specs.Records.{isCut}
+use Rattle.basics.specs.Refusals.{refuse, first_refusal, passes}
+use Rattle.hunk.specs.Hunk.{check_hunk, broken, break_of, words_of}
+use Rattle.tables.specs.Tables.{tables_size}
+use Rattle.metadata.specs.Records.{is_cut}
 use Rattle.blocks.specs.declared.Judged.{Judged}
-use Rattle.blocks.specs.Blocks.{frameSize, type_of, sizeSaid, sumSaid, payloadIn, encryptedType, isTables, isHunk, isMetadata}
+use Rattle.blocks.specs.Blocks.{frame_size, type_of, size_said, sum_said, payload_in, encrypted_type, is_tables, is_hunk, is_metadata}
 
 -- 7: block type 0x00
-abbrev pub isEncrypted : List ℕ → Bool
-isEncrypted x = eqb (type_of x) encryptedType
+abbrev pub is_encrypted : List ℕ → Bool
+is_encrypted x = eqb (type_of x) encrypted_type
 
 -- 6: payload checksum wrong, type 1 or 2
-abbrev pub wrongSum : ℕ → List ℕ → Bool
-wrongSum sum x = (isTables x || isHunk x) && not (eqb sum (sumSaid x))
+abbrev pub wrong_sum : ℕ → List ℕ → Bool
+wrong_sum sum x = (is_tables x || is_hunk x) && not (eqb sum (sum_said x))
 
 -- 12: metadata payload with a wrong checksum, or cut inside a sub-record (02, W-204)
-abbrev pub wrongMetadata : ℕ → List ℕ → Bool
-wrongMetadata sum x = isMetadata x && (not (eqb sum (sumSaid x)) || isCut (payloadIn x))
+abbrev pub wrong_metadata : ℕ → List ℕ → Bool
+wrong_metadata sum x = is_metadata x && (not (eqb sum (sum_said x)) || is_cut (payload_in x))
 
 -- 8: tables payload not 1,280 bytes, or a second tables block: `earlier` says that one stands before it
-abbrev pub wrongTables : Bool → List ℕ → Bool
-wrongTables earlier x = isTables x && (not (eqb (sizeSaid x) tablesSize) || earlier)
+abbrev pub wrong_tables : Bool → List ℕ → Bool
+wrong_tables earlier x = is_tables x && (not (eqb (size_said x) tables_size) || earlier)
 
 -- 9: hunk cut or reserved encoding, or a word outside m words of lent RAM
-abbrev pub wrongHunk : ℕ → List ℕ → Bool
-wrongHunk m x = isHunk x && broken (checkHunk (payloadIn x) m)
+abbrev pub wrong_hunk : ℕ → List ℕ → Bool
+wrong_hunk m x = is_hunk x && broken (check_hunk (payload_in x) m)
 
 -- where, from the block's first byte on: at the first byte of the data block that is cut, reserved, or holds the first word outside, or at the
 -- payload's first byte where the hunk is cut before any data block (02, W-205)
-abbrev pub breakIn : ℕ → List ℕ → ℕ
-breakIn m x = frameSize + breakOf (checkHunk (payloadIn x) m)
+abbrev pub break_in : ℕ → List ℕ → ℕ
+break_in m x = frame_size + break_of (check_hunk (payload_in x) m)
 
-unfoldable pub judgeRows : ℕ → Bool → ℕ → ℕ → List ℕ → List (Row Refusal)
-judgeRows m earlier p sum x =
-    (isEncrypted x, refuse 7 p)
-    ∷ (wrongSum sum x, refuse 6 p)
-    ∷ (wrongMetadata sum x, refuse 12 p)
-    ∷ (wrongTables earlier x, refuse 8 p)
-    ∷ (wrongHunk m x, refuse 9 (p + breakIn m x))
+unfoldable pub judge_rows : ℕ → Bool → ℕ → ℕ → List ℕ → List (Row Refusal)
+judge_rows m earlier p sum x =
+    (is_encrypted x, refuse 7 p)
+    ∷ (wrong_sum sum x, refuse 6 p)
+    ∷ (wrong_metadata sum x, refuse 12 p)
+    ∷ (wrong_tables earlier x, refuse 8 p)
+    ∷ (wrong_hunk m x, refuse 9 (p + break_in m x))
     ∷ []
 
 -- the refusal, and where there is none the number of words that the block stores
-unfoldable pub judgedOf : ℕ → Bool → ℕ → ℕ → List ℕ → Judged
-judgedOf m earlier p sum x =
+unfoldable pub judged_of : ℕ → Bool → ℕ → ℕ → List ℕ → Judged
+judged_of m earlier p sum x =
     record {
-      refusal = firstRefusal (judgeRows m earlier p sum x);
-      words = cond (passes (firstRefusal (judgeRows m earlier p sum x)) && isHunk x) (length (words_of (payloadIn x))) 0;
+      refusal = first_refusal (judge_rows m earlier p sum x);
+      words = cond (passes (first_refusal (judge_rows m earlier p sum x)) && is_hunk x) (length (words_of (payload_in x))) 0;
     }

@@ -1,10 +1,10 @@
 // Blocks: the frame of one, read and written, and its judgement (01, "File layout", "Load order").
 ghost use Rattle.std.specs.Prelude.{◌≡◌, not, ◌+◌, ◌≤◌, length, get_or, drop, eqb};
-ghost use Rattle.hunk.specs.Hunk.{checkHunk};
-ghost use Rattle.blocks.specs.Blocks.{frame_of, putFrame, payloadIn, sumSaid};
+ghost use Rattle.hunk.specs.Hunk.{check_hunk};
+ghost use Rattle.blocks.specs.Blocks.{frame_of, put_frame, payload_in, sum_said};
 ghost use Rattle.blocks.specs.Frames.{frame_at};
-ghost use Rattle.blocks.specs.Judged.{judgedOf};
-ghost use Rattle.blocks.specs.Code.Steps.{framedAt, sumBy, metadataBy, tablesBy, badOf, goodOf, checkedOf};
+ghost use Rattle.blocks.specs.Judged.{judged_of};
+ghost use Rattle.blocks.specs.Code.Steps.{framed_at, sum_by, metadata_by, tables_by, bad_of, good_of, checked_of};
 
 use basics::{Refusal, byte_at, high, low, word_at};
 
@@ -48,7 +48,7 @@ pub struct Judged {
 // A block of type t whose frame lies in the image.
 fn framed(s: &[u8], p: usize, t: u8) -> Frame
     requires { p + 8 ≤ length s.now }
-    ensures { result ≡ framedAt s.now p t }
+    ensures { result ≡ framed_at s.now p t }
 {
     let e = p + START_SIZE;
     let have = s[e];
@@ -81,7 +81,7 @@ pub fn frame_at(s: &[u8], p: usize) -> Frame
 
 // Whether a block whose payload has this checksum says another.
 fn differs(x: &[u8], sum: u32) -> bool
-    ensures { result ≡ not (eqb sum (sumSaid x.now)) }
+    ensures { result ≡ not (eqb sum (sum_said x.now)) }
 {
     let lower = word_at(x, 4) as u32;
     let upper = word_at(x, 6) as u32;
@@ -90,7 +90,7 @@ fn differs(x: &[u8], sum: u32) -> bool
 
 // Refusal 6, of a block of type t whose payload has this checksum.
 fn is_wrong_sum(x: &[u8], t: u8, sum: u32) -> bool
-    ensures { result ≡ sumBy t sum x.now }
+    ensures { result ≡ sum_by t sum x.now }
 {
     if basics::either(t == TABLES_TYPE, t == HUNK_TYPE) {
         return differs(x, sum);
@@ -100,7 +100,7 @@ fn is_wrong_sum(x: &[u8], t: u8, sum: u32) -> bool
 
 // Refusal 12, of a block of type t whose payload has this checksum. No other type's is looked at but those that 6 is asked of.
 fn is_wrong_metadata(x: &[u8], t: u8, sum: u32) -> bool
-    ensures { result ≡ metadataBy t sum x.now }
+    ensures { result ≡ metadata_by t sum x.now }
 {
     if t != METADATA_TYPE {
         return false;
@@ -114,7 +114,7 @@ fn is_wrong_metadata(x: &[u8], t: u8, sum: u32) -> bool
 
 // Refusal 8, of a block of type t that says n bytes of payload.
 fn is_wrong_tables(t: u8, n: u16, earlier: bool) -> bool
-    ensures { result ≡ tablesBy t n earlier }
+    ensures { result ≡ tables_by t n earlier }
 {
     if t != TABLES_TYPE {
         return false;
@@ -126,7 +126,7 @@ fn is_wrong_tables(t: u8, n: u16, earlier: bool) -> bool
 }
 
 fn bad(number: u32, place: usize) -> Judged
-    ensures { result ≡ badOf number place }
+    ensures { result ≡ bad_of number place }
 {
     Judged {
         refusal: basics::refuse(number, place),
@@ -135,7 +135,7 @@ fn bad(number: u32, place: usize) -> Judged
 }
 
 fn good(words: usize) -> Judged
-    ensures { result ≡ goodOf words }
+    ensures { result ≡ good_of words }
 {
     Judged {
         refusal: basics::no_refusal(),
@@ -145,7 +145,7 @@ fn good(words: usize) -> Judged
 
 // Refusal 9, of a hunk's block, at the byte where it breaks.
 fn judge_hunk(x: &[u8], m: usize) -> Judged
-    ensures { result ≡ checkedOf (checkHunk (payloadIn x.now) m) }
+    ensures { result ≡ checked_of (check_hunk (payload_in x.now) m) }
 {
     let a = basics::least(FRAME_SIZE, x.len());
     let h = hunk::check(&x[a..], m);
@@ -158,7 +158,7 @@ fn judge_hunk(x: &[u8], m: usize) -> Judged
 // The judgement of one block, whose payload has this checksum: 7, 6 or 12, 8, 9. `earlier` says that a tables block stands before it. A place
 // counts from the block's first byte, as if it stood at the front of a file.
 pub fn judge(x: &[u8], sum: u32, m: usize, earlier: bool) -> Judged
-    ensures { result ≡ judgedOf m earlier 0 sum x.now }
+    ensures { result ≡ judged_of m earlier 0 sum x.now }
 {
     let t = byte_at(x, 0);
     if t == ENCRYPTED_TYPE {
@@ -200,7 +200,7 @@ fn frame_of(t: u8, n: u16, sum: u32) -> [u8; FRAME_SIZE]
 
 // A block's frame, before a payload that stands from byte 8 on and has this checksum.
 pub fn put_frame(out: &mut [u8], t: u8, sum: u32)
-    ensures { out.new ≡ putFrame t sum out.old }
+    ensures { out.new ≡ put_frame t sum out.old }
 {
     let long = out.len();
     if long < FRAME_SIZE {

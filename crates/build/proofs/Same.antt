@@ -3,8 +3,8 @@ use Rattle.basics.specs.Same.{OneAnswer, OneLent}
 use Rattle.basics.specs.Laws.Same.{same}
 use Rattle.build.proofs.build.Reads as build
 
-pub one-build : OneAnswer build.Learnt
-one-build κs a y z e f p q = same p.0 q.0
+pub one_build : OneAnswer build.Learnt
+one_build κs a y z e f p q = same p.0 q.0
 
-pub one-build-out : OneLent build.Learnt (λ κs e. e.1.1.1.0.now)
-one-build-out κs a y z e f p q = same p.1 q.1
+pub one_build_out : OneLent build.Learnt (λ κs e. e.1.1.1.0.now)
+one_build_out κs a y z e f p q = same p.1 q.1

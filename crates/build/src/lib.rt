@@ -2,13 +2,13 @@
 ghost use Rattle.std.specs.Prelude.{◌+◌, ◌*◌, ◌≤◌, ◌≡◌, false, ltb, length, take};
 ghost use Rattle.basics.specs.Bytes.{le32};
 ghost use Rattle.basics.specs.Lists.{part};
-ghost use Rattle.places.specs.Limits.{lentLimit, pageSize};
-ghost use Rattle.label.specs.Label.{wrongLabel};
-ghost use Rattle.save.specs.Writing.{writingOf, written_of};
-ghost use Rattle.cfg.specs.File.{entriesOf};
+ghost use Rattle.places.specs.Limits.{lent_limit, page_size};
+ghost use Rattle.label.specs.Label.{wrong_label};
+ghost use Rattle.save.specs.Writing.{writing_of, written_of};
+ghost use Rattle.cfg.specs.File.{entries_of};
 ghost use Rattle.rules.specs.Accepted.{Accepted};
-ghost use Rattle.build.specs.Building.{flagBytes, uidOf, wrongBin, buildingOf, builtOf};
-ghost use Rattle.build.specs.Code.Answers.{answeredOf, bare, drawnContent, frontSize, labelPut, labelledOf, labelledLeft, Read, Answers, Pressed};
+ghost use Rattle.build.specs.Building.{flag_bytes, uid_of, wrong_bin, building_of, built_of};
+ghost use Rattle.build.specs.Code.Answers.{answered_of, bare, drawnContent, front_size, labelPut, labelledOf, labelledLeft, Read, Answers, Pressed};
 
 use basics::{Refusal, either, high, low};
 use blocks::FRAME_SIZE;
@@ -33,14 +33,14 @@ pub struct Building {
 
 // 21.
 fn is_wrong(bin: &[u8]) -> bool
-    ensures { result ≡ wrongBin bin.now }
+    ensures { result ≡ wrong_bin bin.now }
 {
     let n = bin.len();
     either(n == 0, either(n % 2 == 1, BIN_LIMIT < n))
 }
 
 fn flag_bytes() -> [u8; 16]
-    ensures { result ≡ flagBytes }
+    ensures { result ≡ flag_bytes }
 {
     let mut flags = [0u8; 16];
     flags[0] = 0x55;
@@ -59,7 +59,7 @@ fn bytes_of(x: u32) -> [u8; 4]
 
 // CRC32 of the BIN, then of the CFG.
 fn uid_of(bin: &[u8], cfg: &[u8]) -> [u8; UID_SIZE]
-    ensures { result ≡ uidOf bin.now cfg.now }
+    ensures { result ≡ uid_of bin.now cfg.now }
 {
     let b = bytes_of(sums::crc32(bin));
     let c = bytes_of(sums::crc32(cfg));
@@ -68,7 +68,7 @@ fn uid_of(bin: &[u8], cfg: &[u8]) -> [u8; UID_SIZE]
 
 // What the writer's answer is for a build of so many pages.
 fn answered(w: Writing, pages: u16) -> Building
-    ensures { result ≡ answeredOf w pages }
+    ensures { result ≡ answered_of w pages }
 {
     let r = w.refusal;
     if r.number != 0 {
@@ -98,7 +98,7 @@ fn refuse(r: Refusal) -> Building
 
 // The image of what was drawn, with this UID, by the plain writer from a RAM that has its words.
 fn write_drawing(out: &mut [u8], uid: &[u8; UID_SIZE], d: Drawing, ram: &[u16]) -> Writing
-    ensures { (result ≡ writingOf out.old (drawnContent uid.now d ram.now))
+    ensures { (result ≡ writing_of out.old (drawnContent uid.now d ram.now))
         × (out.new ≡ written_of out.old (drawnContent uid.now d ram.now)) }
 {
     let flags = flag_bytes();
@@ -120,8 +120,8 @@ fn write_drawing(out: &mut [u8], uid: &[u8; UID_SIZE], d: Drawing, ram: &[u16]) 
 
 // The bytes at a place that a header and a tables block take.
 fn front_of(out: &[u8], at: usize) -> [u8; FRONT_SIZE]
-    requires { at + frontSize ≤ length out.now }
-    ensures { result ≡ part out.now at (at + frontSize) }
+    requires { at + front_size ≤ length out.now }
+    ensures { result ≡ part out.now at (at + front_size) }
 {
     let mut front = [0u8; FRONT_SIZE];
     let e = at + FRONT_SIZE;
@@ -131,7 +131,7 @@ fn front_of(out: &[u8], at: usize) -> [u8; FRONT_SIZE]
 
 // An image stands behind room for the label's block: what stands before its hunks goes to the front, and the block behind that.
 fn put_label(out: &mut [u8], label: &[u8])
-    requires { wrongLabel label.now ≡ false }
+    requires { wrong_label label.now ≡ false }
     ensures { out.new ≡ labelPut label.now out.old }
 {
     let k = FRAME_SIZE + label.len();
@@ -152,7 +152,7 @@ fn write_labelled(
     ram: &[u16],
     label: &[u8],
 ) -> Writing
-    requires { wrongLabel label.now ≡ false }
+    requires { wrong_label label.now ≡ false }
     ensures { (result ≡ labelledOf label.now out.old (drawnContent uid.now d ram.now))
         × (out.new ≡ labelledLeft label.now out.old (drawnContent uid.now d ram.now)) }
 {
@@ -176,7 +176,7 @@ fn write_labelled(
 
 // 20, of so many pages.
 fn is_large(pages: u16) -> bool
-    ensures { result ≡ ltb lentLimit (pageSize * pages) }
+    ensures { result ≡ ltb lent_limit (page_size * pages) }
 {
     LENT_LIMIT < PAGE_SIZE * pages as usize
 }
@@ -223,7 +223,7 @@ fn build_lines(bin: &[u8], cfg: &[u8], label: &[u8], r: Reading, out: &mut [u8])
 
 // 22 to 24, then the lines, beside a BIN that 21 passes.
 fn build_text(bin: &[u8], cfg: &[u8], label: &[u8], out: &mut [u8]) -> Building
-    requires { wrongBin bin.now ≡ false }
+    requires { wrong_bin bin.now ≡ false }
     ensures { Answers bin.now cfg.now label.now out.old result out.new }
 {
     let r = cfg::read_cfg(cfg);
@@ -236,8 +236,8 @@ fn build_text(bin: &[u8], cfg: &[u8], label: &[u8], out: &mut [u8]) -> Building
 
 // An image from a BIN, a CFG and a label, which may be empty, into the front of a lent buffer.
 pub fn build(bin: &[u8], cfg: &[u8], label: &[u8], out: &mut [u8]) -> Building
-    ensures { (result ≡ buildingOf bin.now cfg.now label.now out.old)
-        × (out.new ≡ builtOf bin.now cfg.now label.now out.old) }
+    ensures { (result ≡ building_of bin.now cfg.now label.now out.old)
+        × (out.new ≡ built_of bin.now cfg.now label.now out.old) }
 {
     if is_wrong(bin) {
         return refuse(basics::refuse(21, 0));

@@ -2,44 +2,44 @@
 use Rattle.std.specs.Prelude.{◌%◌, ◌*◌, ◌+◌, ◌/◌, ℕ, List, [], ◌++◌, ◌∷◌}
 use Rattle.basics.specs.Lists.{flat, joined}
 use Rattle.basics.specs.Tables.{table}
-use Rattle.places.specs.Limits.{chapterPages, chapterParagraphs, flipEntries, pageParagraphs, paragraphSize, paragraphs}
-use Rattle.switches.specs.Flips.{firstK}
-use Rattle.plan.specs.Image.{base, pageAt}
-use Rattle.plan.specs.Plan.{Plan, hasPage}
-use Rattle.canon.specs.Canonical.{is_rom, pageWords}
+use Rattle.places.specs.Limits.{chapter_pages, chapter_paragraphs, flip_entries, page_paragraphs, paragraph_size, paragraphs}
+use Rattle.switches.specs.Flips.{first_k}
+use Rattle.plan.specs.Image.{base, page_at}
+use Rattle.plan.specs.Plan.{Plan, has_page}
+use Rattle.canon.specs.Canonical.{is_rom, page_words}
 use Rattle.basics.specs.Listed.{listed}
 
 -- Locutus words a to a + n - 1, where Locutus word i holds w i
-abbrev pub wordsFrom : (ℕ → ℕ) → ℕ → ℕ → List ℕ
-wordsFrom w a n = table n (λ i. w (a + i))
+abbrev pub words_from : (ℕ → ℕ) → ℕ → ℕ → List ℕ
+words_from w a n = table n (λ i. w (a + i))
 
 -- the Locutus word where plain paragraph p starts, and where page n % 16 of chapter n / 16 does
-abbrev pub plainPlace : Plan → ℕ → ℕ
-plainPlace q p = paragraphSize * (pageParagraphs * base q (p / chapterParagraphs) + p % chapterParagraphs)
+abbrev pub plain_place : Plan → ℕ → ℕ
+plain_place q p = paragraph_size * (page_paragraphs * base q (p / chapter_paragraphs) + p % chapter_paragraphs)
 
-abbrev pub pagePlace : Plan → ℕ → ℕ
-pagePlace q n =
-    paragraphSize
-    * (pageParagraphs * pageAt (q (n / chapterPages)) (base q (n / chapterPages)) (n % chapterPages) + firstK (n / chapterPages))
+abbrev pub page_place : Plan → ℕ → ℕ
+page_place q n =
+    paragraph_size
+    * (page_paragraphs * page_at (q (n / chapter_pages)) (base q (n / chapter_pages)) (n % chapter_pages) + first_k (n / chapter_pages))
 
 -- the words of the plain paragraphs of ROM, by address, then those of the pages
-abbrev pub romWords : Plan → (ℕ → ℕ) → List ℕ
-romWords q w = flat (listed paragraphs (is_rom q) (λ p. wordsFrom w (plainPlace q p) paragraphSize))
+abbrev pub rom_words : Plan → (ℕ → ℕ) → List ℕ
+rom_words q w = flat (listed paragraphs (is_rom q) (λ p. words_from w (plain_place q p) paragraph_size))
 
-abbrev pub pagedWords : Plan → (ℕ → ℕ) → List ℕ
-pagedWords q w = flat (listed flipEntries (hasPage q) (λ n. wordsFrom w (pagePlace q n) (pageWords (n / chapterPages))))
+abbrev pub paged_words : Plan → (ℕ → ℕ) → List ℕ
+paged_words q w = flat (listed flip_entries (has_page q) (λ n. words_from w (page_place q n) (page_words (n / chapter_pages))))
 
 -- a BIN is not empty (01, refusal 21)
 abbrev pub or_zero : List ℕ → List ℕ
 or_zero [] = 0 ∷ []
 or_zero (v ∷ vs) = v ∷ vs
 
-unfoldable pub canonicalWords : Plan → (ℕ → ℕ) → List ℕ
-canonicalWords q w = or_zero (romWords q w ++ pagedWords q w)
+unfoldable pub canonical_words : Plan → (ℕ → ℕ) → List ℕ
+canonical_words q w = or_zero (rom_words q w ++ paged_words q w)
 
 -- big endian
 abbrev pub be16 : ℕ → List ℕ
 be16 v = v / 256 ∷ v % 256 ∷ []
 
-unfoldable pub canonicalBin : Plan → (ℕ → ℕ) → List ℕ
-canonicalBin q w = joined be16 (canonicalWords q w)
+unfoldable pub canonical_bin : Plan → (ℕ → ℕ) → List ℕ
+canonical_bin q w = joined be16 (canonical_words q w)

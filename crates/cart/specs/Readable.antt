@@ -5,11 +5,11 @@ use Rattle.places.specs.Limits.{paragraphs}
 use Rattle.cart.specs.Cells.{READ}
 
 -- of n permissions from place a on, and of all 256
-unfoldable pub readableIn : List ℕ → ℕ → ℕ → ℕ
-readableIn permissions a n = count (λ i. READ (slice_index permissions (a + i))) n
+unfoldable pub readable_in : List ℕ → ℕ → ℕ → ℕ
+readable_in permissions a n = count (λ i. READ (slice_index permissions (a + i))) n
 
-abbrev pub readableOf : List ℕ → ℕ
-readableOf permissions = readableIn permissions 0 paragraphs
+abbrev pub readable_of : List ℕ → ℕ
+readable_of permissions = readable_in permissions 0 paragraphs
 
 -- the number that is kept, when a part of the table that had so many before has so many after; in 16 bits, so that it is determined for
 -- every number that is kept

@@ -5,47 +5,47 @@ use Rattle.switches.specs.Flips.{Active}
 use Rattle.flash.specs.declared.Heard.{Heard}
 use Rattle.flash.specs.declared.Heard.TheVariants as Hears
 use Rattle.jlp.specs.declared.Jlp.{Jlp}
-use Rattle.jlp.specs.Window.{inWindow, inRam}
-use Rattle.jlp.specs.Accelerators.{heardAt}
+use Rattle.jlp.specs.Window.{in_window, in_ram}
+use Rattle.jlp.specs.Accelerators.{heard_at}
 use Rattle.cart.specs.declared.Cell.{Cell}
 use Rattle.cart.specs.declared.Source.{Source}
 use Rattle.cart.specs.declared.Source.TheVariants.{Nobody, Latched, Ram}
 use Rattle.cart.specs.declared.Answer.{Answer}
 use Rattle.cart.specs.declared.Answer.TheVariants.{Word, Silence}
-use Rattle.cart.specs.Cells.{cell_at, windowCell, lies}
+use Rattle.cart.specs.Cells.{cell_at, window_cell, lies}
 
 -- $0000-$04FF, $1000-$1FFF and $3000-$3FFF are silent
 unfoldable pub silent : Console → Bool
 silent at = nat_lt at.0 0x500 || at.0 / 0x1000 == 1 || at.0 / 0x1000 == 3
 
 -- in the accelerators' window: their RAM, or a register that answers, or nobody
-abbrev pub registerSource : Heard → Source
-registerSource (Hears.Word w) = Latched w
-registerSource Hears.Silence = Nobody
+abbrev pub register_source : Heard → Source
+register_source (Hears.Word w) = Latched w
+register_source Hears.Silence = Nobody
 
-abbrev pub windowSource : Jlp → Console → Source
-windowSource j at = cond (inRam at) (Ram (windowCell at)) (registerSource (heardAt j at))
+abbrev pub window_source : Jlp → Console → Source
+window_source j at = cond (in_ram at) (Ram (window_cell at)) (register_source (heard_at j at))
 
 -- the cartridge by its active tables
-abbrev pub mappedSource : Active → Console → Source
-mappedSource a at = cond (silent at) Nobody (Ram (cell_at a at))
+abbrev pub mapped_source : Active → Console → Source
+mapped_source a at = cond (silent at) Nobody (Ram (cell_at a at))
 
 -- who answers a read: in their window the accelerators, while they are on
 abbrev pub source_of : Jlp → Active → Console → Source
-source_of j a at = cond (j.on && inWindow at) (windowSource j at) (mappedSource a at)
+source_of j a at = cond (j.on && in_window at) (window_source j at) (mapped_source a at)
 
 -- a cell answers when READ is set and its location lies in the lent RAM
 unfoldable pub fetched : Cell → List ℕ → Answer
 fetched c ram = cond (c.rights.read && lies c.location ram) (Word (slice_index ram c.location.0)) Silence
 
 -- what each source gives
-abbrev pub givenBy : Source → List ℕ → Answer
-givenBy Nobody ram = Silence
-givenBy (Latched w) ram = Word w
-givenBy (Ram c) ram = fetched c ram
+abbrev pub given_by : Source → List ℕ → Answer
+given_by Nobody ram = Silence
+given_by (Latched w) ram = Word w
+given_by (Ram c) ram = fetched c ram
 
 unfoldable pub read_by : Jlp → Active → List ℕ → Console → Answer
-read_by j a ram at = givenBy (source_of j a at) ram
+read_by j a ram at = given_by (source_of j a at) ram
 
 -- an answer as one number: a word as it is, silence above every word
 abbrev pub silence : ℕ

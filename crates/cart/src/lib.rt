@@ -1,17 +1,17 @@
 // The cartridge that answers the console: reads, writes and resets over lent RAM and flash (01, "The machine"; 02, W-206 and W-209).
 ghost use Rattle.std.specs.Prelude.{◌≡◌, ◌+◌, ◌%◌, ◌≤◌, length, if◌then◌else◌, slice_index};
 ghost use Rattle.places.specs.Limits.{paragraphs};
-ghost use Rattle.switches.specs.Flips.{active, asks, flipFrom, flipSize, flipped};
-ghost use Rattle.switches.specs.Banks.{registerAt};
+ghost use Rattle.switches.specs.Flips.{active, asks, flip_from, flip_size, flipped};
+ghost use Rattle.switches.specs.Banks.{register_at};
 ghost use Rattle.flash.specs.Flash.{memories, acted};
-ghost use Rattle.flash.specs.Registers.{commandOf};
+ghost use Rattle.flash.specs.Registers.{command_of};
 ghost use Rattle.cart.specs.declared.Taker.TheVariants.{Ram};
-ghost use Rattle.cart.specs.Code.Takers.{bankedOnly, actingOnly};
-ghost use Rattle.cart.specs.Cells.{READ, locate, rightsOf, cell_at, windowCell};
-ghost use Rattle.cart.specs.Readable.{readableIn, readableOf, recounted};
-ghost use Rattle.cart.specs.Reads.{silent, heard, fetched, registerSource, windowSource, mappedSource, source_of, read_by};
-ghost use Rattle.cart.specs.Writes.{storedWord, stored, flipTaker, mappedTaker, windowTaker, takerOf, leftBy, assignedBy, readableBy, leaves, leavesRam, leavesFlash, assigned, leavesReadable};
-ghost use Rattle.cart.specs.Cartridges.{assembled, fresh, withActive, read_of, written_of, writeRamOf, writeFlashOf, resetOf};
+ghost use Rattle.cart.specs.Code.Takers.{banked_only, acting_only};
+ghost use Rattle.cart.specs.Cells.{READ, locate, rights_of, cell_at, window_cell};
+ghost use Rattle.cart.specs.Readable.{readable_in, readable_of, recounted};
+ghost use Rattle.cart.specs.Reads.{silent, heard, fetched, register_source, window_source, mapped_source, source_of, read_by};
+ghost use Rattle.cart.specs.Writes.{stored_word, stored, flip_taker, mapped_taker, window_taker, taker_of, left_by, assigned_by, readable_by, leaves, leaves_ram, leaves_flash, assigned, leaves_readable};
+ghost use Rattle.cart.specs.Cartridges.{assembled, fresh, with_active, read_of, written_of, write_ram_of, write_flash_of, reset_of};
 
 use flash::{Heard, Saves};
 use jlp::Jlp;
@@ -90,7 +90,7 @@ fn allowing(narrow: bool, write: bool, read: bool) -> Rights
 
 // The permission decision as the manual has it: a row for each setting of NARROW, WRITE and READ, bits 2 to 0. No other bit chooses a row.
 pub fn rights_of(permission: u8) -> Rights
-    ensures { result ≡ rightsOf permission }
+    ensures { result ≡ rights_of permission }
 {
     // the last row is 0b111
     match permission % 8 {
@@ -130,7 +130,7 @@ pub fn cell_at<'a>(
 
 // The word of JLP RAM at an address of the accelerators' window.
 pub fn window_cell(at: Console) -> Cell
-    ensures { result ≡ windowCell at }
+    ensures { result ≡ window_cell at }
 {
     let location = jlp::location(at);
     let rights = allowing(false, true, true);
@@ -139,7 +139,7 @@ pub fn window_cell(at: Console) -> Cell
 
 // A register's word, or nobody.
 fn register_source(heard: Heard) -> Source
-    ensures { result ≡ registerSource heard }
+    ensures { result ≡ register_source heard }
 {
     match heard {
         Heard::Word(w) => Source::Latched(w),
@@ -149,7 +149,7 @@ fn register_source(heard: Heard) -> Source
 
 // In the accelerators' window: their RAM, or a register that answers, or nobody.
 fn window_source(j: Jlp, at: Console) -> Source
-    ensures { result ≡ windowSource j at }
+    ensures { result ≡ window_source j at }
 {
     if jlp::in_ram(at) {
         return Source::Ram(window_cell(at));
@@ -177,7 +177,7 @@ fn mapped_source<'a>(
     permissions: &'a [u8; PARAGRAPHS],
     at: Console,
 ) -> Source
-    ensures { result ≡ mappedSource (active mapping.now permissions.now) at }
+    ensures { result ≡ mapped_source (active mapping.now permissions.now) at }
 {
     if is_silent(at) {
         return Source::Nobody;
@@ -256,7 +256,7 @@ pub fn read(c: Cartridge, ram: &[u16], at: Console) -> Answer
 
 // The half-page whose register an address is, where it may be switched.
 fn bank_of(permissions: &[u8; PARAGRAPHS], at: Console) -> Register
-    ensures { result ≡ bankedOnly permissions.now (registerAt at) }
+    ensures { result ≡ banked_only permissions.now (register_at at) }
 {
     match switches::register_at(at) {
         Register::HalfPage(p) => {
@@ -271,7 +271,7 @@ fn bank_of(permissions: &[u8; PARAGRAPHS], at: Console) -> Register
 
 // The flip entry that a write asks for, where it acts.
 fn flip_of(flips: &[u16; FLIP_ENTRIES], at: Console, value: u16) -> Request
-    ensures { result ≡ actingOnly flips.now (asks at value) }
+    ensures { result ≡ acting_only flips.now (asks at value) }
 {
     match switches::asked(at, value) {
         Request::Entry(n) => {
@@ -292,7 +292,7 @@ fn unbanked_taker<'a>(
     at: Console,
     value: u16,
 ) -> Taker
-    ensures { result ≡ flipTaker flips.now (asks at value) (Ram (cell_at (active mapping.now permissions.now) at)) }
+    ensures { result ≡ flip_taker flips.now (asks at value) (Ram (cell_at (active mapping.now permissions.now) at)) }
 {
     match flip_of(flips, at, value) {
         Request::Entry(n) => Taker::Flip(n),
@@ -308,7 +308,7 @@ fn mapped_taker<'a>(
     at: Console,
     value: u16,
 ) -> Taker
-    ensures { result ≡ mappedTaker (active mapping.now permissions.now) flips.now at value }
+    ensures { result ≡ mapped_taker (active mapping.now permissions.now) flips.now at value }
 {
     match bank_of(permissions, at) {
         Register::HalfPage(p) => Taker::Bank(p, (value % 256) as u8),
@@ -318,7 +318,7 @@ fn mapped_taker<'a>(
 
 // In the accelerators' window: their RAM, or their registers.
 fn window_taker(at: Console) -> Taker
-    ensures { result ≡ windowTaker at }
+    ensures { result ≡ window_taker at }
 {
     if jlp::in_ram(at) {
         return Taker::Ram(window_cell(at));
@@ -335,7 +335,7 @@ fn taker_of<'a>(
     at: Console,
     value: u16,
 ) -> Taker
-    ensures { result ≡ takerOf j (active mapping.now permissions.now) flips.now at value }
+    ensures { result ≡ taker_of j (active mapping.now permissions.now) flips.now at value }
 {
     if jlp::takes(j, at, value) {
         return window_taker(at);
@@ -345,7 +345,7 @@ fn taker_of<'a>(
 
 // The word that a store leaves: a narrow one replaces the low 8 bits only.
 fn stored_word(narrow: bool, old: u16, value: u16) -> u16
-    ensures { result ≡ storedWord narrow old value }
+    ensures { result ≡ stored_word narrow old value }
 {
     if narrow {
         return old / 256 * 256 + value % 256;
@@ -377,7 +377,7 @@ fn read_bit(permission: u8) -> u16
 // How many of n permissions from place a on have READ.
 fn readable_in(permissions: &[u8], a: usize, n: usize) -> u16
     requires { (a + n ≤ length permissions.now) × (n ≤ paragraphs) }
-    ensures { (result ≡ readableIn permissions.now a n) × (result ≤ n) }
+    ensures { (result ≡ readable_in permissions.now a n) × (result ≤ n) }
 {
     let mut k = 0;
     for i in 0..n {
@@ -388,7 +388,7 @@ fn readable_in(permissions: &[u8], a: usize, n: usize) -> u16
 
 // Of those that flip entry n changes, among all 256.
 fn readable_by(permissions: &[u8; PARAGRAPHS], n: u8) -> u16
-    ensures { (result ≡ readableIn permissions.now (flipFrom n) (flipSize n)) × (length permissions.now ≡ paragraphs) }
+    ensures { (result ≡ readable_in permissions.now (flip_from n) (flip_size n)) × (length permissions.now ≡ paragraphs) }
 {
     readable_in(
         permissions,
@@ -399,7 +399,7 @@ fn readable_by(permissions: &[u8; PARAGRAPHS], n: u8) -> u16
 
 // Of those that flip entry n changes, when it has acted: all or none, for each gets the entry's permission.
 fn readable_after(flips: &[u16; FLIP_ENTRIES], n: u8) -> u16
-    ensures { result ≡ (if READ (slice_index flips.now n) then flipSize n else 0) }
+    ensures { result ≡ (if READ (slice_index flips.now n) then flip_size n else 0) }
 {
     let i = n as usize;
     if flips[i] % 2 == 0 {
@@ -410,7 +410,7 @@ fn readable_after(flips: &[u16; FLIP_ENTRIES], n: u8) -> u16
 
 // Of all.
 fn readable_of(permissions: &[u8; PARAGRAPHS]) -> u16
-    ensures { result ≡ readableOf permissions.now }
+    ensures { result ≡ readable_of permissions.now }
 {
     readable_in(permissions, 0, PARAGRAPHS)
 }
@@ -430,8 +430,8 @@ fn flip_counted(
     readable: &mut u16,
     n: u8,
 ) -> u8
-    ensures { (result ≡ flipSize n)
-        × (readable.new ≡ recounted readable.old (readableIn permissions.old (flipFrom n) (flipSize n)) (readableIn (flipped flips.now n (active mapping.old permissions.old)).permissions (flipFrom n) (flipSize n)))
+    ensures { (result ≡ flip_size n)
+        × (readable.new ≡ recounted readable.old (readable_in permissions.old (flip_from n) (flip_size n)) (readable_in (flipped flips.now n (active mapping.old permissions.old)).permissions (flip_from n) (flip_size n)))
         × (mapping.new ≡ (flipped flips.now n (active mapping.old permissions.old)).mapping)
         × (permissions.new ≡ (flipped flips.now n (active mapping.old permissions.old)).permissions) }
 {
@@ -449,10 +449,10 @@ fn shift<'a>(
     readable: &'a mut u16,
     t: Taker,
 ) -> u8
-    ensures { (result ≡ assignedBy t)
-        × (readable.new ≡ readableBy t (active mapping.old permissions.old) flips.now readable.old)
-        × (mapping.new ≡ (leftBy t (active mapping.old permissions.old) flips.now).mapping)
-        × (permissions.new ≡ (leftBy t (active mapping.old permissions.old) flips.now).permissions) }
+    ensures { (result ≡ assigned_by t)
+        × (readable.new ≡ readable_by t (active mapping.old permissions.old) flips.now readable.old)
+        × (mapping.new ≡ (left_by t (active mapping.old permissions.old) flips.now).mapping)
+        × (permissions.new ≡ (left_by t (active mapping.old permissions.old) flips.now).permissions) }
 {
     match t {
         Taker::Accelerators => 0,
@@ -464,8 +464,8 @@ fn shift<'a>(
 
 // The command that a write to the accelerators' registers asks for, done.
 pub fn command(s: Saves, ram: &mut [u16], flash: &mut [u16], at: Console, value: u16)
-    ensures { (flash.new ≡ (acted s.sectors (memories flash.old ram.old) (commandOf s at value)).flash)
-        × (ram.new ≡ (acted s.sectors (memories flash.old ram.old) (commandOf s at value)).ram) }
+    ensures { (flash.new ≡ (acted s.sectors (memories flash.old ram.old) (command_of s at value)).flash)
+        × (ram.new ≡ (acted s.sectors (memories flash.old ram.old) (command_of s at value)).ram) }
 {
     flash::act(s.sectors, flash, ram, flash::asked(s, at, value));
 }
@@ -484,11 +484,11 @@ pub fn write_by<'a>(
     value: u16,
 ) -> u8
     ensures { (result ≡ assigned j (active mapping.old permissions.old) flips.now at value)
-        × (readable.new ≡ leavesReadable j (active mapping.old permissions.old) flips.now readable.old at value)
+        × (readable.new ≡ leaves_readable j (active mapping.old permissions.old) flips.now readable.old at value)
         × (mapping.new ≡ (leaves j (active mapping.old permissions.old) flips.now at value).mapping)
         × (permissions.new ≡ (leaves j (active mapping.old permissions.old) flips.now at value).permissions)
-        × (ram.new ≡ leavesRam j (active mapping.old permissions.old) flips.now flash.old ram.old at value)
-        × (flash.new ≡ leavesFlash j (active mapping.old permissions.old) flips.now flash.old ram.old at value) }
+        × (ram.new ≡ leaves_ram j (active mapping.old permissions.old) flips.now flash.old ram.old at value)
+        × (flash.new ≡ leaves_flash j (active mapping.old permissions.old) flips.now flash.old ram.old at value) }
 {
     let t = taker_of(mapping, permissions, flips, j, at, value);
     match t {
@@ -557,7 +557,7 @@ fn with_active(
     readable: u16,
     j: Jlp,
 ) -> Cartridge
-    ensures { result ≡ withActive c (active mapping permissions) readable j }
+    ensures { result ≡ with_active c (active mapping permissions) readable j }
 {
     let initial_mapping = c.initial_mapping;
     let initial_permissions = c.initial_permissions;
@@ -575,8 +575,8 @@ fn with_active(
 
 pub fn write(c: Cartridge, ram: &mut [u16], flash: &mut [u16], at: Console, value: u16) -> Written
     ensures { (result ≡ written_of c at value)
-        × (ram.new ≡ writeRamOf c flash.old ram.old at value)
-        × (flash.new ≡ writeFlashOf c flash.old ram.old at value) }
+        × (ram.new ≡ write_ram_of c flash.old ram.old at value)
+        × (flash.new ≡ write_flash_of c flash.old ram.old at value) }
 {
     let mut m = c.mapping;
     let mut p = c.permissions;
@@ -601,7 +601,7 @@ pub fn write(c: Cartridge, ram: &mut [u16], flash: &mut [u16], at: Console, valu
 }
 
 pub fn reset(c: Cartridge) -> Cartridge
-    ensures { result ≡ resetOf c }
+    ensures { result ≡ reset_of c }
 {
     let m = c.initial_mapping;
     let p = c.initial_permissions;

@@ -1,7 +1,7 @@
 // Room for the largest file, image and label of the second program (second/README.md), and a little more: a file that fills its room was
 // not read to its end.
 ghost use Rattle.std.specs.Prelude.{◌≡◌, ◌+◌, length};
-ghost use Rattle.places.specs.Limits.{imageLimit};
+ghost use Rattle.places.specs.Limits.{image_limit};
 
 use places::IMAGE_LIMIT;
 
@@ -14,7 +14,7 @@ pub fn file_room() -> [u8; 1000001]
 }
 
 pub fn image_room() -> [u8; IMAGE_ROOM]
-    ensures { imageLimit + 24 ≡ length result }
+    ensures { image_limit + 24 ≡ length result }
 {
     [0; IMAGE_ROOM]
 }

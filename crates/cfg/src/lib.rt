@@ -1,8 +1,8 @@
 // A CFG is read: its entries, or refusal 22, 23 or 24 with its line (01, "What a CFG may say").
 ghost use Rattle.std.specs.Prelude.{◌≤◌, ◌<◌, ◌≡◌, [], length, set};
-ghost use Rattle.places.specs.Limits.{cfgLimit};
+ghost use Rattle.places.specs.Limits.{cfg_limit};
 ghost use Rattle.cfg.specs.File.{says_of, shown, refused, reading_of};
-ghost use Rattle.cfg.specs.Code.Steps.{scanOf, onward, inSection, withEntry, withOutside, noted, notedLine, judged};
+ghost use Rattle.cfg.specs.Code.Steps.{scan_of, onward, in_section, with_entry, with_outside, noted, noted_line, judged};
 
 use basics::Refusal;
 use grammar::{Says, Section};
@@ -52,7 +52,7 @@ fn store(lines: [Line; LINE_LIMIT], at: usize, e: Line) -> [Line; LINE_LIMIT]
 }
 
 fn start() -> Scan
-    ensures { result ≡ scanOf [] }
+    ensures { result ≡ scan_of [] }
 {
     let lines = blank_lines();
     Scan {
@@ -67,7 +67,7 @@ fn start() -> Scan
 
 // The next line's number.
 fn next(st: Scan) -> Scan
-    requires { st.line < cfgLimit }
+    requires { st.line < cfg_limit }
     ensures { result ≡ onward st }
 {
     let mut out = st;
@@ -76,7 +76,7 @@ fn next(st: Scan) -> Scan
 }
 
 fn in_section(st: Scan, s: Section) -> Scan
-    ensures { result ≡ inSection st s }
+    ensures { result ≡ in_section st s }
 {
     let lines = st.lines;
     Scan {
@@ -90,8 +90,8 @@ fn in_section(st: Scan, s: Section) -> Scan
 }
 
 fn with_entry(st: Scan, e: Entry) -> Scan
-    requires { st.count < cfgLimit }
-    ensures { result ≡ withEntry st e }
+    requires { st.count < cfg_limit }
+    ensures { result ≡ with_entry st e }
 {
     let section = st.section;
     let old = st.lines;
@@ -118,7 +118,7 @@ fn with_entry(st: Scan, e: Entry) -> Scan
 }
 
 fn with_outside(st: Scan) -> Scan
-    ensures { result ≡ withOutside st }
+    ensures { result ≡ with_outside st }
 {
     let mut out = st;
     if st.outside == 0 {
@@ -129,7 +129,7 @@ fn with_outside(st: Scan) -> Scan
 
 // What the line just counted adds.
 fn note(st: Scan, says: Says) -> Scan
-    requires { st.count < cfgLimit }
+    requires { st.count < cfg_limit }
     ensures { result ≡ noted st says }
 {
     match says {
@@ -142,8 +142,8 @@ fn note(st: Scan, says: Says) -> Scan
 
 // What the line adds that stands at `at`.
 fn note_line(st: Scan, text: &[u8], at: usize) -> Scan
-    requires { (st.line < cfgLimit) × (st.count < cfgLimit) × (at ≤ length text.now) }
-    ensures { result ≡ notedLine st text.now at }
+    requires { (st.line < cfg_limit) × (st.count < cfg_limit) × (at ≤ length text.now) }
+    ensures { result ≡ noted_line st text.now at }
 {
     let end = text::line_end(text, at);
     let section = st.section;
@@ -154,8 +154,8 @@ fn note_line(st: Scan, text: &[u8], at: usize) -> Scan
 // What all lines of a CFG say. The loop holds the reader, which the borrow checker does not cover, so its proof is a walk by
 // hand; what a turn does is done by covered functions, which take the text and the place.
 fn scan_lines(cfg: &[u8]) -> Scan
-    requires { length cfg.now ≤ cfgLimit }
-    ensures { result ≡ scanOf (says_of cfg.now) }
+    requires { length cfg.now ≤ cfg_limit }
+    ensures { result ≡ scan_of (says_of cfg.now) }
 {
     let mut st = start();
     let mut r = Reader { text: cfg, at: 0 };

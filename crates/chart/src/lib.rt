@@ -1,9 +1,9 @@
 // What shows at each of the console's paragraphs, by a cartridge's tables and accelerators as they are: of one that was just loaded, what power-on shows.
 // And what each page of a chapter shows.
 ghost use Rattle.std.specs.Prelude.{◌/◌, ◌≡◌, ◌&&◌};
-ghost use Rattle.places.specs.Limits.{chapterParagraphs};
-ghost use Rattle.jlp.specs.Window.{inWindow};
-ghost use Rattle.chart.specs.Chart.{start_of, hasPages, isPaged, kind_of, shownAt, page_of, leafAt};
+ghost use Rattle.places.specs.Limits.{chapter_paragraphs};
+ghost use Rattle.jlp.specs.Window.{in_window};
+ghost use Rattle.chart.specs.Chart.{start_of, has_pages, is_paged, kind_of, shown_at, page_of, leaf_at};
 
 use cart::Cartridge;
 use jlp::Jlp;
@@ -43,7 +43,7 @@ fn start_of(p: u8) -> Console
 
 // The accelerators' window, while they are on.
 fn is_theirs(j: Jlp, at: Console) -> bool
-    ensures { result ≡ (j.on && inWindow at) }
+    ensures { result ≡ (j.on && in_window at) }
 {
     if !j.on {
         return false;
@@ -53,7 +53,7 @@ fn is_theirs(j: Jlp, at: Console) -> bool
 
 // The chapter of paragraph p has a flip entry that acts.
 pub fn has_pages(flips: &[u16; FLIP_ENTRIES], p: u8) -> bool
-    ensures { result ≡ hasPages flips.now (p / chapterParagraphs) }
+    ensures { result ≡ has_pages flips.now (p / chapter_paragraphs) }
 {
     let x = p as usize / CHAPTER_PARAGRAPHS;
     for y in 0..CHAPTER_PAGES {
@@ -66,7 +66,7 @@ pub fn has_pages(flips: &[u16; FLIP_ENTRIES], p: u8) -> bool
 
 // Paragraph p is one that such an entry changes.
 pub fn is_paged(flips: &[u16; FLIP_ENTRIES], p: u8) -> bool
-    ensures { result ≡ isPaged flips.now p }
+    ensures { result ≡ is_paged flips.now p }
 {
     let i = p as usize;
     if i % CHAPTER_PARAGRAPHS < switches::first_k(i / CHAPTER_PARAGRAPHS) {
@@ -94,7 +94,7 @@ fn kind_of(permission: u8) -> Shown
 
 // What shows at paragraph p.
 pub fn shown_at(c: Cartridge, p: u8) -> Shown
-    ensures { result ≡ shownAt c p }
+    ensures { result ≡ shown_at c p }
 {
     let at = start_of(p);
     let j = c.jlp;
@@ -120,7 +120,7 @@ fn page_of(entry: u16) -> u8
 
 // What flip entry n shows.
 pub fn leaf_at(flips: &[u16; FLIP_ENTRIES], n: u8) -> Leaf
-    ensures { result ≡ leafAt flips.now n }
+    ensures { result ≡ leaf_at flips.now n }
 {
     let i = n as usize;
     if !switches::acts(flips, n) {

@@ -5,12 +5,12 @@ use Rattle.std.specs.Prelude.{ℕ, List, ◌≡◌, ◌↔◌}
 use Rattle.basics.specs.declared.Refusal.{Refusal}
 use Rattle.basics.specs.Rows.{Row, Gives, Silent}
 use Rattle.places.specs.Limits.{lent}
-use Rattle.load.specs.Load.{refusalRows as loadRows, loadingOf, loadRamOf, refused as loadRefused}
+use Rattle.load.specs.Load.{refusal_rows as loadRows, loading_of, load_ram_of, refused as loadRefused}
 use Rattle.lines.specs.declared.Line.{Line}
-use Rattle.cfg.specs.File.{refusalRows as cfgRows, reading_of, refused as cfgRefused}
-use Rattle.rules.specs.Rules.{refusalRows as ruleRows, refusalOf as ruledBy}
-use Rattle.save.specs.Writing.{Content, refusalRows as writeRows, writingOf, written_of, answerFor}
-use Rattle.build.specs.Building.{refusalRows as buildRows, buildingOf, builtOf, refused as buildRefused}
+use Rattle.cfg.specs.File.{refusal_rows as cfgRows, reading_of, refused as cfgRefused}
+use Rattle.rules.specs.Rules.{refusal_rows as ruleRows, refusal_of as ruledBy}
+use Rattle.save.specs.Writing.{Content, refusal_rows as writeRows, writing_of, written_of, answer_for}
+use Rattle.build.specs.Building.{refusal_rows as buildRows, building_of, built_of, refused as buildRefused}
 
 -- of a table of rows, refused so exactly when that row holds and none before it does; accepted exactly when no row holds
 pub record Decides (rows : List (Row Refusal)) (answer : Refusal) : Type 0 where
@@ -23,21 +23,21 @@ Refused r = r.number ≡ 0 → ⊥
 
 pub record Demand1 : Type 0 where
   -- loading, with f words of flash: all else zero, no RAM word changed
-  pub load : (image ram : List ℕ) (f : ℕ) → Decides (loadRows image (lent ram) f) (loadingOf image (lent ram) f).refusal
-  pub load-zero : (image ram : List ℕ) (f : ℕ) → Refused (loadingOf image (lent ram) f).refusal
-      → loadingOf image (lent ram) f ≡ loadRefused (loadingOf image (lent ram) f).refusal
-  pub load-keeps : (image ram : List ℕ) (f : ℕ) → Refused (loadingOf image (lent ram) f).refusal → loadRamOf image ram f ≡ ram
+  pub load : (image ram : List ℕ) (f : ℕ) → Decides (loadRows image (lent ram) f) (loading_of image (lent ram) f).refusal
+  pub load_zero : (image ram : List ℕ) (f : ℕ) → Refused (loading_of image (lent ram) f).refusal
+      → loading_of image (lent ram) f ≡ loadRefused (loading_of image (lent ram) f).refusal
+  pub load_keeps : (image ram : List ℕ) (f : ℕ) → Refused (loading_of image (lent ram) f).refusal → load_ram_of image ram f ≡ ram
   -- reading a CFG, and the rules on its lines
   pub cfg : (cfg : List ℕ) → Decides (cfgRows cfg) (reading_of cfg).refusal
-  pub cfg-zero : (cfg : List ℕ) → Refused (reading_of cfg).refusal → reading_of cfg ≡ cfgRefused (reading_of cfg).refusal
+  pub cfg_zero : (cfg : List ℕ) → Refused (reading_of cfg).refusal → reading_of cfg ≡ cfgRefused (reading_of cfg).refusal
   pub rules : (words : ℕ) (lines : List Line) → Decides (ruleRows words lines) (ruledBy words lines)
   -- writing: all else zero but the length at 29, no buffer byte changed
-  pub write : (out : List ℕ) (c : Content) → Decides (writeRows out c) (writingOf out c).refusal
-  pub write-zero : (out : List ℕ) (c : Content) → Refused (writingOf out c).refusal → ((writingOf out c).refusal.number ≡ 29 → ⊥)
-      → (writingOf out c).length ≡ 0
-  pub write_keeps : (out : List ℕ) (c : Content) → Refused (writingOf out c).refusal → written_of out c ≡ out
+  pub write : (out : List ℕ) (c : Content) → Decides (writeRows out c) (writing_of out c).refusal
+  pub write_zero : (out : List ℕ) (c : Content) → Refused (writing_of out c).refusal → ((writing_of out c).refusal.number ≡ 29 → ⊥)
+      → (writing_of out c).length ≡ 0
+  pub write_keeps : (out : List ℕ) (c : Content) → Refused (writing_of out c).refusal → written_of out c ≡ out
   -- building, likewise
-  pub build : (bin cfg label out : List ℕ) → Decides (buildRows bin cfg label out) (buildingOf bin cfg label out).refusal
-  pub build-zero : (bin cfg label out : List ℕ) → Refused (buildingOf bin cfg label out).refusal
-      → buildingOf bin cfg label out ≡ buildRefused bin cfg label (buildingOf bin cfg label out).refusal
-  pub build-keeps : (bin cfg label out : List ℕ) → Refused (buildingOf bin cfg label out).refusal → builtOf bin cfg label out ≡ out
+  pub build : (bin cfg label out : List ℕ) → Decides (buildRows bin cfg label out) (building_of bin cfg label out).refusal
+  pub build_zero : (bin cfg label out : List ℕ) → Refused (building_of bin cfg label out).refusal
+      → building_of bin cfg label out ≡ buildRefused bin cfg label (building_of bin cfg label out).refusal
+  pub build_keeps : (bin cfg label out : List ℕ) → Refused (building_of bin cfg label out).refusal → built_of bin cfg label out ≡ out

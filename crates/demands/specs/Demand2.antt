@@ -7,15 +7,15 @@ use Rattle.places.specs.Limits.{lent}
 use Rattle.cart.specs.Run.{World, Access}
 use Rattle.cart.specs.PlainRun.{AsRows}
 use Rattle.tables.specs.Tables.{mislent}
-use Rattle.load.specs.Load.{loadingOf, loadRamOf}
+use Rattle.load.specs.Load.{loading_of, load_ram_of}
 use Rattle.load.specs.Leaves.{Leaves}
 use Rattle.save.specs.Chosen.{Sized}
 use Rattle.trip.specs.Trip.{ComesBack}
 use Rattle.demands.specs.Pressing.{Trip, Made}
 
 pub record Demand2 : Type 0 where
-  pub stores : (image ram : List ℕ) (f : ℕ) → (loadingOf image (lent ram) f).refusal.number ≡ 0
-      → Leaves image ram (loadingOf image (lent ram) f) (loadRamOf image ram f)
+  pub stores : (image ram : List ℕ) (f : ℕ) → (loading_of image (lent ram) f).refusal.number ≡ 0
+      → Leaves image ram (loading_of image (lent ram) f) (load_ram_of image ram f)
   -- 16 flag bytes, 8 bytes of UID, and tables of 256 entries, which is what the writer's array types hold
   pub round_trip : (t : Trip) → Made t → Sized t.content.flags t.content.uid t.content.tables
       → t.writing.refusal.number ≡ 0 → length t.ram ≡ length t.content.ram → mislent t.content.flags (length t.flash) ≡ false

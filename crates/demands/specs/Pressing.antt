@@ -4,16 +4,16 @@ use Rattle.std.specs.Prelude.{ℕ, List, ◌≡◌, length, take}
 use Rattle.places.specs.Limits.{lent}
 use Rattle.cart.specs.Run.{World}
 use Rattle.load.specs.declared.Loading.{Loading}
-use Rattle.load.specs.Load.{loadingOf, loadRamOf}
+use Rattle.load.specs.Load.{loading_of, load_ram_of}
 use Rattle.save.specs.declared.Writing.{Writing}
-use Rattle.save.specs.Writing.{Content, writingOf, written_of}
+use Rattle.save.specs.Writing.{Content, writing_of, written_of}
 use Rattle.build.specs.declared.Building.{Building}
-use Rattle.build.specs.Building.{buildingOf, builtOf}
+use Rattle.build.specs.Building.{building_of, built_of}
 
 -- `load` of the first bytes of a buffer, with f words of flash: its answer, and the RAM that it leaves
 pub record Loads (image ram : List ℕ) (f : ℕ) (l : Loading) (stored : List ℕ) : Type 0 where
-  pub answer : l ≡ loadingOf image (lent ram) f
-  pub leaves : stored ≡ loadRamOf image ram f
+  pub answer : l ≡ loading_of image (lent ram) f
+  pub leaves : stored ≡ load_ram_of image ram f
 
 -- a title pressed from a BIN, a CFG and a label into a buffer, and loaded into a RAM, with a flash that is left as found
 pub record Pressing : Type 0 where
@@ -29,8 +29,8 @@ pub record Pressing : Type 0 where
   pub stored : List ℕ
 
 pub record Pressed (p : Pressing) : Type 0 where
-  pub answer : p.building ≡ buildingOf p.bin p.cfg p.label p.out
-  pub leaves : p.left ≡ builtOf p.bin p.cfg p.label p.out
+  pub answer : p.building ≡ building_of p.bin p.cfg p.label p.out
+  pub leaves : p.left ≡ built_of p.bin p.cfg p.label p.out
   pub loads : Loads (take p.building.length p.left) p.ram (length p.flash) p.loading p.stored
 
 -- a cartridge written into a buffer, and loaded into a RAM, likewise
@@ -45,10 +45,10 @@ pub record Trip : Type 0 where
   pub stored : List ℕ
 
 pub record Made (t : Trip) : Type 0 where
-  pub answer : t.writing ≡ writingOf t.out t.content
+  pub answer : t.writing ≡ writing_of t.out t.content
   pub leaves : t.left ≡ written_of t.out t.content
   pub loads : Loads (take t.writing.length t.left) t.ram (length t.flash) t.loading t.stored
 
 -- a cartridge that a load answered, over the flash that was lent and the RAM that it left
-abbrev pub worldOf : Loading → List ℕ → List ℕ → World
-worldOf l flash ram = record { cartridge = l.cartridge; flash = flash; ram = ram }
+abbrev pub world_of : Loading → List ℕ → List ℕ → World
+world_of l flash ram = record { cartridge = l.cartridge; flash = flash; ram = ram }

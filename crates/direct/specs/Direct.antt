@@ -2,8 +2,8 @@
 use Rattle.std.specs.Prelude.{ℕ, ◌/◌, ◌%◌, Bool, true, false, cond, ◌&&◌, ◌||◌, List, eqb}
 use Rattle.places.specs.declared.Console.{Console}
 use Rattle.switches.specs.Flips.{Active}
-use Rattle.jlp.specs.Window.{inWindow, inRam, onAt}
-use Rattle.cart.specs.Cells.{cell_at, windowCell}
+use Rattle.jlp.specs.Window.{in_window, in_ram, on_at}
+use Rattle.cart.specs.Cells.{cell_at, window_cell}
 use Rattle.cart.specs.Reads.{silent, silence, heard, fetched}
 use Rattle.cart.specs.Writes.{stored}
 use Rattle.cart.specs.declared.Cell.{Cell}
@@ -15,20 +15,20 @@ pub data Reach : Type 0 where
   At : Cell → Reach
 
 -- in the accelerators' window, while they are on: their RAM, or a register that is to be asked
-abbrev pub windowReach : Console → Reach
-windowReach at = cond (inRam at) (At (windowCell at)) Asked
+abbrev pub window_reach : Console → Reach
+window_reach at = cond (in_ram at) (At (window_cell at)) Asked
 
 -- a read elsewhere goes by the tables
-abbrev pub readReach : Bool → Active → Console → Reach
-readReach on a at = cond (on && inWindow at) (windowReach at) (cond (silent at) Nobody (At (cell_at a at)))
+abbrev pub read_reach : Bool → Active → Console → Reach
+read_reach on a at = cond (on && in_window at) (window_reach at) (cond (silent at) Nobody (At (cell_at a at)))
 
 -- $0040-$005F, $xFFF and $8033: a write there can be a bankswitch, a page request, or the word that turns the accelerators on
-unfoldable pub asksMore : Console → Bool
-asksMore at = eqb (at.0 / 0x20) 2 || (eqb (at.0 % 0x1000) 0xFFF || eqb at.0 onAt)
+unfoldable pub asks_more : Console → Bool
+asks_more at = eqb (at.0 / 0x20) 2 || (eqb (at.0 % 0x1000) 0xFFF || eqb at.0 on_at)
 
 -- a write to any other address is a store
-abbrev pub writeReach : Bool → Active → Console → Reach
-writeReach on a at = cond (on && inWindow at) (windowReach at) (cond (asksMore at) Asked (At (cell_at a at)))
+abbrev pub write_reach : Bool → Active → Console → Reach
+write_reach on a at = cond (on && in_window at) (window_reach at) (cond (asks_more at) Asked (At (cell_at a at)))
 
 -- that somebody is to be asked, among the answers: above silence
 abbrev pub asked : ℕ
@@ -41,10 +41,10 @@ hears Nobody ram = silence
 hears (At c) ram = heard (fetched c ram)
 
 -- whether a write is done there, and what it leaves of the RAM
-abbrev pub isDone : Reach → Bool
-isDone Asked = false
-isDone Nobody = false
-isDone (At c) = true
+abbrev pub is_done : Reach → Bool
+is_done Asked = false
+is_done Nobody = false
+is_done (At c) = true
 
 abbrev pub keeps : Reach → List ℕ → ℕ → List ℕ
 keeps Asked ram v = ram

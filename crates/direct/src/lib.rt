@@ -4,12 +4,12 @@
 ghost use Rattle.std.specs.Prelude.{◌≡◌};
 ghost use Rattle.switches.specs.Flips.{active};
 ghost use Rattle.flash.specs.Flash.{memories, acted};
-ghost use Rattle.flash.specs.Registers.{commandOf};
-ghost use Rattle.jlp.specs.Accelerators.{writtenJlp};
-ghost use Rattle.registers.specs.Words.{words_of, jlpFrom};
+ghost use Rattle.flash.specs.Registers.{command_of};
+ghost use Rattle.jlp.specs.Accelerators.{written_jlp};
+ghost use Rattle.registers.specs.Words.{words_of, jlp_from};
 ghost use Rattle.cart.specs.Reads.{heard, read_by};
-ghost use Rattle.cart.specs.Writes.{leaves, leavesRam, leavesFlash, assigned, leavesReadable};
-ghost use Rattle.direct.specs.Direct.{windowReach, readReach, asksMore, writeReach, hears, isDone, keeps};
+ghost use Rattle.cart.specs.Writes.{leaves, leaves_ram, leaves_flash, assigned, leaves_readable};
+ghost use Rattle.direct.specs.Direct.{window_reach, read_reach, asks_more, write_reach, hears, is_done, keeps};
 
 use places::{Console, FLIP_ENTRIES, PARAGRAPHS};
 use registers::ACCELERATOR_WORDS;
@@ -19,7 +19,7 @@ pub const ASKED: u32 = 0x10001;
 
 // A read in the accelerators' window, while they are on: of their RAM, or a register is to be asked.
 fn hear_window(ram: &[u16], at: Console) -> u32
-    ensures { result ≡ hears (windowReach at) ram.now }
+    ensures { result ≡ hears (window_reach at) ram.now }
 {
     if !jlp::in_ram(at) {
         return ASKED;
@@ -35,7 +35,7 @@ pub fn hear<'a>(
     ram: &[u16],
     at: Console,
 ) -> u32
-    ensures { result ≡ hears (readReach on (active mapping.now permissions.now) at) ram.now }
+    ensures { result ≡ hears (read_reach on (active mapping.now permissions.now) at) ram.now }
 {
     if basics::both(on, jlp::in_window(at)) {
         return hear_window(ram, at);
@@ -49,7 +49,7 @@ pub fn hear<'a>(
 // Whether a write there can be more than a store: a bankswitch register, the address of a chapter's page requests, and the one that turns the
 // accelerators on.
 fn asks_more(at: Console) -> bool
-    ensures { result ≡ asksMore at }
+    ensures { result ≡ asks_more at }
 {
     let a = at.0;
     if a / 0x20 == 2 {
@@ -63,7 +63,7 @@ fn asks_more(at: Console) -> bool
 
 // A write in the accelerators' window, while they are on, and whether it was a store to their RAM.
 fn store_window(ram: &mut [u16], at: Console, value: u16) -> bool
-    ensures { (result ≡ isDone (windowReach at)) × (ram.new ≡ keeps (windowReach at) ram.old value) }
+    ensures { (result ≡ is_done (window_reach at)) × (ram.new ≡ keeps (window_reach at) ram.old value) }
 {
     if jlp::in_ram(at) {
         cart::store(cart::window_cell(at), ram, value);
@@ -81,8 +81,8 @@ pub fn store<'a>(
     at: Console,
     value: u16,
 ) -> bool
-    ensures { (result ≡ isDone (writeReach on (active mapping.now permissions.now) at))
-        × (ram.new ≡ keeps (writeReach on (active mapping.now permissions.now) at) ram.old value) }
+    ensures { (result ≡ is_done (write_reach on (active mapping.now permissions.now) at))
+        × (ram.new ≡ keeps (write_reach on (active mapping.now permissions.now) at) ram.old value) }
 {
     if basics::both(on, jlp::in_window(at)) {
         return store_window(ram, at, value);
@@ -102,7 +102,7 @@ pub fn read<'a>(
     ram: &[u16],
     at: Console,
 ) -> u32
-    ensures { result ≡ heard (read_by (jlpFrom accelerators.now) (active mapping.now permissions.now) ram.now at) }
+    ensures { result ≡ heard (read_by (jlp_from accelerators.now) (active mapping.now permissions.now) ram.now at) }
 {
     let j = registers::jlp_from(accelerators);
     cart::heard(cart::read_by(mapping, permissions, j, ram, at))
@@ -116,9 +116,9 @@ fn latch(
     at: Console,
     value: u16,
 )
-    ensures { (accelerators.new ≡ words_of (writtenJlp (jlpFrom accelerators.old) at value))
-        × (ram.new ≡ (acted (jlpFrom accelerators.old).saves.sectors (memories flash.old ram.old) (commandOf (jlpFrom accelerators.old).saves at value)).ram)
-        × (flash.new ≡ (acted (jlpFrom accelerators.old).saves.sectors (memories flash.old ram.old) (commandOf (jlpFrom accelerators.old).saves at value)).flash) }
+    ensures { (accelerators.new ≡ words_of (written_jlp (jlp_from accelerators.old) at value))
+        × (ram.new ≡ (acted (jlp_from accelerators.old).saves.sectors (memories flash.old ram.old) (command_of (jlp_from accelerators.old).saves at value)).ram)
+        × (flash.new ≡ (acted (jlp_from accelerators.old).saves.sectors (memories flash.old ram.old) (command_of (jlp_from accelerators.old).saves at value)).flash) }
 {
     let saves = registers::saves_of(accelerators);
     cart::command(saves, ram, flash, at, value);
@@ -137,13 +137,13 @@ fn switch<'a>(
     at: Console,
     value: u16,
 ) -> u8
-    ensures { (result ≡ assigned (jlpFrom accelerators.old) (active mapping.old permissions.old) flips.now at value)
-        × (readable.new ≡ leavesReadable (jlpFrom accelerators.old) (active mapping.old permissions.old) flips.now readable.old at value)
-        × (mapping.new ≡ (leaves (jlpFrom accelerators.old) (active mapping.old permissions.old) flips.now at value).mapping)
-        × (permissions.new ≡ (leaves (jlpFrom accelerators.old) (active mapping.old permissions.old) flips.now at value).permissions)
-        × (accelerators.new ≡ words_of (jlpFrom accelerators.old))
-        × (ram.new ≡ leavesRam (jlpFrom accelerators.old) (active mapping.old permissions.old) flips.now flash.old ram.old at value)
-        × (flash.new ≡ leavesFlash (jlpFrom accelerators.old) (active mapping.old permissions.old) flips.now flash.old ram.old at value) }
+    ensures { (result ≡ assigned (jlp_from accelerators.old) (active mapping.old permissions.old) flips.now at value)
+        × (readable.new ≡ leaves_readable (jlp_from accelerators.old) (active mapping.old permissions.old) flips.now readable.old at value)
+        × (mapping.new ≡ (leaves (jlp_from accelerators.old) (active mapping.old permissions.old) flips.now at value).mapping)
+        × (permissions.new ≡ (leaves (jlp_from accelerators.old) (active mapping.old permissions.old) flips.now at value).permissions)
+        × (accelerators.new ≡ words_of (jlp_from accelerators.old))
+        × (ram.new ≡ leaves_ram (jlp_from accelerators.old) (active mapping.old permissions.old) flips.now flash.old ram.old at value)
+        × (flash.new ≡ leaves_flash (jlp_from accelerators.old) (active mapping.old permissions.old) flips.now flash.old ram.old at value) }
 {
     let j = registers::jlp_from(accelerators);
     registers::tidy(accelerators);
@@ -172,13 +172,13 @@ pub fn write<'a>(
     at: Console,
     value: u16,
 ) -> u8
-    ensures { (result ≡ assigned (jlpFrom accelerators.old) (active mapping.old permissions.old) flips.now at value)
-        × (readable.new ≡ leavesReadable (jlpFrom accelerators.old) (active mapping.old permissions.old) flips.now readable.old at value)
-        × (mapping.new ≡ (leaves (jlpFrom accelerators.old) (active mapping.old permissions.old) flips.now at value).mapping)
-        × (permissions.new ≡ (leaves (jlpFrom accelerators.old) (active mapping.old permissions.old) flips.now at value).permissions)
-        × (accelerators.new ≡ words_of (writtenJlp (jlpFrom accelerators.old) at value))
-        × (ram.new ≡ leavesRam (jlpFrom accelerators.old) (active mapping.old permissions.old) flips.now flash.old ram.old at value)
-        × (flash.new ≡ leavesFlash (jlpFrom accelerators.old) (active mapping.old permissions.old) flips.now flash.old ram.old at value) }
+    ensures { (result ≡ assigned (jlp_from accelerators.old) (active mapping.old permissions.old) flips.now at value)
+        × (readable.new ≡ leaves_readable (jlp_from accelerators.old) (active mapping.old permissions.old) flips.now readable.old at value)
+        × (mapping.new ≡ (leaves (jlp_from accelerators.old) (active mapping.old permissions.old) flips.now at value).mapping)
+        × (permissions.new ≡ (leaves (jlp_from accelerators.old) (active mapping.old permissions.old) flips.now at value).permissions)
+        × (accelerators.new ≡ words_of (written_jlp (jlp_from accelerators.old) at value))
+        × (ram.new ≡ leaves_ram (jlp_from accelerators.old) (active mapping.old permissions.old) flips.now flash.old ram.old at value)
+        × (flash.new ≡ leaves_flash (jlp_from accelerators.old) (active mapping.old permissions.old) flips.now flash.old ram.old at value) }
 {
     if registers::operates(accelerators, at, value) {
         return 0;

@@ -25,158 +25,158 @@ use Rattle.exports.proofs.desk.luigi_salvage.Reads as luigi-salvage
 use Rattle.exports.proofs.desk.luigi_drops.Reads as luigi-drops
 use Rattle.exports.proofs.desk.luigi_unbuild.Reads as luigi-unbuild
 
-pub one-dowcrc : OneAnswer luigi-dowcrc.Learnt
-one-dowcrc κs a y z e f = same
+pub one_dowcrc : OneAnswer luigi-dowcrc.Learnt
+one_dowcrc κs a y z e f = same
 
-pub one-crc324 : OneAnswer luigi-crc324.Learnt
-one-crc324 κs a y z e f = same
+pub one_crc324 : OneAnswer luigi-crc324.Learnt
+one_crc324 κs a y z e f = same
 
-pub one-crc32 : OneAnswer luigi-crc32.Learnt
-one-crc32 κs a y z e f = same
+pub one_crc32 : OneAnswer luigi-crc32.Learnt
+one_crc32 κs a y z e f = same
 
-pub one-load : OneAnswer luigi-load.Learnt
-one-load κs a y z e f p q = same p.0 q.0
+pub one_load : OneAnswer luigi-load.Learnt
+one_load κs a y z e f p q = same p.0 q.0
 
-pub one-load-ram : OneLent luigi-load.Learnt (λ κs e. e.1.0.now)
-one-load-ram κs a y z e f p q = same p.1 q.1
+pub one_load_ram : OneLent luigi-load.Learnt (λ κs e. e.1.0.now)
+one_load_ram κs a y z e f p q = same p.1 q.1
 
-pub one-build : OneAnswer luigi-build.Learnt
-one-build κs a y z e f p q = same p.0 q.0
+pub one_build : OneAnswer luigi-build.Learnt
+one_build κs a y z e f p q = same p.0 q.0
 
-pub one-build-out : OneLent luigi-build.Learnt (λ κs e. e.1.1.1.0.now)
-one-build-out κs a y z e f p q = same p.1 q.1
+pub one_build_out : OneLent luigi-build.Learnt (λ κs e. e.1.1.1.0.now)
+one_build_out κs a y z e f p q = same p.1 q.1
 
-pub one-reads : OneLent luigi-reads.Learnt (λ κs e. e.1.1.1.1.1.0.now)
-one-reads κs a y z e f = same
+pub one_reads : OneLent luigi-reads.Learnt (λ κs e. e.1.1.1.1.1.0.now)
+one_reads κs a y z e f = same
 
-pub one-reads-by-value : OneLent luigi-reads-by-value.Learnt (λ κs e. e.1.1.1.1.1.1.0.now)
-one-reads-by-value κs a y z e f = same
+pub one_reads_by_value : OneLent luigi-reads-by-value.Learnt (λ κs e. e.1.1.1.1.1.1.0.now)
+one_reads_by_value κs a y z e f = same
 
-pub one-writes-readable : OneLent luigi-writes.Learnt (λ κs e. e.1.1.1.0.now)
-one-writes-readable κs a y z e f p q = same p.0 q.0
+pub one_writes_readable : OneLent luigi-writes.Learnt (λ κs e. e.1.1.1.0.now)
+one_writes_readable κs a y z e f p q = same p.0 q.0
 
-pub one-writes-mapping : OneLent luigi-writes.Learnt (λ κs e. e.0.now)
-one-writes-mapping κs a y z e f p q = same p.1 q.1
+pub one_writes_mapping : OneLent luigi-writes.Learnt (λ κs e. e.0.now)
+one_writes_mapping κs a y z e f p q = same p.1 q.1
 
-pub one-writes-permissions : OneLent luigi-writes.Learnt (λ κs e. e.1.0.now)
-one-writes-permissions κs a y z e f p q = same p.2 q.2
+pub one_writes_permissions : OneLent luigi-writes.Learnt (λ κs e. e.1.0.now)
+one_writes_permissions κs a y z e f p q = same p.2 q.2
 
-pub one-writes-accelerators : OneLent luigi-writes.Learnt (λ κs e. e.1.1.1.1.0.now)
-one-writes-accelerators κs a y z e f p q = same p.3 q.3
+pub one_writes_accelerators : OneLent luigi-writes.Learnt (λ κs e. e.1.1.1.1.0.now)
+one_writes_accelerators κs a y z e f p q = same p.3 q.3
 
-pub one-writes-ram : OneLent luigi-writes.Learnt (λ κs e. e.1.1.1.1.1.0.now)
-one-writes-ram κs a y z e f p q = same p.4 q.4
+pub one_writes_ram : OneLent luigi-writes.Learnt (λ κs e. e.1.1.1.1.1.0.now)
+one_writes_ram κs a y z e f p q = same p.4 q.4
 
-pub one-writes-flash : OneLent luigi-writes.Learnt (λ κs e. e.1.1.1.1.1.1.0.now)
-one-writes-flash κs a y z e f p q = same p.5 q.5
+pub one_writes_flash : OneLent luigi-writes.Learnt (λ κs e. e.1.1.1.1.1.1.0.now)
+one_writes_flash κs a y z e f p q = same p.5 q.5
 
-pub one-writes-assigned : OneLent luigi-writes.Learnt (λ κs e. e.1.1.1.1.1.1.1.1.1.0.now)
-one-writes-assigned κs a y z e f p q = same p.6 q.6
+pub one_writes_assigned : OneLent luigi-writes.Learnt (λ κs e. e.1.1.1.1.1.1.1.1.1.0.now)
+one_writes_assigned κs a y z e f p q = same p.6 q.6
 
-pub one-writes-by-value : OneAnswer luigi-writes-by-value.Learnt
-one-writes-by-value κs a y z e f p q = same p.0 q.0
+pub one_writes_by_value : OneAnswer luigi-writes-by-value.Learnt
+one_writes_by_value κs a y z e f p q = same p.0 q.0
 
-pub one-writes-by-value-ram : OneLent luigi-writes-by-value.Learnt (λ κs e. e.1.1.1.1.0.now)
-one-writes-by-value-ram κs a y z e f p q = same p.1 q.1
+pub one_writes_by_value_ram : OneLent luigi-writes-by-value.Learnt (λ κs e. e.1.1.1.1.0.now)
+one_writes_by_value_ram κs a y z e f p q = same p.1 q.1
 
-pub one-writes-by-value-flash : OneLent luigi-writes-by-value.Learnt (λ κs e. e.1.1.1.1.1.0.now)
-one-writes-by-value-flash κs a y z e f p q = same p.2 q.2
+pub one_writes_by_value_flash : OneLent luigi-writes-by-value.Learnt (λ κs e. e.1.1.1.1.1.0.now)
+one_writes_by_value_flash κs a y z e f p q = same p.2 q.2
 
-pub one-flash-words : OneAnswer luigi-flash-words.Learnt
-one-flash-words κs a y z e f = same
+pub one_flash_words : OneAnswer luigi-flash-words.Learnt
+one_flash_words κs a y z e f = same
 
-pub one-write-image : OneAnswer luigi-write-image.Learnt
-one-write-image κs a y z e f p q = same p.0 q.0
+pub one_write_image : OneAnswer luigi-write-image.Learnt
+one_write_image κs a y z e f p q = same p.0 q.0
 
-pub one-write-image-out : OneLent luigi-write-image.Learnt (λ κs e. e.1.1.1.1.1.1.1.0.now)
-one-write-image-out κs a y z e f p q = same p.1 q.1
+pub one_write_image_out : OneLent luigi-write-image.Learnt (λ κs e. e.1.1.1.1.1.1.1.0.now)
+one_write_image_out κs a y z e f p q = same p.1 q.1
 
-pub one-read : OneAnswer luigi-read.Learnt
-one-read κs a y z e f = same
+pub one_read : OneAnswer luigi-read.Learnt
+one_read κs a y z e f = same
 
-pub one-write : OneAnswer luigi-write.Learnt
-one-write κs a y z e f p q = same p.0 q.0
+pub one_write : OneAnswer luigi-write.Learnt
+one_write κs a y z e f p q = same p.0 q.0
 
-pub one-write-readable : OneLent luigi-write.Learnt (λ κs e. e.1.1.1.0.now)
-one-write-readable κs a y z e f p q = same p.1 q.1
+pub one_write_readable : OneLent luigi-write.Learnt (λ κs e. e.1.1.1.0.now)
+one_write_readable κs a y z e f p q = same p.1 q.1
 
-pub one-write-mapping : OneLent luigi-write.Learnt (λ κs e. e.0.now)
-one-write-mapping κs a y z e f p q = same p.2 q.2
+pub one_write_mapping : OneLent luigi-write.Learnt (λ κs e. e.0.now)
+one_write_mapping κs a y z e f p q = same p.2 q.2
 
-pub one-write-permissions : OneLent luigi-write.Learnt (λ κs e. e.1.0.now)
-one-write-permissions κs a y z e f p q = same p.3 q.3
+pub one_write_permissions : OneLent luigi-write.Learnt (λ κs e. e.1.0.now)
+one_write_permissions κs a y z e f p q = same p.3 q.3
 
-pub one-write-accelerators : OneLent luigi-write.Learnt (λ κs e. e.1.1.1.1.0.now)
-one-write-accelerators κs a y z e f p q = same p.4 q.4
+pub one_write_accelerators : OneLent luigi-write.Learnt (λ κs e. e.1.1.1.1.0.now)
+one_write_accelerators κs a y z e f p q = same p.4 q.4
 
-pub one-write-ram : OneLent luigi-write.Learnt (λ κs e. e.1.1.1.1.1.0.now)
-one-write-ram κs a y z e f p q = same p.5 q.5
+pub one_write_ram : OneLent luigi-write.Learnt (λ κs e. e.1.1.1.1.1.0.now)
+one_write_ram κs a y z e f p q = same p.5 q.5
 
-pub one-write-flash : OneLent luigi-write.Learnt (λ κs e. e.1.1.1.1.1.1.0.now)
-one-write-flash κs a y z e f p q = same p.6 q.6
+pub one_write_flash : OneLent luigi-write.Learnt (λ κs e. e.1.1.1.1.1.1.0.now)
+one_write_flash κs a y z e f p q = same p.6 q.6
 
-pub one-reset-mapping : OneLent luigi-reset.Learnt (λ κs e. e.1.1.0.now)
-one-reset-mapping κs a y z e f p q = same p.0 q.0
+pub one_reset_mapping : OneLent luigi-reset.Learnt (λ κs e. e.1.1.0.now)
+one_reset_mapping κs a y z e f p q = same p.0 q.0
 
-pub one-reset-permissions : OneLent luigi-reset.Learnt (λ κs e. e.1.1.1.0.now)
-one-reset-permissions κs a y z e f p q = same p.1 q.1
+pub one_reset_permissions : OneLent luigi-reset.Learnt (λ κs e. e.1.1.1.0.now)
+one_reset_permissions κs a y z e f p q = same p.1 q.1
 
-pub one-reset-readable : OneLent luigi-reset.Learnt (λ κs e. e.1.1.1.1.0.now)
-one-reset-readable κs a y z e f p q = same p.2 q.2
+pub one_reset_readable : OneLent luigi-reset.Learnt (λ κs e. e.1.1.1.1.0.now)
+one_reset_readable κs a y z e f p q = same p.2 q.2
 
-pub one-reset-accelerators : OneLent luigi-reset.Learnt (λ κs e. e.1.1.1.1.1.0.now)
-one-reset-accelerators κs a y z e f p q = same p.3 q.3
+pub one_reset_accelerators : OneLent luigi-reset.Learnt (λ κs e. e.1.1.1.1.1.0.now)
+one_reset_accelerators κs a y z e f p q = same p.3 q.3
 
 pub one_state : OneAnswer luigi-state.Learnt
 one_state κs a y z e f = same
 
-pub one-read-by-value : OneAnswer luigi-read-by-value.Learnt
-one-read-by-value κs a y z e f = same
+pub one_read_by_value : OneAnswer luigi-read-by-value.Learnt
+one_read_by_value κs a y z e f = same
 
-pub one-write-by-value : OneAnswer luigi-write-by-value.Learnt
-one-write-by-value κs a y z e f p q = same p.0 q.0
+pub one_write_by_value : OneAnswer luigi-write-by-value.Learnt
+one_write_by_value κs a y z e f p q = same p.0 q.0
 
-pub one-write-by-value-ram : OneLent luigi-write-by-value.Learnt (λ κs e. e.1.0.now)
-one-write-by-value-ram κs a y z e f p q = same p.1 q.1
+pub one_write_by_value_ram : OneLent luigi-write-by-value.Learnt (λ κs e. e.1.0.now)
+one_write_by_value_ram κs a y z e f p q = same p.1 q.1
 
-pub one-write-by-value-flash : OneLent luigi-write-by-value.Learnt (λ κs e. e.1.1.0.now)
-one-write-by-value-flash κs a y z e f p q = same p.2 q.2
+pub one_write_by_value_flash : OneLent luigi-write-by-value.Learnt (λ κs e. e.1.1.0.now)
+one_write_by_value_flash κs a y z e f p q = same p.2 q.2
 
-pub one-reset-by-value : OneAnswer luigi-reset-by-value.Learnt
-one-reset-by-value κs a y z e f = same
+pub one_reset_by_value : OneAnswer luigi-reset-by-value.Learnt
+one_reset_by_value κs a y z e f = same
 
-pub one-run : OneAnswer luigi-run.Learnt
-one-run κs a y z e f p q = same p.0 q.0
+pub one_run : OneAnswer luigi-run.Learnt
+one_run κs a y z e f p q = same p.0 q.0
 
-pub one-run-ram : OneLent luigi-run.Learnt (λ κs e. e.1.1.1.0.now)
-one-run-ram κs a y z e f p q = same p.1 q.1
+pub one_run_ram : OneLent luigi-run.Learnt (λ κs e. e.1.1.1.0.now)
+one_run_ram κs a y z e f p q = same p.1 q.1
 
-pub one-run-flash : OneLent luigi-run.Learnt (λ κs e. e.1.1.1.1.0.now)
-one-run-flash κs a y z e f p q = same p.2 q.2
+pub one_run_flash : OneLent luigi-run.Learnt (λ κs e. e.1.1.1.1.0.now)
+one_run_flash κs a y z e f p q = same p.2 q.2
 
-pub one-run-out : OneLent luigi-run.Learnt (λ κs e. e.1.1.1.1.1.0.now)
-one-run-out κs a y z e f p q = same p.3 q.3
+pub one_run_out : OneLent luigi-run.Learnt (λ κs e. e.1.1.1.1.1.0.now)
+one_run_out κs a y z e f p q = same p.3 q.3
 
-pub one-find : OneAnswer luigi-find.Learnt
-one-find κs a y z e f = same
+pub one_find : OneAnswer luigi-find.Learnt
+one_find κs a y z e f = same
 
-pub one-salvage : OneAnswer luigi-salvage.Learnt
-one-salvage κs a y z e f p q = same p.0 q.0
+pub one_salvage : OneAnswer luigi-salvage.Learnt
+one_salvage κs a y z e f p q = same p.0 q.0
 
-pub one-salvage-out : OneLent luigi-salvage.Learnt (λ κs e. e.1.0.now)
-one-salvage-out κs a y z e f p q = same p.1 q.1
+pub one_salvage_out : OneLent luigi-salvage.Learnt (λ κs e. e.1.0.now)
+one_salvage_out κs a y z e f p q = same p.1 q.1
 
-pub one-drops : OneAnswer luigi-drops.Learnt
-one-drops κs a y z e f p q = same p.0 q.0
+pub one_drops : OneAnswer luigi-drops.Learnt
+one_drops κs a y z e f p q = same p.0 q.0
 
-pub one-drops-places : OneLent luigi-drops.Learnt (λ κs e. e.1.0.now)
-one-drops-places κs a y z e f p q = same p.1 q.1
+pub one_drops_places : OneLent luigi-drops.Learnt (λ κs e. e.1.0.now)
+one_drops_places κs a y z e f p q = same p.1 q.1
 
-pub one-unbuild : OneAnswer luigi-unbuild.Learnt
-one-unbuild κs a y z e f p q = same p.0 q.0
+pub one_unbuild : OneAnswer luigi-unbuild.Learnt
+one_unbuild κs a y z e f p q = same p.0 q.0
 
-pub one-unbuild-bin : OneLent luigi-unbuild.Learnt (λ κs e. e.1.0.now)
-one-unbuild-bin κs a y z e f p q = same p.1 q.1
+pub one_unbuild_bin : OneLent luigi-unbuild.Learnt (λ κs e. e.1.0.now)
+one_unbuild_bin κs a y z e f p q = same p.1 q.1
 
-pub one-unbuild-cfg : OneLent luigi-unbuild.Learnt (λ κs e. e.1.1.0.now)
-one-unbuild-cfg κs a y z e f p q = same p.2 q.2
+pub one_unbuild_cfg : OneLent luigi-unbuild.Learnt (λ κs e. e.1.1.0.now)
+one_unbuild_cfg κs a y z e f p q = same p.2 q.2

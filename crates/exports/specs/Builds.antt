@@ -2,5 +2,5 @@
 use Rattle.build.specs.declared.Building.{Building}
 use Rattle.exports.specs.declared.Built.{Built}
 
-abbrev pub builtAs : Building → Built
-builtAs b = record { number = b.refusal.number; needed = b.needed; place = b.refusal.place; length = b.length }
+abbrev pub built_as : Building → Built
+built_as b = record { number = b.refusal.number; needed = b.needed; place = b.refusal.place; length = b.length }

@@ -11,18 +11,18 @@ use Rattle.exports.specs.declared.desk.Salvaged.{Salvaged}
 use Rattle.exports.specs.declared.desk.Unbuilt.{Unbuilt}
 
 -- in no file, 0, in the label, 1, or in the image, 2
-abbrev pub textIn : ℕ → ℕ → ℕ → FoundText
-textIn file from to = record { number = 0; file = file; place = 0; from = from; to = to }
+abbrev pub text_in : ℕ → ℕ → ℕ → FoundText
+text_in file from to = record { number = 0; file = file; place = 0; from = from; to = to }
 
-abbrev pub foundAs : Found → FoundText
-foundAs Nothing = textIn 0 0 0
-foundAs (Label a e) = textIn 1 a e
-foundAs (Image a e) = textIn 2 a e
-foundAs (Refused r) = record { number = r.number; file = 0; place = r.place; from = 0; to = 0 }
+abbrev pub found_as : Found → FoundText
+found_as Nothing = text_in 0 0 0
+found_as (Label a e) = text_in 1 a e
+found_as (Image a e) = text_in 2 a e
+found_as (Refused r) = record { number = r.number; file = 0; place = r.place; from = 0; to = 0 }
 
 -- whether it stopped, 1 or 0, and where
-abbrev pub salvagedAt : Salvaging → ℕ → ℕ → Salvaged
-salvagedAt s stopped stop =
+abbrev pub salvaged_at : Salvaging → ℕ → ℕ → Salvaged
+salvaged_at s stopped stop =
     record {
       number = s.refusal.number;
       stopped = stopped;
@@ -33,12 +33,12 @@ salvagedAt s stopped stop =
       stop = stop;
     }
 
-abbrev pub stoppedAs : Salvaging → Stopped → Salvaged
-stoppedAs s Nowhere = salvagedAt s 0 0
-stoppedAs s (At p) = salvagedAt s 1 p
+abbrev pub stopped_as : Salvaging → Stopped → Salvaged
+stopped_as s Nowhere = salvaged_at s 0 0
+stopped_as s (At p) = salvaged_at s 1 p
 
-abbrev pub salvagedAs : Salvaging → Salvaged
-salvagedAs s = stoppedAs s s.stopped
+abbrev pub salvaged_as : Salvaging → Salvaged
+salvaged_as s = stopped_as s s.stopped
 
-abbrev pub unbuiltAs : Unbuilding → Unbuilt
-unbuiltAs u = record { number = u.refusal.number; place = u.refusal.place; bin = u.bin; cfg = u.cfg }
+abbrev pub unbuilt_as : Unbuilding → Unbuilt
+unbuilt_as u = record { number = u.refusal.number; place = u.refusal.place; bin = u.bin; cfg = u.cfg }

@@ -10,8 +10,8 @@ use Rattle.registers.specs.Words.{words_of}
 abbrev pub fields_of : Compat → List ℕ
 fields_of c = c.intellivoice ∷ c.ecs ∷ c.intellivision2 ∷ c.keyboard ∷ number_of c.tutorvision ∷ []
 
-abbrev pub loadedOf : Loading → Loaded
-loadedOf l =
+abbrev pub loaded_of : Loading → Loaded
+loaded_of l =
     record {
       number = l.refusal.number;
       place = l.refusal.place;

@@ -5,7 +5,7 @@ use Rattle.accesses.specs.declared.Ran.{Ran}
 use Rattle.exports.specs.declared.state.State.{State}
 use Rattle.exports.specs.declared.state.WrittenState.{WrittenState}
 use Rattle.exports.specs.declared.state.RanList.{RanList}
-use Rattle.registers.specs.Words.{words_of, jlpFrom}
+use Rattle.registers.specs.Words.{words_of, jlp_from}
 
 abbrev pub state_of : Cartridge → State
 state_of c =
@@ -20,8 +20,8 @@ state_of c =
     }
 
 -- and back: any words are some accelerators
-abbrev pub cartridgeFrom : State → Cartridge
-cartridgeFrom s =
+abbrev pub cartridge_from : State → Cartridge
+cartridge_from s =
     record {
       initial_mapping = s.initial_mapping;
       initial_permissions = s.initial_permissions;
@@ -29,14 +29,14 @@ cartridgeFrom s =
       permissions = s.permissions;
       flips = s.flips;
       readable = s.readable;
-      jlp = jlpFrom s.accelerators;
+      jlp = jlp_from s.accelerators;
     }
 
-abbrev pub writtenAs : Written → WrittenState
-writtenAs w = record { state = state_of w.cartridge; assigned = w.assigned }
+abbrev pub written_as : Written → WrittenState
+written_as w = record { state = state_of w.cartridge; assigned = w.assigned }
 
-abbrev pub ranAs : Ran → RanList
-ranAs r =
+abbrev pub ran_as : Ran → RanList
+ran_as r =
     record {
       number = r.refusal.number;
       place = r.refusal.place;

@@ -1,9 +1,9 @@
 // What else the desk does with an image: a text by its tag, what is sound of a damaged one, and back to BIN and CFG.
 ghost use Rattle.std.specs.Prelude.{◌≡◌, length};
-ghost use Rattle.lookup.specs.Lookup.{findOf};
-ghost use Rattle.recovery.specs.Salvage.{salvagingOf, written_of, dropsIn, listedIn};
-ghost use Rattle.unbuild.specs.Unbuild.{unbuildingOf, binAfter, cfgAfter};
-ghost use Rattle.exports.specs.Desk.{textIn, foundAs, salvagedAt, salvagedAs, unbuiltAs};
+ghost use Rattle.lookup.specs.Lookup.{find_of};
+ghost use Rattle.recovery.specs.Salvage.{salvaging_of, written_of, drops_in, listed_in};
+ghost use Rattle.unbuild.specs.Unbuild.{unbuilding_of, bin_after, cfg_after};
+ghost use Rattle.exports.specs.Desk.{text_in, found_as, salvaged_at, salvaged_as, unbuilt_as};
 
 use lookup::Found;
 use recovery::{Salvaging, Stopped};
@@ -21,7 +21,7 @@ pub struct FoundText {
 }
 
 fn text_in(file: u32, from: usize, to: usize) -> FoundText
-    ensures { result ≡ textIn file from to }
+    ensures { result ≡ text_in file from to }
 {
     FoundText {
         number: 0,
@@ -33,7 +33,7 @@ fn text_in(file: u32, from: usize, to: usize) -> FoundText
 }
 
 fn found_as(f: Found) -> FoundText
-    ensures { result ≡ foundAs f }
+    ensures { result ≡ found_as f }
 {
     match f {
         Found::Nothing => text_in(0, 0, 0),
@@ -52,7 +52,7 @@ fn found_as(f: Found) -> FoundText
 // The n-th text with a tag: the label's, which may be empty, else the image's.
 #[unsafe(no_mangle)]
 pub extern "C" fn luigi_find(label: &[u8], image: &[u8], tag: u8, n: usize) -> FoundText
-    ensures { result ≡ foundAs (findOf label.now image.now tag n) }
+    ensures { result ≡ found_as (find_of label.now image.now tag n) }
 {
     found_as(lookup::find(label, image, tag, n))
 }
@@ -71,7 +71,7 @@ pub struct Salvaged {
 }
 
 fn salvaged_at(s: Salvaging, stopped: u32, stop: usize) -> Salvaged
-    ensures { result ≡ salvagedAt s stopped stop }
+    ensures { result ≡ salvaged_at s stopped stop }
 {
     let r = s.refusal;
     Salvaged {
@@ -86,7 +86,7 @@ fn salvaged_at(s: Salvaging, stopped: u32, stop: usize) -> Salvaged
 }
 
 fn salvaged_as(s: Salvaging) -> Salvaged
-    ensures { result ≡ salvagedAs s }
+    ensures { result ≡ salvaged_as s }
 {
     let stopped = s.stopped;
     match stopped {
@@ -98,7 +98,7 @@ fn salvaged_as(s: Salvaging) -> Salvaged
 // What is sound of a damaged image, into the front of a lent buffer.
 #[unsafe(no_mangle)]
 pub extern "C" fn luigi_salvage(image: &[u8], out: &mut [u8]) -> Salvaged
-    ensures { (result ≡ salvagedAs (salvagingOf out.old image.now)) × (out.new ≡ written_of out.old image.now) }
+    ensures { (result ≡ salvaged_as (salvaging_of out.old image.now)) × (out.new ≡ written_of out.old image.now) }
 {
     salvaged_as(recovery::salvage(image, out))
 }
@@ -106,7 +106,7 @@ pub extern "C" fn luigi_salvage(image: &[u8], out: &mut [u8]) -> Salvaged
 // How many blocks a salvage leaves out, and the places of the first of them, as many as are lent.
 #[unsafe(no_mangle)]
 pub extern "C" fn luigi_drops(image: &[u8], places: &mut [usize]) -> usize
-    ensures { (result ≡ length (dropsIn image.now)) × (places.new ≡ listedIn image.now places.old) }
+    ensures { (result ≡ length (drops_in image.now)) × (places.new ≡ listed_in image.now places.old) }
 {
     recovery::drops(image, places)
 }
@@ -122,7 +122,7 @@ pub struct Unbuilt {
 }
 
 fn unbuilt_as(u: Unbuilding) -> Unbuilt
-    ensures { result ≡ unbuiltAs u }
+    ensures { result ≡ unbuilt_as u }
 {
     let r = u.refusal;
     Unbuilt {
@@ -136,9 +136,9 @@ fn unbuilt_as(u: Unbuilding) -> Unbuilt
 // The BIN and the CFG that build an image again, into the fronts of two lent buffers.
 #[unsafe(no_mangle)]
 pub extern "C" fn luigi_unbuild(image: &[u8], bin: &mut [u8], cfg: &mut [u8]) -> Unbuilt
-    ensures { (result ≡ unbuiltAs (unbuildingOf image.now bin.old cfg.old))
-        × (bin.new ≡ binAfter image.now bin.old cfg.old)
-        × (cfg.new ≡ cfgAfter image.now bin.old cfg.old) }
+    ensures { (result ≡ unbuilt_as (unbuilding_of image.now bin.old cfg.old))
+        × (bin.new ≡ bin_after image.now bin.old cfg.old)
+        × (cfg.new ≡ cfg_after image.now bin.old cfg.old) }
 {
     unbuilt_as(unbuild::unbuild(image, bin, cfg))
 }

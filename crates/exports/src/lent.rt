@@ -2,11 +2,11 @@
 ghost use Rattle.std.specs.Prelude.{◌≡◌};
 ghost use Rattle.places.specs.Places.{console};
 ghost use Rattle.switches.specs.Flips.{active};
-ghost use Rattle.jlp.specs.Accelerators.{resetJlp};
-ghost use Rattle.cart.specs.Readable.{readableOf};
+ghost use Rattle.jlp.specs.Accelerators.{reset_jlp};
+ghost use Rattle.cart.specs.Readable.{readable_of};
 ghost use Rattle.cart.specs.Reads.{heard, read_by};
-ghost use Rattle.cart.specs.Cartridges.{writeOf, written_of, writeRamOf, writeFlashOf};
-ghost use Rattle.registers.specs.Words.{jlpFrom, words_of};
+ghost use Rattle.cart.specs.Cartridges.{write_of, written_of, write_ram_of, write_flash_of};
+ghost use Rattle.registers.specs.Words.{jlp_from, words_of};
 ghost use Rattle.exports.specs.Runs.{carried};
 
 use places::{Console, FLIP_ENTRIES, PARAGRAPHS};
@@ -21,7 +21,7 @@ pub extern "C" fn luigi_read<'a>(
     ram: &[u16],
     at: u16,
 ) -> u32
-    ensures { result ≡ heard (read_by (jlpFrom accelerators.now) (active mapping.now permissions.now) ram.now (console at)) }
+    ensures { result ≡ heard (read_by (jlp_from accelerators.now) (active mapping.now permissions.now) ram.now (console at)) }
 {
     let a = Console(at);
     let on = registers::is_on(accelerators);
@@ -45,13 +45,13 @@ pub extern "C" fn luigi_write(
     at: u16,
     value: u16,
 ) -> u8
-    ensures { (result ≡ (written_of (carried mapping.old permissions.old flips.now readable.old (jlpFrom accelerators.old)) (console at) value).assigned)
-        × (readable.new ≡ (writeOf (carried mapping.old permissions.old flips.now readable.old (jlpFrom accelerators.old)) (console at) value).readable)
-        × (mapping.new ≡ (writeOf (carried mapping.old permissions.old flips.now readable.old (jlpFrom accelerators.old)) (console at) value).mapping)
-        × (permissions.new ≡ (writeOf (carried mapping.old permissions.old flips.now readable.old (jlpFrom accelerators.old)) (console at) value).permissions)
-        × (accelerators.new ≡ words_of (writeOf (carried mapping.old permissions.old flips.now readable.old (jlpFrom accelerators.old)) (console at) value).jlp)
-        × (ram.new ≡ writeRamOf (carried mapping.old permissions.old flips.now readable.old (jlpFrom accelerators.old)) flash.old ram.old (console at) value)
-        × (flash.new ≡ writeFlashOf (carried mapping.old permissions.old flips.now readable.old (jlpFrom accelerators.old)) flash.old ram.old (console at) value) }
+    ensures { (result ≡ (written_of (carried mapping.old permissions.old flips.now readable.old (jlp_from accelerators.old)) (console at) value).assigned)
+        × (readable.new ≡ (write_of (carried mapping.old permissions.old flips.now readable.old (jlp_from accelerators.old)) (console at) value).readable)
+        × (mapping.new ≡ (write_of (carried mapping.old permissions.old flips.now readable.old (jlp_from accelerators.old)) (console at) value).mapping)
+        × (permissions.new ≡ (write_of (carried mapping.old permissions.old flips.now readable.old (jlp_from accelerators.old)) (console at) value).permissions)
+        × (accelerators.new ≡ words_of (write_of (carried mapping.old permissions.old flips.now readable.old (jlp_from accelerators.old)) (console at) value).jlp)
+        × (ram.new ≡ write_ram_of (carried mapping.old permissions.old flips.now readable.old (jlp_from accelerators.old)) flash.old ram.old (console at) value)
+        × (flash.new ≡ write_flash_of (carried mapping.old permissions.old flips.now readable.old (jlp_from accelerators.old)) flash.old ram.old (console at) value) }
 {
     registers::tidy(accelerators);
     let a = Console(at);
@@ -84,8 +84,8 @@ pub extern "C" fn luigi_reset<'a>(
 )
     ensures { (mapping.new ≡ initial_mapping.now)
         × (permissions.new ≡ initial_permissions.now)
-        × (readable.new ≡ readableOf initial_permissions.now)
-        × (accelerators.new ≡ words_of (resetJlp (jlpFrom accelerators.old))) }
+        × (readable.new ≡ readable_of initial_permissions.now)
+        × (accelerators.new ≡ words_of (reset_jlp (jlp_from accelerators.old))) }
 {
     let j = jlp_from(accelerators);
     let im = *initial_mapping;

@@ -7,15 +7,15 @@ mod writer;
 
 ghost use Rattle.std.specs.Prelude.{min, ◌≤◌, ◌≡◌, length};
 ghost use Rattle.places.specs.Limits.{lent};
-ghost use Rattle.sums.specs.Crc.{dowcrcOf, crc324Of, crc32Of};
+ghost use Rattle.sums.specs.Crc.{dowcrc_of, crc324_of, crc32_of};
 ghost use Rattle.cart.specs.Cartridges.{fresh};
-ghost use Rattle.lending.specs.Lending.{flashFor};
-ghost use Rattle.load.specs.Load.{loadingOf, loadRamOf};
-ghost use Rattle.build.specs.Building.{buildingOf, builtOf};
-ghost use Rattle.registers.specs.Words.{jlpFrom};
-ghost use Rattle.exports.specs.Loads.{fields_of, loadedOf};
-ghost use Rattle.exports.specs.Builds.{builtAs};
-ghost use Rattle.exports.specs.Runs.{activeAs, answersIn, carried, numbered, numberedWrites, activeAfter, ramAfter, flashAfter};
+ghost use Rattle.lending.specs.Lending.{flash_for};
+ghost use Rattle.load.specs.Load.{loading_of, load_ram_of};
+ghost use Rattle.build.specs.Building.{building_of, built_of};
+ghost use Rattle.registers.specs.Words.{jlp_from};
+ghost use Rattle.exports.specs.Loads.{fields_of, loaded_of};
+ghost use Rattle.exports.specs.Builds.{built_as};
+ghost use Rattle.exports.specs.Runs.{active_as, answers_in, carried, numbered, numbered_writes, active_after, ram_after, flash_after};
 
 use build::Building;
 use cart::Cartridge;
@@ -27,21 +27,21 @@ use registers::{ACCELERATOR_WORDS, jlp_from, words_of};
 // The three checksums.
 #[unsafe(no_mangle)]
 pub extern "C" fn luigi_dowcrc(s: &[u8]) -> u8
-    ensures { result ≡ dowcrcOf s.now }
+    ensures { result ≡ dowcrc_of s.now }
 {
     sums::dowcrc(s)
 }
 
 #[unsafe(no_mangle)]
 pub extern "C" fn luigi_crc324(s: &[u8]) -> u32
-    ensures { result ≡ crc324Of s.now }
+    ensures { result ≡ crc324_of s.now }
 {
     sums::crc324(s)
 }
 
 #[unsafe(no_mangle)]
 pub extern "C" fn luigi_crc32(s: &[u8]) -> u32
-    ensures { result ≡ crc32Of s.now }
+    ensures { result ≡ crc32_of s.now }
 {
     sums::crc32(s)
 }
@@ -77,7 +77,7 @@ fn compat_of(c: Compat) -> [u8; 5]
 }
 
 fn answered(l: Loading) -> Loaded
-    ensures { result ≡ loadedOf l }
+    ensures { result ≡ loaded_of l }
 {
     let cartridge = l.cartridge;
     let mapping = cartridge.mapping;
@@ -102,7 +102,7 @@ fn answered(l: Loading) -> Loaded
 // The words of flash that a load is to be lent: a host asks before it loads. None where the image has no JLP flash, or is too short to ask.
 #[unsafe(no_mangle)]
 pub extern "C" fn luigi_flash_words(image: &[u8]) -> usize
-    ensures { result ≡ flashFor image.now }
+    ensures { result ≡ flash_for image.now }
 {
     lending::flash_for(image)
 }
@@ -110,8 +110,8 @@ pub extern "C" fn luigi_flash_words(image: &[u8]) -> usize
 // The load of an image into a lent RAM, with a lent flash.
 #[unsafe(no_mangle)]
 pub extern "C" fn luigi_load(image: &[u8], ram: &mut [u16], flash: &[u16]) -> Loaded
-    ensures { (result ≡ loadedOf (loadingOf image.now (lent ram.old) (length flash.now)))
-        × (ram.new ≡ loadRamOf image.now ram.old (length flash.now)) }
+    ensures { (result ≡ loaded_of (loading_of image.now (lent ram.old) (length flash.now)))
+        × (ram.new ≡ load_ram_of image.now ram.old (length flash.now)) }
 {
     answered(load::load(image, ram, flash))
 }
@@ -127,7 +127,7 @@ pub struct Built {
 }
 
 fn built_as(b: Building) -> Built
-    ensures { result ≡ builtAs b }
+    ensures { result ≡ built_as b }
 {
     let r = b.refusal;
     Built {
@@ -141,8 +141,8 @@ fn built_as(b: Building) -> Built
 // An image from a BIN, a CFG and a label, which may be empty, into the front of a lent buffer.
 #[unsafe(no_mangle)]
 pub extern "C" fn luigi_build(bin: &[u8], cfg: &[u8], label: &[u8], out: &mut [u8]) -> Built
-    ensures { (result ≡ builtAs (buildingOf bin.now cfg.now label.now out.old))
-        × (out.new ≡ builtOf bin.now cfg.now label.now out.old) }
+    ensures { (result ≡ built_as (building_of bin.now cfg.now label.now out.old))
+        × (out.new ≡ built_of bin.now cfg.now label.now out.old) }
 {
     built_as(build::build(bin, cfg, label, out))
 }
@@ -164,7 +164,7 @@ fn fresh<'a>(
     flips: &'a [u16; FLIP_ENTRIES],
     accelerators: &'a [u16; ACCELERATOR_WORDS],
 ) -> Cartridge
-    ensures { result ≡ fresh (jlpFrom accelerators.now) mapping.now permissions.now flips.now }
+    ensures { result ≡ fresh (jlp_from accelerators.now) mapping.now permissions.now flips.now }
 {
     let m = *mapping;
     let p = *permissions;
@@ -174,7 +174,7 @@ fn fresh<'a>(
 }
 
 fn active_as(c: Cartridge) -> Active
-    ensures { result ≡ activeAs c }
+    ensures { result ≡ active_as c }
 {
     let mapping = c.mapping;
     let permissions = c.permissions;
@@ -197,7 +197,7 @@ pub extern "C" fn luigi_reads<'a>(
     at: &[u16],
     out: &mut [u32],
 )
-    ensures { out.new ≡ answersIn (jlpFrom accelerators.now) mapping.now permissions.now ram.now at.now out.old }
+    ensures { out.new ≡ answers_in (jlp_from accelerators.now) mapping.now permissions.now ram.now at.now out.old }
 {
     let on = registers::is_on(accelerators);
     for i in 0..basics::least(at.len(), out.len()) {
@@ -221,7 +221,7 @@ pub extern "C" fn luigi_reads_by_value<'a>(
     at: &[u16],
     out: &mut [u32],
 )
-    ensures { out.new ≡ answersIn (jlpFrom accelerators.now) mapping.now permissions.now ram.now at.now out.old }
+    ensures { out.new ≡ answers_in (jlp_from accelerators.now) mapping.now permissions.now ram.now at.now out.old }
 {
     let c = fresh(mapping, permissions, flips, accelerators);
     for i in 0..basics::least(at.len(), out.len()) {
@@ -250,13 +250,13 @@ pub extern "C" fn luigi_writes(
     value: &[u16],
     assigned: &mut [u8],
 )
-    ensures { (readable.new ≡ (activeAfter (carried mapping.old permissions.old flips.now readable.old (jlpFrom accelerators.old)) ram.old flash.old at.now value.now (numberedWrites at.now value.now assigned.old)).readable)
-        × (mapping.new ≡ (activeAfter (carried mapping.old permissions.old flips.now readable.old (jlpFrom accelerators.old)) ram.old flash.old at.now value.now (numberedWrites at.now value.now assigned.old)).mapping)
-        × (permissions.new ≡ (activeAfter (carried mapping.old permissions.old flips.now readable.old (jlpFrom accelerators.old)) ram.old flash.old at.now value.now (numberedWrites at.now value.now assigned.old)).permissions)
-        × (accelerators.new ≡ (activeAfter (carried mapping.old permissions.old flips.now readable.old (jlpFrom accelerators.old)) ram.old flash.old at.now value.now (numberedWrites at.now value.now assigned.old)).accelerators)
-        × (ram.new ≡ ramAfter (carried mapping.old permissions.old flips.now readable.old (jlpFrom accelerators.old)) ram.old flash.old at.now value.now (numberedWrites at.now value.now assigned.old))
-        × (flash.new ≡ flashAfter (carried mapping.old permissions.old flips.now readable.old (jlpFrom accelerators.old)) ram.old flash.old at.now value.now (numberedWrites at.now value.now assigned.old))
-        × (assigned.new ≡ numbered (carried mapping.old permissions.old flips.now readable.old (jlpFrom accelerators.old)) ram.old flash.old at.now value.now (numberedWrites at.now value.now assigned.old) assigned.old) }
+    ensures { (readable.new ≡ (active_after (carried mapping.old permissions.old flips.now readable.old (jlp_from accelerators.old)) ram.old flash.old at.now value.now (numbered_writes at.now value.now assigned.old)).readable)
+        × (mapping.new ≡ (active_after (carried mapping.old permissions.old flips.now readable.old (jlp_from accelerators.old)) ram.old flash.old at.now value.now (numbered_writes at.now value.now assigned.old)).mapping)
+        × (permissions.new ≡ (active_after (carried mapping.old permissions.old flips.now readable.old (jlp_from accelerators.old)) ram.old flash.old at.now value.now (numbered_writes at.now value.now assigned.old)).permissions)
+        × (accelerators.new ≡ (active_after (carried mapping.old permissions.old flips.now readable.old (jlp_from accelerators.old)) ram.old flash.old at.now value.now (numbered_writes at.now value.now assigned.old)).accelerators)
+        × (ram.new ≡ ram_after (carried mapping.old permissions.old flips.now readable.old (jlp_from accelerators.old)) ram.old flash.old at.now value.now (numbered_writes at.now value.now assigned.old))
+        × (flash.new ≡ flash_after (carried mapping.old permissions.old flips.now readable.old (jlp_from accelerators.old)) ram.old flash.old at.now value.now (numbered_writes at.now value.now assigned.old))
+        × (assigned.new ≡ numbered (carried mapping.old permissions.old flips.now readable.old (jlp_from accelerators.old)) ram.old flash.old at.now value.now (numbered_writes at.now value.now assigned.old) assigned.old) }
 {
     registers::tidy(accelerators);
     for i in 0..least_of(at.len(), value.len(), assigned.len()) {
@@ -293,9 +293,9 @@ pub extern "C" fn luigi_writes_by_value<'a>(
     at: &[u16],
     value: &[u16],
 ) -> Active
-    ensures { (result ≡ activeAfter (fresh (jlpFrom accelerators.now) mapping.now permissions.now flips.now) ram.old flash.old at.now value.now (min (length at.now) (length value.now)))
-        × (ram.new ≡ ramAfter (fresh (jlpFrom accelerators.now) mapping.now permissions.now flips.now) ram.old flash.old at.now value.now (min (length at.now) (length value.now)))
-        × (flash.new ≡ flashAfter (fresh (jlpFrom accelerators.now) mapping.now permissions.now flips.now) ram.old flash.old at.now value.now (min (length at.now) (length value.now))) }
+    ensures { (result ≡ active_after (fresh (jlp_from accelerators.now) mapping.now permissions.now flips.now) ram.old flash.old at.now value.now (min (length at.now) (length value.now)))
+        × (ram.new ≡ ram_after (fresh (jlp_from accelerators.now) mapping.now permissions.now flips.now) ram.old flash.old at.now value.now (min (length at.now) (length value.now)))
+        × (flash.new ≡ flash_after (fresh (jlp_from accelerators.now) mapping.now permissions.now flips.now) ram.old flash.old at.now value.now (min (length at.now) (length value.now))) }
 {
     let mut c = fresh(mapping, permissions, flips, accelerators);
     for i in 0..basics::least(at.len(), value.len()) {

@@ -1,12 +1,12 @@
 // All of a cartridge in one struct, as C keeps it: given by value to an access or a list of them, and answered anew.
 ghost use Rattle.std.specs.Prelude.{◌≡◌, length};
 ghost use Rattle.places.specs.Places.{console};
-ghost use Rattle.cart.specs.Cartridges.{fresh, read_of, written_of, writeRamOf, writeFlashOf, resetOf};
-ghost use Rattle.accesses.specs.Runs.{world, ranOf, left, answersIn};
-ghost use Rattle.registers.specs.Words.{jlpFrom};
+ghost use Rattle.cart.specs.Cartridges.{fresh, read_of, written_of, write_ram_of, write_flash_of, reset_of};
+ghost use Rattle.accesses.specs.Runs.{world, ran_of, left, answers_in};
+ghost use Rattle.registers.specs.Words.{jlp_from};
 ghost use Rattle.cart.specs.Reads.{heard};
-ghost use Rattle.exports.specs.States.{state_of, cartridgeFrom, writtenAs, ranAs};
-ghost use Rattle.exports.specs.Code.States.{stateWith};
+ghost use Rattle.exports.specs.States.{state_of, cartridge_from, written_as, ran_as};
+ghost use Rattle.exports.specs.Code.States.{state_with};
 
 use crate::fresh;
 use accesses::Ran;
@@ -48,7 +48,7 @@ fn state_of(c: Cartridge) -> State
 }
 
 fn cartridge_from(s: State) -> Cartridge
-    ensures { result ≡ cartridgeFrom s }
+    ensures { result ≡ cartridge_from s }
 {
     let initial_mapping = s.initial_mapping;
     let initial_permissions = s.initial_permissions;
@@ -76,7 +76,7 @@ pub extern "C" fn luigi_state<'a>(
     flips: &'a [u16; FLIP_ENTRIES],
     accelerators: &'a [u16; ACCELERATOR_WORDS],
 ) -> State
-    ensures { result ≡ state_of (fresh (jlpFrom accelerators.now) mapping.now permissions.now flips.now) }
+    ensures { result ≡ state_of (fresh (jlp_from accelerators.now) mapping.now permissions.now flips.now) }
 {
     state_of(fresh(mapping, permissions, flips, accelerators))
 }
@@ -84,7 +84,7 @@ pub extern "C" fn luigi_state<'a>(
 // The word at an address, or silence.
 #[unsafe(no_mangle)]
 pub extern "C" fn luigi_read_by_value(state: State, ram: &[u16], at: u16) -> u32
-    ensures { result ≡ heard (read_of (cartridgeFrom state) ram.now (console at)) }
+    ensures { result ≡ heard (read_of (cartridge_from state) ram.now (console at)) }
 {
     let mapping = state.mapping;
     let permissions = state.permissions;
@@ -108,7 +108,7 @@ fn with_active(
     readable: u16,
     accelerators: [u16; ACCELERATOR_WORDS],
 ) -> State
-    ensures { result ≡ stateWith state mapping permissions readable accelerators }
+    ensures { result ≡ state_with state mapping permissions readable accelerators }
 {
     let initial_mapping = state.initial_mapping;
     let initial_permissions = state.initial_permissions;
@@ -132,9 +132,9 @@ pub extern "C" fn luigi_write_by_value(
     at: u16,
     value: u16,
 ) -> WrittenState
-    ensures { (result ≡ writtenAs (written_of (cartridgeFrom state) (console at) value))
-        × (ram.new ≡ writeRamOf (cartridgeFrom state) flash.old ram.old (console at) value)
-        × (flash.new ≡ writeFlashOf (cartridgeFrom state) flash.old ram.old (console at) value) }
+    ensures { (result ≡ written_as (written_of (cartridge_from state) (console at) value))
+        × (ram.new ≡ write_ram_of (cartridge_from state) flash.old ram.old (console at) value)
+        × (flash.new ≡ write_flash_of (cartridge_from state) flash.old ram.old (console at) value) }
 {
     let mut m = state.mapping;
     let mut p = state.permissions;
@@ -160,7 +160,7 @@ pub extern "C" fn luigi_write_by_value(
 
 #[unsafe(no_mangle)]
 pub extern "C" fn luigi_reset_by_value(state: State) -> State
-    ensures { result ≡ state_of (resetOf (cartridgeFrom state)) }
+    ensures { result ≡ state_of (reset_of (cartridge_from state)) }
 {
     state_of(cart::reset(cartridge_from(state)))
 }
@@ -177,7 +177,7 @@ pub struct RanList {
 }
 
 fn ran_as(ran: Ran) -> RanList
-    ensures { result ≡ ranAs ran }
+    ensures { result ≡ ran_as ran }
 {
     let r = ran.refusal;
     let state = state_of(ran.cartridge);
@@ -200,10 +200,10 @@ pub extern "C" fn luigi_run(
     flash: &mut [u16],
     out: &mut [u32],
 ) -> RanList
-    ensures { (result ≡ ranAs (ranOf (world (cartridgeFrom state) flash.old ram.old) list.now limit (length out.old)))
-        × (ram.new ≡ (left (world (cartridgeFrom state) flash.old ram.old) list.now limit (length out.old)).ram)
-        × (flash.new ≡ (left (world (cartridgeFrom state) flash.old ram.old) list.now limit (length out.old)).flash)
-        × (out.new ≡ answersIn (world (cartridgeFrom state) flash.old ram.old) list.now limit out.old) }
+    ensures { (result ≡ ran_as (ran_of (world (cartridge_from state) flash.old ram.old) list.now limit (length out.old)))
+        × (ram.new ≡ (left (world (cartridge_from state) flash.old ram.old) list.now limit (length out.old)).ram)
+        × (flash.new ≡ (left (world (cartridge_from state) flash.old ram.old) list.now limit (length out.old)).flash)
+        × (out.new ≡ answers_in (world (cartridge_from state) flash.old ram.old) list.now limit out.old) }
 {
     let c = cartridge_from(state);
     ran_as(accesses::run(list, limit, c, ram, flash, out))

@@ -1,8 +1,8 @@
 // The plain writer: an image from flag bytes, UID, tables, a RAM, and a byte for each Locutus paragraph.
 ghost use Rattle.std.specs.Prelude.{◌<◌, ◌≡◌};
 ghost use Rattle.tables.specs.Tables.{tables};
-ghost use Rattle.save.specs.Writing.{content, writingOf, written_of};
-ghost use Rattle.exports.specs.Images.{marksFrom, imageAs};
+ghost use Rattle.save.specs.Writing.{content, writing_of, written_of};
+ghost use Rattle.exports.specs.Images.{marks_from, image_as};
 
 use header::{FLAGS_SIZE, UID_SIZE};
 use places::{LOCUTUS_PARAGRAPHS, PARAGRAPHS};
@@ -18,7 +18,7 @@ pub struct WrittenImage {
 }
 
 fn image_as(w: Writing) -> WrittenImage
-    ensures { result ≡ imageAs w }
+    ensures { result ≡ image_as w }
 {
     let r = w.refusal;
     WrittenImage {
@@ -30,7 +30,7 @@ fn image_as(w: Writing) -> WrittenImage
 
 // C's bytes may hold any number: every byte but 0 marks.
 fn marks_from(bytes: &[u8; LOCUTUS_PARAGRAPHS]) -> [bool; LOCUTUS_PARAGRAPHS]
-    ensures { result ≡ marksFrom bytes.now }
+    ensures { result ≡ marks_from bytes.now }
 {
     let mut marks = [false; LOCUTUS_PARAGRAPHS];
     for p in 0..LOCUTUS_PARAGRAPHS {
@@ -51,8 +51,8 @@ pub extern "C" fn luigi_write_image<'a>(
     marks: &[u8; LOCUTUS_PARAGRAPHS],
     out: &mut [u8],
 ) -> WrittenImage
-    ensures { (result ≡ imageAs (writingOf out.old (content flags.now uid.now (tables mapping.now permissions.now flips.now) ram.now (marksFrom marks.now))))
-        × (out.new ≡ written_of out.old (content flags.now uid.now (tables mapping.now permissions.now flips.now) ram.now (marksFrom marks.now))) }
+    ensures { (result ≡ image_as (writing_of out.old (content flags.now uid.now (tables mapping.now permissions.now flips.now) ram.now (marks_from marks.now))))
+        × (out.new ≡ written_of out.old (content flags.now uid.now (tables mapping.now permissions.now flips.now) ram.now (marks_from marks.now))) }
 {
     let m = marks_from(marks);
     image_as(save::write(out, flags, uid, mapping, permissions, flips, ram, &m))

@@ -26,22 +26,22 @@ mach s h =
     (vcons (vint w64 h.st_ino) (vcons (vint w32 h.st_mode) (vcons (vint w32 h.st_uid) (vcons (vint w32 h.st_gid) vnil))))))
 
 module _ (h : stat) (u : Val) (is : Is S.the_row h (u ∷ [])) where
-  pub device-fits : h.st_dev < 2 ^ 64
-  device-fits = (LL.owed S.the_type S'.the_laws h _ is).0.1
+  pub device_fits : h.st_dev < 2 ^ 64
+  device_fits = (LL.owed S.the_type S'.the_laws h _ is).0.1
 
-  pub node-fits : h.st_ino < 2 ^ 64
-  node-fits = (LL.owed S.the_type S'.the_laws h _ is).1.0.1
+  pub node_fits : h.st_ino < 2 ^ 64
+  node_fits = (LL.owed S.the_type S'.the_laws h _ is).1.0.1
 
-  pub mode-fits : h.st_mode < 2 ^ 32
-  mode-fits = (LL.owed S.the_type S'.the_laws h _ is).1.1.1.0.1
+  pub mode_fits : h.st_mode < 2 ^ 32
+  mode_fits = (LL.owed S.the_type S'.the_laws h _ is).1.1.1.0.1
 
-  pub owner-fits : h.st_uid < 2 ^ 32
-  owner-fits = (LL.owed S.the_type S'.the_laws h _ is).1.1.1.1.0.1
+  pub owner_fits : h.st_uid < 2 ^ 32
+  owner_fits = (LL.owed S.the_type S'.the_laws h _ is).1.1.1.1.0.1
 
-  pub group-fits : h.st_gid < 2 ^ 32
-  group-fits = (LL.owed S.the_type S'.the_laws h _ is).1.1.1.1.1.0.1
+  pub group_fits : h.st_gid < 2 ^ 32
+  group_fits = (LL.owed S.the_type S'.the_laws h _ is).1.1.1.1.1.0.1
 
   pub made : (s : ℤ) → mag s < 2 ^ hbits w32 → Is T.the_row (told s h) (mach s h ∷ [])
   made s f =
       LL.owes T.the_type T'.the_laws (told s h)
-      ((refl, f), ((refl, device-fits), ((refl, node-fits), ((refl, mode-fits), ((refl, owner-fits), ((refl, group-fits), tt))))))
+      ((refl, f), ((refl, device_fits), ((refl, node_fits), ((refl, mode_fits), ((refl, owner_fits), ((refl, group_fits), tt))))))

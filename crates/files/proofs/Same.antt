@@ -7,45 +7,45 @@ use Rattle.files.proofs.names.is_name.Reads as is_name
 use Rattle.files.proofs.names.part_name.Reads as part-name
 use Rattle.files.proofs.reading.meaning.Reads as meaning
 use Rattle.files.proofs.reading.stop_of.Reads as stop-of
-use Rattle.files.proofs.rule.kind_of.Reads as kind-of
+use Rattle.files.proofs.rule.kind_of.Reads as kind_of_lem
 use Rattle.files.proofs.rule.same_file.Reads as same-file
 use Rattle.files.proofs.rule.is_input.Reads as is-input
 use Rattle.files.proofs.rule.verdict.Reads as verdict
 use Rattle.files.proofs.saying.stops.Reads as stops
 use Rattle.files.proofs.sight.nobody.Reads as nobody
 
-pub one-folder : OneAnswer folder.Learnt
-one-folder κs a y z e f p q = same p.0 q.0
+pub one_folder : OneAnswer folder.Learnt
+one_folder κs a y z e f p q = same p.0 q.0
 
-pub one-is-name : OneAnswer is_name.Learnt
-one-is-name κs a y z e f = same
+pub one_is_name : OneAnswer is_name.Learnt
+one_is_name κs a y z e f = same
 
-pub one-part-name : OneAnswer part-name.Learnt
-one-part-name κs a y z e f p q = same p.0 q.0
+pub one_part_name : OneAnswer part-name.Learnt
+one_part_name κs a y z e f p q = same p.0 q.0
 
-pub one-part-name-lent : OneLent part-name.Learnt (λ κs e. e.1.1.0.now)
-one-part-name-lent κs a y z e f p q = same p.1 q.1
+pub one_part_name_lent : OneLent part-name.Learnt (λ κs e. e.1.1.0.now)
+one_part_name_lent κs a y z e f p q = same p.1 q.1
 
-pub one-meaning : OneAnswer meaning.Learnt
-one-meaning κs a y z e f p q = same p.0 q.0
+pub one_meaning : OneAnswer meaning.Learnt
+one_meaning κs a y z e f p q = same p.0 q.0
 
-pub one-stop-of : OneAnswer stop-of.Learnt
-one-stop-of κs a y z e f = same
+pub one_stop_of : OneAnswer stop-of.Learnt
+one_stop_of κs a y z e f = same
 
-pub one-kind-of : OneAnswer kind-of.Learnt
-one-kind-of κs a y z e f = same
+pub one_kind_of : OneAnswer kind_of_lem.Learnt
+one_kind_of κs a y z e f = same
 
-pub one-same-file : OneAnswer same-file.Learnt
-one-same-file κs a y z e f = same
+pub one_same_file : OneAnswer same-file.Learnt
+one_same_file κs a y z e f = same
 
-pub one-is-input : OneAnswer is-input.Learnt
-one-is-input κs a y z e f = same
+pub one_is_input : OneAnswer is-input.Learnt
+one_is_input κs a y z e f = same
 
-pub one-verdict : OneAnswer verdict.Learnt
-one-verdict κs a y z e f = same
+pub one_verdict : OneAnswer verdict.Learnt
+one_verdict κs a y z e f = same
 
-pub one-stops : OneAnswer stops.Learnt
-one-stops κs a y z e f = same
+pub one_stops : OneAnswer stops.Learnt
+one_stops κs a y z e f = same
 
-pub one-nobody : OneAnswer nobody.Learnt
-one-nobody κs a y z e f = same
+pub one_nobody : OneAnswer nobody.Learnt
+one_nobody κs a y z e f = same

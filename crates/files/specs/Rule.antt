@@ -18,22 +18,22 @@ abbrev pub nobody : Seen
 nobody = unseen 2
 
 -- the system tells of both, and they are one number on one device
-abbrev pub sameFile : Seen → Seen → Bool
-sameFile a b = (eqb a.error 0 && eqb b.error 0) && (eqb a.device b.device && eqb a.node b.node)
+abbrev pub same_file : Seen → Seen → Bool
+same_file a b = (eqb a.error 0 && eqb b.error 0) && (eqb a.device b.device && eqb a.node b.node)
 
-unfoldable pub isInput : Seen → List Seen → Bool
-isInput seen [] = false
-isInput seen (input ∷ inputs) = sameFile seen input || isInput seen inputs
+unfoldable pub is_input : Seen → List Seen → Bool
+is_input seen [] = false
+is_input seen (input ∷ inputs) = same_file seen input || is_input seen inputs
 
 -- a name that nothing has is free (2 is the system's ENOENT), and so is a regular file that was not read
-abbrev pub verdictRows : Seen → List Seen → List (Row Why)
-verdictRows seen inputs =
+abbrev pub verdict_rows : Seen → List Seen → List (Row Why)
+verdict_rows seen inputs =
     (eqb seen.error 2, Nothing)
     ∷ (not (eqb seen.error 0), Look)
     ∷ (eqb (kind_of seen.mode) 10, Link)
     ∷ (not (eqb (kind_of seen.mode) 8), Kind)
-    ∷ (isInput seen inputs, Input)
+    ∷ (is_input seen inputs, Input)
     ∷ []
 
-unfoldable pub verdictOf : Seen → List Seen → Why
-verdictOf seen inputs = first_of (verdictRows seen inputs) Nothing
+unfoldable pub verdict_of : Seen → List Seen → Why
+verdict_of seen inputs = first_of (verdict_rows seen inputs) Nothing

@@ -6,30 +6,30 @@ use Rattle.files.specs.declared.Why.TheVariants.{Nothing, Argument, Closed, Open
 use Rattle.files.specs.declared.reading.Ending.{Ending}
 use Rattle.files.specs.declared.reading.Ending.TheVariants.{Whole, Longer, Failed}
 
-abbrev pub stopBy : Why → ℕ → Stop
-stopBy why error = record { why = why; error = error }
+abbrev pub stop_by : Why → ℕ → Stop
+stop_by why error = record { why = why; error = error }
 
-abbrev pub noStop : Stop
-noStop = stopBy Nothing 0
+abbrev pub no_stop : Stop
+no_stop = stop_by Nothing 0
 
-abbrev pub isStop : Why → Bool
-isStop Nothing = false
-isStop Argument = true
-isStop Closed = true
-isStop Open = true
-isStop Read = true
-isStop Look = true
-isStop Link = true
-isStop Kind = true
-isStop Input = true
-isStop Protected = true
-isStop Create = true
-isStop Mode = true
-isStop Write = true
-isStop Sync = true
-isStop Move = true
+abbrev pub is_stop : Why → Bool
+is_stop Nothing = false
+is_stop Argument = true
+is_stop Closed = true
+is_stop Open = true
+is_stop Read = true
+is_stop Look = true
+is_stop Link = true
+is_stop Kind = true
+is_stop Input = true
+is_stop Protected = true
+is_stop Create = true
+is_stop Mode = true
+is_stop Write = true
+is_stop Sync = true
+is_stop Move = true
 
-abbrev pub stopOf : Ending → Stop
-stopOf Whole = noStop
-stopOf Longer = noStop
-stopOf (Failed error) = stopBy Read error
+abbrev pub stop_of : Ending → Stop
+stop_of Whole = no_stop
+stop_of Longer = no_stop
+stop_of (Failed error) = stop_by Read error

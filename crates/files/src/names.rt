@@ -4,7 +4,7 @@ ghost use Rattle.basics.specs.Lists.{joined};
 ghost use Rattle.io.specs.Counts.{IsPrefixLen};
 ghost use Rattle.io.specs.Digits.{hex_digit_ascii as Digits·glyph};
 ghost use Rattle.libc.specs.Io.{Ended};
-ghost use Rattle.files.specs.Names.{hexOf, folderOf, isName, part_of, partLength, partIn};
+ghost use Rattle.files.specs.Names.{hex_of, folder_of, is_name, part_of, part_length, part_in};
 
 use libc::PATH_MAX;
 
@@ -13,7 +13,7 @@ const PART: usize = 31;
 
 // How many bytes of a name name its folder, the last `/` with them.
 pub fn folder(name: &[u8]) -> usize
-    ensures { (result ≡ folderOf name.now) × IsPrefixLen result name.now }
+    ensures { (result ≡ folder_of name.now) × IsPrefixLen result name.now }
 {
     let mut k = 0;
     let mut i = 0;
@@ -28,7 +28,7 @@ pub fn folder(name: &[u8]) -> usize
 
 // Whether the system takes all of it for a name: it is short enough, and no byte of it is 0.
 pub fn is_name(name: &[u8]) -> bool
-    ensures { result ≡ isName name.now }
+    ensures { result ≡ is_name name.now }
 {
     if PATH_MAX <= name.len() {
         return false;
@@ -73,7 +73,7 @@ fn glyph(x: u8) -> u8
 // Bytes as hexadecimal digits, into a part of just their size.
 fn put_hex(out: &mut [u8], tag: &[u8])
     requires { length out.old ≡ 2 * length tag.now }
-    ensures { out.new ≡ joined hexOf tag.now }
+    ensures { out.new ≡ joined hex_of tag.now }
 {
     let mut i = 0;
     while i < tag.len() {
@@ -86,7 +86,7 @@ fn put_hex(out: &mut [u8], tag: &[u8])
 
 // A part's name, into a part of a buffer of just its size.
 fn put_part(out: &mut [u8], name: &[u8], k: usize, tag: &[u8; 12])
-    requires { (k ≡ folderOf name.now) × (k ≤ length name.now) × (length out.old ≡ k + 31) }
+    requires { (k ≡ folder_of name.now) × (k ≤ length name.now) × (length out.old ≡ k + 31) }
     ensures { out.new ≡ part_of name.now tag.now }
 {
     let a = k + 7;
@@ -99,7 +99,7 @@ fn put_part(out: &mut [u8], name: &[u8], k: usize, tag: &[u8; 12])
 // The name of a part file, in the folder of the file that it is to become, at the front of a buffer; answers its length, and 0
 // where it does not fit.
 pub fn part_name(name: &[u8], tag: &[u8; 12], out: &mut [u8]) -> usize
-    ensures { (result ≡ partLength name.now (length out.old)) × (out.new ≡ partIn name.now tag.now out.old) × IsPrefixLen result out.new }
+    ensures { (result ≡ part_length name.now (length out.old)) × (out.new ≡ part_in name.now tag.now out.old) × IsPrefixLen result out.new }
 {
     let k = folder(name);
     if out.len() < k {

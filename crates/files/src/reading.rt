@@ -1,8 +1,8 @@
 // Reading a file whole: its end apart from an error, and a file that is longer than the buffer apart from both.
 ghost use Rattle.std.specs.Prelude.{◌+◌, ◌≤◌, ◌≡◌, length};
 ghost use Rattle.io.specs.Counts.{IsPrefixLen};
-ghost use Rattle.files.specs.Reads.{meaningOf, countIn};
-ghost use Rattle.files.specs.Stops.{stopOf};
+ghost use Rattle.files.specs.Reads.{meaning_of, count_in};
+ghost use Rattle.files.specs.Stops.{stop_of};
 
 use crate::{Seen, Stop, Why, saying, sight};
 
@@ -39,7 +39,7 @@ pub struct Reading {
 
 // What a read into so much room means by its answer: a count, the end, or a failure.
 pub fn meaning(answer: isize, room: usize) -> Brought
-    ensures { (result ≡ meaningOf answer room) × (countIn result ≤ room) }
+    ensures { (result ≡ meaning_of answer room) × (count_in result ≤ room) }
 {
     if answer < 0 {
         return Brought::Failed;
@@ -52,7 +52,7 @@ pub fn meaning(answer: isize, room: usize) -> Brought
 
 // How many bytes that is.
 fn count_in(b: Brought) -> usize
-    ensures { result ≡ countIn b }
+    ensures { result ≡ count_in b }
 {
     match b {
         Brought::Bytes(k) => k,
@@ -73,7 +73,7 @@ fn ending_of(b: Brought) -> Ending {
 // One read, to place n of a buffer and on.
 fn read_from(fd: i32, buf: &mut [u8], n: usize) -> Brought
     requires { n ≤ length buf.old }
-    ensures { n + countIn result ≤ length buf.old }
+    ensures { n + count_in result ≤ length buf.old }
 {
     let room = buf.len() - n;
     let answer = libc::read(fd, &mut buf[n..]);
@@ -110,7 +110,7 @@ pub fn read_all(fd: i32, buf: &mut [u8]) -> Taken
 
 // Why a reading that ended so stops a program: a longer file does not, since its buffer has all that there is room for.
 pub fn stop_of(ending: Ending) -> Stop
-    ensures { result ≡ stopOf ending }
+    ensures { result ≡ stop_of ending }
 {
     match ending {
         Ending::Whole => saying::go_on(),

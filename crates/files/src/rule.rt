@@ -1,6 +1,6 @@
 // The rule of the floor: what a program may move a whole file over.
 ghost use Rattle.std.specs.Prelude.{◌/◌, ◌%◌, ◌≡◌};
-ghost use Rattle.files.specs.Rule.{kind_of, sameFile, isInput, verdictOf};
+ghost use Rattle.files.specs.Rule.{kind_of, same_file, is_input, verdict_of};
 
 use crate::sight::ENOENT;
 use crate::{INPUTS, Seen, Why};
@@ -19,7 +19,7 @@ pub fn kind_of(mode: u32) -> u32
 
 // Whether two sights are of one file: both are told, with one number on one device.
 pub fn same_file(a: Seen, b: Seen) -> bool
-    ensures { result ≡ sameFile a b }
+    ensures { result ≡ same_file a b }
 {
     let told = both(a.error == 0, b.error == 0);
     both(told, both(a.device == b.device, a.node == b.node))
@@ -27,7 +27,7 @@ pub fn same_file(a: Seen, b: Seen) -> bool
 
 // Whether it is one of the files that were read.
 pub fn is_input(seen: Seen, inputs: [Seen; INPUTS]) -> bool
-    ensures { result ≡ isInput seen inputs }
+    ensures { result ≡ is_input seen inputs }
 {
     let mut i = 0;
     while i < INPUTS {
@@ -41,7 +41,7 @@ pub fn is_input(seen: Seen, inputs: [Seen; INPUTS]) -> bool
 
 // Why nothing may be moved over what was seen under a name.
 pub fn verdict(seen: Seen, inputs: [Seen; INPUTS]) -> Why
-    ensures { result ≡ verdictOf seen inputs }
+    ensures { result ≡ verdict_of seen inputs }
 {
     if seen.error == ENOENT {
         return Why::Nothing;

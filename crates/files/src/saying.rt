@@ -1,12 +1,12 @@
 // What a program says on its standard output, lines KEY=VALUE, and what stopped it.
 ghost use Rattle.std.specs.Prelude.{◌≡◌};
-ghost use Rattle.files.specs.Stops.{noStop, isStop};
+ghost use Rattle.files.specs.Stops.{no_stop, is_stop};
 
 use crate::{Stop, Why, sight};
 use libc::STDOUT_FILENO;
 
 pub fn go_on() -> Stop
-    ensures { result ≡ noStop }
+    ensures { result ≡ no_stop }
 {
     Stop {
         why: Why::Nothing,
@@ -28,7 +28,7 @@ pub fn stop(why: Why) -> Stop {
 }
 
 pub fn stops(s: Stop) -> bool
-    ensures { result ≡ isStop s.why }
+    ensures { result ≡ is_stop s.why }
 {
     let why = s.why;
     match why {

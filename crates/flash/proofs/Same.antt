@@ -10,29 +10,29 @@ use Rattle.flash.proofs.hear.Reads as hear
 use Rattle.flash.proofs.remember.Reads as remember
 use Rattle.flash.proofs.asked.Reads as asked
 
-pub one-read : OneLent read.Learnt (λ κs e. e.1.1.0.now)
-one-read κs a y z e f = same
+pub one_read : OneLent read.Learnt (λ κs e. e.1.1.0.now)
+one_read κs a y z e f = same
 
-pub one-write : OneLent write.Learnt (λ κs e. e.1.0.now)
-one-write κs a y z e f = same
+pub one_write : OneLent write.Learnt (λ κs e. e.1.0.now)
+one_write κs a y z e f = same
 
-pub one-erase : OneLent erase.Learnt (λ κs e. e.1.0.now)
-one-erase κs a y z e f = same
+pub one_erase : OneLent erase.Learnt (λ κs e. e.1.0.now)
+one_erase κs a y z e f = same
 
-pub one-act-flash : OneLent act.Learnt (λ κs e. e.1.0.now)
-one-act-flash κs a y z e f p q = same p.0 q.0
+pub one_act_flash : OneLent act.Learnt (λ κs e. e.1.0.now)
+one_act_flash κs a y z e f p q = same p.0 q.0
 
-pub one-act-ram : OneLent act.Learnt (λ κs e. e.1.1.0.now)
-one-act-ram κs a y z e f p q = same p.1 q.1
+pub one_act_ram : OneLent act.Learnt (λ κs e. e.1.1.0.now)
+one_act_ram κs a y z e f p q = same p.1 q.1
 
-pub one-fresh : OneAnswer fresh.Learnt
-one-fresh κs a y z e f = same
+pub one_fresh : OneAnswer fresh.Learnt
+one_fresh κs a y z e f = same
 
-pub one-hear : OneAnswer hear.Learnt
-one-hear κs a y z e f = same
+pub one_hear : OneAnswer hear.Learnt
+one_hear κs a y z e f = same
 
-pub one-remember : OneAnswer remember.Learnt
-one-remember κs a y z e f = same
+pub one_remember : OneAnswer remember.Learnt
+one_remember κs a y z e f = same
 
-pub one-asked : OneAnswer asked.Learnt
-one-asked κs a y z e f = same
+pub one_asked : OneAnswer asked.Learnt
+one_asked κs a y z e f = same

@@ -8,61 +8,61 @@ use Rattle.flash.specs.declared.Command.TheVariants.{Read, Write, Erase, Nothing
 use Rattle.flash.specs.declared.Saves.{Saves}
 use Rattle.flash.specs.declared.Heard.{Heard}
 use Rattle.flash.specs.declared.Heard.TheVariants.{Word, Silence}
-use Rattle.flash.specs.Flash.{sectorRows, sectorLimit}
+use Rattle.flash.specs.Flash.{sector_rows, sector_limit}
 
 -- JF.first and JF.last, which are read; JF.addr and JF.row, which are written; JF.wrcmd, JF.rdcmd and JF.ercmd, and the key of each
-abbrev pub jfFirst : ℕ
-jfFirst = 0x8023
+abbrev pub jf_first : ℕ
+jf_first = 0x8023
 
-abbrev pub jfLast : ℕ
-jfLast = 0x8024
+abbrev pub jf_last : ℕ
+jf_last = 0x8024
 
-abbrev pub jfAddr : ℕ
-jfAddr = 0x8025
+abbrev pub jf_addr : ℕ
+jf_addr = 0x8025
 
-abbrev pub jfRow : ℕ
-jfRow = 0x8026
+abbrev pub jf_row : ℕ
+jf_row = 0x8026
 
-abbrev pub jfWrcmd : ℕ
-jfWrcmd = 0x802D
+abbrev pub jf_wrcmd : ℕ
+jf_wrcmd = 0x802D
 
-abbrev pub jfRdcmd : ℕ
-jfRdcmd = 0x802E
+abbrev pub jf_rdcmd : ℕ
+jf_rdcmd = 0x802E
 
-abbrev pub jfErcmd : ℕ
-jfErcmd = 0x802F
+abbrev pub jf_ercmd : ℕ
+jf_ercmd = 0x802F
 
-abbrev pub jfWrkey : ℕ
-jfWrkey = 0xC0DE
+abbrev pub jf_wrkey : ℕ
+jf_wrkey = 0xC0DE
 
-abbrev pub jfRdkey : ℕ
-jfRdkey = 0xDEC0
+abbrev pub jf_rdkey : ℕ
+jf_rdkey = 0xDEC0
 
-abbrev pub jfErkey : ℕ
-jfErkey = 0xBEEF
+abbrev pub jf_erkey : ℕ
+jf_erkey = 0xBEEF
 
 -- a size of 1 to 682 sectors gives flash; no other does: with 0 the registers are silent, and a load refuses a larger one with 13
-unfoldable pub hasFlash : ℕ → Bool
-hasFlash sectors = leb 1 sectors && leb sectors sectorLimit
+unfoldable pub has_flash : ℕ → Bool
+has_flash sectors = leb 1 sectors && leb sectors sector_limit
 
 -- at load the address and row registers are 0
-abbrev pub freshSaves : ℕ → Saves
-freshSaves sectors = record { sectors = sectors; addr = 0; row = 0 }
+abbrev pub fresh_saves : ℕ → Saves
+fresh_saves sectors = record { sectors = sectors; addr = 0; row = 0 }
 
 -- the first row is 0, and the last 8 x sectors - 1
-abbrev pub firstRow : ℕ
-firstRow = 0
+abbrev pub first_row : ℕ
+first_row = 0
 
-abbrev pub lastRow : ℕ → ℕ
-lastRow sectors = sectorRows * sectors - 1
+abbrev pub last_row : ℕ → ℕ
+last_row sectors = sector_rows * sectors - 1
 
--- what a read gets: the first and the last row; the other registers are write-only
-unfoldable pub flashHeard : Saves → Console → Heard
-flashHeard s at =
+-- what a read gets: the first and the last row; the other registers are write_only
+unfoldable pub flash_heard : Saves → Console → Heard
+flash_heard s at =
     first_of
-    ((not (hasFlash s.sectors), Silence)
-    ∷ (eqb at.0 jfFirst, Word firstRow)
-    ∷ (eqb at.0 jfLast, Word (lastRow s.sectors))
+    ((not (has_flash s.sectors), Silence)
+    ∷ (eqb at.0 jf_first, Word first_row)
+    ∷ (eqb at.0 jf_last, Word (last_row s.sectors))
     ∷ [])
     Silence
 
@@ -70,19 +70,19 @@ flashHeard s at =
 unfoldable pub remembered : Saves → Console → ℕ → Saves
 remembered s at v =
     first_of
-    ((not (hasFlash s.sectors), s)
-    ∷ (eqb at.0 jfAddr, record { sectors = s.sectors; addr = v; row = s.row })
-    ∷ (eqb at.0 jfRow, record { sectors = s.sectors; addr = s.addr; row = v })
+    ((not (has_flash s.sectors), s)
+    ∷ (eqb at.0 jf_addr, record { sectors = s.sectors; addr = v; row = s.row })
+    ∷ (eqb at.0 jf_row, record { sectors = s.sectors; addr = s.addr; row = v })
     ∷ [])
     s
 
 -- the command that a write asks for: its key, written to its register; its row and its address are those of the registers
-unfoldable pub commandOf : Saves → Console → ℕ → Command
-commandOf s at v =
+unfoldable pub command_of : Saves → Console → ℕ → Command
+command_of s at v =
     first_of
-    ((not (hasFlash s.sectors), Nothing)
-    ∷ (eqb at.0 jfWrcmd && eqb v jfWrkey, Write s.row (console s.addr))
-    ∷ (eqb at.0 jfRdcmd && eqb v jfRdkey, Read s.row (console s.addr))
-    ∷ (eqb at.0 jfErcmd && eqb v jfErkey, Erase s.row)
+    ((not (has_flash s.sectors), Nothing)
+    ∷ (eqb at.0 jf_wrcmd && eqb v jf_wrkey, Write s.row (console s.addr))
+    ∷ (eqb at.0 jf_rdcmd && eqb v jf_rdkey, Read s.row (console s.addr))
+    ∷ (eqb at.0 jf_ercmd && eqb v jf_erkey, Erase s.row)
     ∷ [])
     Nothing

@@ -2,8 +2,8 @@
 // No word of the cartridge.
 ghost use Rattle.std.specs.Prelude.{◌+◌, ◌≤◌, ◌≡◌, length, get_or};
 ghost use Rattle.basics.specs.Lists.{laid};
-ghost use Rattle.flash.specs.Flash.{rowWords, sectorWords, sectorLimit, erasedWord, in_range, rowLent, sectorLent, ramLent, empty_at, readable, writable, readRam, writtenFlash, erasedFlash, memories, acted};
-ghost use Rattle.flash.specs.Registers.{hasFlash, lastRow, freshSaves, flashHeard, remembered, commandOf};
+ghost use Rattle.flash.specs.Flash.{row_words, sector_words, sector_limit, erased_word, in_range, row_lent, sector_lent, ram_lent, empty_at, readable, writable, read_ram, written_flash, erased_flash, memories, acted};
+ghost use Rattle.flash.specs.Registers.{has_flash, last_row, fresh_saves, flash_heard, remembered, command_of};
 
 use basics::both;
 use places::Console;
@@ -80,7 +80,7 @@ fn in_range(sectors: u16, row: u16) -> bool
 
 // Whether a row is in range, and lies wholly in so many lent words.
 fn row_lent(sectors: u16, words: usize, row: u16) -> bool
-    ensures { result ≡ rowLent sectors words row }
+    ensures { result ≡ row_lent sectors words row }
 {
     let n = row as usize;
     both(in_range(sectors, row), ROW_WORDS * n + ROW_WORDS <= words)
@@ -88,7 +88,7 @@ fn row_lent(sectors: u16, words: usize, row: u16) -> bool
 
 // Whether a row is in range, and its sector lies wholly in so many lent words.
 fn sector_lent(sectors: u16, words: usize, row: u16) -> bool
-    ensures { result ≡ sectorLent sectors words row }
+    ensures { result ≡ sector_lent sectors words row }
 {
     let n = row as usize / SECTOR_ROWS;
     both(
@@ -99,7 +99,7 @@ fn sector_lent(sectors: u16, words: usize, row: u16) -> bool
 
 // Whether the 96 words at an address are RAM that commands reach, and lie in so many lent words.
 fn ram_lent(words: usize, at: Console) -> bool
-    ensures { result ≡ ramLent words at }
+    ensures { result ≡ ram_lent words at }
 {
     let a = at.0 as usize;
     if a < RAM_START as usize {
@@ -113,7 +113,7 @@ fn ram_lent(words: usize, at: Console) -> bool
 
 // Whether the 96 words at a place are erased.
 fn is_empty(s: &[u16], a: usize) -> bool
-    requires { a + rowWords ≤ length s.now }
+    requires { a + row_words ≤ length s.now }
     ensures { result ≡ empty_at s.now a }
 {
     for i in 0..ROW_WORDS {
@@ -126,8 +126,8 @@ fn is_empty(s: &[u16], a: usize) -> bool
 
 // 96 words from place a of one memory to place b of another.
 fn copy(from: &[u16], a: usize, to: &mut [u16], b: usize)
-    requires { (a + rowWords ≤ length from.now) × (b + rowWords ≤ length to.old) }
-    ensures { to.new ≡ laid b rowWords (λ i. get_or from.now (a + i) 0) to.old }
+    requires { (a + row_words ≤ length from.now) × (b + row_words ≤ length to.old) }
+    ensures { to.new ≡ laid b row_words (λ i. get_or from.now (a + i) 0) to.old }
 {
     for i in 0..ROW_WORDS {
         to[b + i] = from[a + i];
@@ -136,8 +136,8 @@ fn copy(from: &[u16], a: usize, to: &mut [u16], b: usize)
 
 // The 768 words at a place erased.
 fn blank(s: &mut [u16], a: usize)
-    requires { a + sectorWords ≤ length s.old }
-    ensures { s.new ≡ laid a sectorWords (λ i. erasedWord) s.old }
+    requires { a + sector_words ≤ length s.old }
+    ensures { s.new ≡ laid a sector_words (λ i. erased_word) s.old }
 {
     for i in 0..SECTOR_WORDS {
         s[a + i] = ERASED_WORD;
@@ -163,7 +163,7 @@ fn writable(sectors: u16, flash: &[u16], ram: &[u16], row: u16, at: Console) -> 
 
 // A row of flash into RAM.
 pub fn read(sectors: u16, flash: &[u16], ram: &mut [u16], row: u16, at: Console)
-    ensures { ram.new ≡ readRam sectors flash.now ram.old row at }
+    ensures { ram.new ≡ read_ram sectors flash.now ram.old row at }
 {
     if !readable(sectors, flash, ram, row, at) {
         return;
@@ -178,7 +178,7 @@ pub fn read(sectors: u16, flash: &[u16], ram: &mut [u16], row: u16, at: Console)
 
 // RAM into a row of flash that is empty.
 pub fn write(sectors: u16, flash: &mut [u16], ram: &[u16], row: u16, at: Console)
-    ensures { flash.new ≡ writtenFlash sectors flash.old ram.now row at }
+    ensures { flash.new ≡ written_flash sectors flash.old ram.now row at }
 {
     if !writable(sectors, flash, ram, row, at) {
         return;
@@ -193,7 +193,7 @@ pub fn write(sectors: u16, flash: &mut [u16], ram: &[u16], row: u16, at: Console
 
 // All eight rows of a row's sector erased.
 pub fn erase(sectors: u16, flash: &mut [u16], row: u16)
-    ensures { flash.new ≡ erasedFlash sectors flash.old row }
+    ensures { flash.new ≡ erased_flash sectors flash.old row }
 {
     if !sector_lent(sectors, flash.len(), row) {
         return;
@@ -216,7 +216,7 @@ pub fn act(sectors: u16, flash: &mut [u16], ram: &mut [u16], c: Command)
 
 // The registers of a flash of this size as a load leaves them.
 pub fn fresh(sectors: u16) -> Saves
-    ensures { result ≡ freshSaves sectors }
+    ensures { result ≡ fresh_saves sectors }
 {
     Saves {
         sectors,
@@ -227,7 +227,7 @@ pub fn fresh(sectors: u16) -> Saves
 
 // Whether there is a flash of this size.
 fn has_flash(sectors: u16) -> bool
-    ensures { result ≡ hasFlash sectors }
+    ensures { result ≡ has_flash sectors }
 {
     if sectors < 1 {
         return false;
@@ -237,15 +237,15 @@ fn has_flash(sectors: u16) -> bool
 
 // The last row of a flash.
 fn last_row(sectors: u16) -> u16
-    requires { (1 ≤ sectors) × (sectors ≤ sectorLimit) }
-    ensures { result ≡ lastRow sectors }
+    requires { (1 ≤ sectors) × (sectors ≤ sector_limit) }
+    ensures { result ≡ last_row sectors }
 {
     (SECTOR_ROWS * sectors as usize - 1) as u16
 }
 
 // What a read of a register gets.
 pub fn hear(s: Saves, at: Console) -> Heard
-    ensures { result ≡ flashHeard s at }
+    ensures { result ≡ flash_heard s at }
 {
     let a = at.0;
     if !has_flash(s.sectors) {
@@ -287,7 +287,7 @@ pub fn remember(s: Saves, at: Console, value: u16) -> Saves
 
 // The command that a write asks for, by the registers.
 pub fn asked(s: Saves, at: Console, value: u16) -> Command
-    ensures { result ≡ commandOf s at value }
+    ensures { result ≡ command_of s at value }
 {
     let a = at.0;
     if !has_flash(s.sectors) {

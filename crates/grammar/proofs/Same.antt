@@ -3,5 +3,5 @@ use Rattle.basics.specs.Same.{OneAnswer}
 use Rattle.basics.specs.Laws.Same.{same}
 use Rattle.grammar.proofs.read_line.Reads as read-line
 
-pub one-read-line : OneAnswer read-line.Learnt
-one-read-line κs a y z e f = same
+pub one_read_line : OneAnswer read-line.Learnt
+one_read_line κs a y z e f = same

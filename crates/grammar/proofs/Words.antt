@@ -11,87 +11,87 @@ use lib.Seq.{drop-cons, drop-drop, get_or-drop}
 use borrow.Author.Tests.{eqb-true, eqb-false}
 use Rattle.basics.specs.Lists.{part}
 use Rattle.basics.specs.Laws.Lists.{length_part}
-use Rattle.basics.specs.Laws.Tests.{cases, true-is-not-false}
+use Rattle.basics.specs.Laws.Tests.{cases, true_is_not_false}
 use Rattle.text.specs.Bytes.{until}
-use Rattle.text.specs.Laws.Bytes.{until-hit, until-miss, until-most, until-passes}
+use Rattle.text.specs.Laws.Bytes.{until_hit, until_miss, until_most, until_passes}
 use Rattle.grammar.specs.declared.Kind.{Kind}
 use Rattle.grammar.specs.declared.Kind.TheVariants.{Blank, Sign, Comment, Letter}
 use Rattle.grammar.specs.declared.Word.{Word}
-use Rattle.grammar.specs.Words.{kind_of, Cut, cut, before, nothing, push, wordsAfter, words_of, word}
-use Rattle.grammar.specs.Code.Steps.{isBlank, isLetter, endsRun, runEnd, NextWord}
+use Rattle.grammar.specs.Words.{kind_of, Cut, cut, before, nothing, push, words_after, words_of, word}
+use Rattle.grammar.specs.Code.Steps.{is_blank, is_letter, ends_run, run_end, NextWord}
 
 -- a byte before a cut, by its kind
-cut-kind : (b : ℕ) (s : List ℕ) (k : Kind) → kind_of b ≡ k → cut (b ∷ s) ≡ before k b (cut s)
+cut_kind : (b : ℕ) (s : List ℕ) (k : Kind) → kind_of b ≡ k → cut (b ∷ s) ≡ before k b (cut s)
 unfolding cut
-cut-kind b s k e = ap (λ (j : Kind). before j b (cut s)) e
+cut_kind b s k e = ap (λ (j : Kind). before j b (cut s)) e
 
 -- what the code has told of a byte's kind
 pub told : (f : Kind → Bool) (b : ℕ) (k j : Kind) (r : Bool) → k ≡ kind_of b → k ≡ j → r ≡ f j → r ≡ f (kind_of b)
 told f b k j r p q e = e ∙ ap f (sym q ∙ p)
 
-blank-is : (k : Kind) → isBlank k ≡ true → k ≡ Blank
-blank-is Blank e = refl
-blank-is Sign e = true-is-not-false e refl
-blank-is Comment e = true-is-not-false e refl
-blank-is Letter e = true-is-not-false e refl
+blank_is : (k : Kind) → is_blank k ≡ true → k ≡ Blank
+blank_is Blank e = refl
+blank_is Sign e = true_is_not_false e refl
+blank_is Comment e = true_is_not_false e refl
+blank_is Letter e = true_is_not_false e refl
 
-letter-is : (k : Kind) → isLetter k ≡ true → k ≡ Letter
-letter-is Blank e = true-is-not-false e refl
-letter-is Sign e = true-is-not-false e refl
-letter-is Comment e = true-is-not-false e refl
-letter-is Letter e = refl
+letter_is : (k : Kind) → is_letter k ≡ true → k ≡ Letter
+letter_is Blank e = true_is_not_false e refl
+letter_is Sign e = true_is_not_false e refl
+letter_is Comment e = true_is_not_false e refl
+letter_is Letter e = refl
 
-no_front : (k : Kind) (b : ℕ) (c : Cut) → isLetter k ≡ false → (before k b c).front ≡ []
+no_front : (k : Kind) (b : ℕ) (c : Cut) → is_letter k ≡ false → (before k b c).front ≡ []
 no_front Blank b c e = refl
 no_front Sign b c e = refl
 no_front Comment b c e = refl
-no_front Letter b c e = true-is-not-false refl e
+no_front Letter b c e = true_is_not_false refl e
 
 -- blanks at the front say nothing
-past-blanks : (s : List ℕ) → words_of s ≡ words_of (drop (until (endsRun isBlank) s) s)
+past_blanks : (s : List ℕ) → words_of s ≡ words_of (drop (until (ends_run is_blank) s) s)
 unfolding until
-past-blanks [] = refl
-past-blanks (b ∷ s) =
-    cases (isBlank (kind_of b)) (λ e. rw e (ap wordsAfter (cut-kind b s Blank (blank-is (kind_of b) e)) ∙ past-blanks s)) (λ e. rw e)
+past_blanks [] = refl
+past_blanks (b ∷ s) =
+    cases (is_blank (kind_of b)) (λ e. rw e (ap words_after (cut_kind b s Blank (blank_is (kind_of b) e)) ∙ past_blanks s)) (λ e. rw e)
 
 -- letters at the front, and what stands behind them, where no letter is
-letters : (s : List ℕ) → cut s ≡ record { front = take (until (endsRun isLetter) s) s ++ (cut (drop (until (endsRun isLetter) s) s)).front; rest = (cut (drop (until (endsRun isLetter) s) s)).rest }
+letters : (s : List ℕ) → cut s ≡ record { front = take (until (ends_run is_letter) s) s ++ (cut (drop (until (ends_run is_letter) s) s)).front; rest = (cut (drop (until (ends_run is_letter) s) s)).rest }
 unfolding until
 letters [] = refl
 letters (b ∷ s) =
-    cases (isLetter (kind_of b))
-    (λ e. rw e (cut-kind b s Letter (letter-is (kind_of b) e) ∙ ap (λ (c : Cut). before Letter b c) (letters s))) (λ e. rw e)
+    cases (is_letter (kind_of b))
+    (λ e. rw e (cut_kind b s Letter (letter_is (kind_of b) e) ∙ ap (λ (c : Cut). before Letter b c) (letters s))) (λ e. rw e)
 
-letters-end : (s : List ℕ) → (cut (drop (until (endsRun isLetter) s) s)).front ≡ []
+letters_end : (s : List ℕ) → (cut (drop (until (ends_run is_letter) s) s)).front ≡ []
 unfolding until cut
-letters-end [] = refl
-letters-end (b ∷ s) = cases (isLetter (kind_of b)) (λ e. rw e (letters-end s)) (λ e. rw e (no_front (kind_of b) b (cut s) e))
+letters_end [] = refl
+letters_end (b ∷ s) = cases (is_letter (kind_of b)) (λ e. rw e (letters_end s)) (λ e. rw e (no_front (kind_of b) b (cut s) e))
 
 -- so letters at the front are the first word
-first-letters : (s : List ℕ) → words_of s ≡ push (take (until (endsRun isLetter) s) s) (words_of (drop (until (endsRun isLetter) s) s))
-first-letters s = ap wordsAfter (letters s) ∙ rw (letters-end s, append-nil)
+first_letters : (s : List ℕ) → words_of s ≡ push (take (until (ends_run is_letter) s) s) (words_of (drop (until (ends_run is_letter) s) s))
+first_letters s = ap words_after (letters s) ∙ rw (letters_end s, append-nil)
 
-some-letters : (b : ℕ) (s : List ℕ) → kind_of b ≡ Letter → 0 < until (endsRun isLetter) (b ∷ s)
+some_letters : (b : ℕ) (s : List ℕ) → kind_of b ≡ Letter → 0 < until (ends_run is_letter) (b ∷ s)
 unfolding until
-some-letters b s e = rw e (omega arith)
+some_letters b s e = rw e (omega arith)
 
-push-some : (w : List ℕ) (ws : List (List ℕ)) → 0 < length w → push w ws ≡ w ∷ ws
-push-some [] ws h = absurd (omega arith)
-push-some (b ∷ w) ws h = refl
+push_some : (w : List ℕ) (ws : List (List ℕ)) → 0 < length w → push w ws ≡ w ∷ ws
+push_some [] ws h = absurd (omega arith)
+push_some (b ∷ w) ws h = refl
 
 part_none : (s : List ℕ) (i : ℕ) → part s i i ≡ []
 part_none s i = let e : i - i ≡ 0 = omega arith in rw e
 
-part-one : (s : List ℕ) (i : ℕ) → i < length s → part s i (i + 1) ≡ get_or s i 0 ∷ []
-part-one s i l = let e : i + 1 - i ≡ 1 = omega arith in rw (e, drop-cons s i 0 l)
+part_one : (s : List ℕ) (i : ℕ) → i < length s → part s i (i + 1) ≡ get_or s i 0 ∷ []
+part_one s i l = let e : i + 1 - i ≡ 1 = omega arith in rw (e, drop-cons s i 0 l)
 
 -- the first word from a place on, by what stands where the blanks end
-module _ (s : List ℕ) (at i : ℕ) (so : i ≡ runEnd isBlank s at) (h : at ≤ length s) where
+module _ (s : List ℕ) (at i : ℕ) (so : i ≡ run_end is_blank s at) (h : at ≤ length s) where
   behind : words_of (drop at s) ≡ words_of (drop i s)
-  behind = past-blanks (drop at s) ∙ rw (drop-drop, ← so)
+  behind = past_blanks (drop at s) ∙ rw (drop-drop, ← so)
 
   within : i ≤ length s
-  within = omega (arith, until-most (endsRun isBlank) (drop at s), length-drop at s)
+  within = omega (arith, until_most (ends_run is_blank) (drop at s), length-drop at s)
 
   none : words_of (drop i s) ≡ [] → NextWord s at (record { start = i; end = i })
   none e =
@@ -107,18 +107,18 @@ module _ (s : List ℕ) (at i : ℕ) (so : i ≡ runEnd isBlank s at) (h : at �
   unfolding cut
   no_word l = none (rw (drop_of_length-le s l))
 
-  kind-at : (j k : Kind) → i < length s → k ≡ kind_of (get_or s i 0) → k ≡ j → cut (drop i s) ≡ before j (get_or s i 0) (cut (drop (suc i) s))
-  kind-at j k l p q = rw (drop-cons s i 0 l) (cut-kind (get_or s i 0) (drop (suc i) s) j (sym p ∙ q))
+  kind_at_lem : (j k : Kind) → i < length s → k ≡ kind_of (get_or s i 0) → k ≡ j → cut (drop i s) ≡ before j (get_or s i 0) (cut (drop (suc i) s))
+  kind_at_lem j k l p q = rw (drop-cons s i 0 l) (cut_kind (get_or s i 0) (drop (suc i) s) j (sym p ∙ q))
 
-  pub comment-word : (k : Kind) → i < length s → k ≡ kind_of (get_or s i 0) → k ≡ Comment → NextWord s at (record { start = i; end = i })
-  comment-word k l p q = none (ap wordsAfter (kind-at Comment k l p q))
+  pub comment_word : (k : Kind) → i < length s → k ≡ kind_of (get_or s i 0) → k ≡ Comment → NextWord s at (record { start = i; end = i })
+  comment_word k l p q = none (ap words_after (kind_at_lem Comment k l p q))
 
-  pub blank-word : (k : Kind) → i < length s → k ≡ kind_of (get_or s i 0) → k ≡ Blank → NextWord s at (record { start = i; end = i })
-  blank-word k l p q =
-      let u : ℕ = until (endsRun isBlank) (drop at s) in
-      let e : endsRun isBlank (get_or (drop at s) u 0) (get_or (drop at s) (suc u) 0) ≡ true = until-passes (endsRun isBlank) (drop at s) (omega (arith, length-drop at s)) in
-      let f : not (isBlank (kind_of (get_or s i 0))) ≡ true = rw (get_or-drop, ← so) at e in
-      true-is-not-false f (ap (λ (j : Kind). not (isBlank j)) (sym p ∙ q))
+  pub blank_word : (k : Kind) → i < length s → k ≡ kind_of (get_or s i 0) → k ≡ Blank → NextWord s at (record { start = i; end = i })
+  blank_word k l p q =
+      let u : ℕ = until (ends_run is_blank) (drop at s) in
+      let e : ends_run is_blank (get_or (drop at s) u 0) (get_or (drop at s) (suc u) 0) ≡ true = until_passes (ends_run is_blank) (drop at s) (omega (arith, length-drop at s)) in
+      let f : not (is_blank (kind_of (get_or s i 0))) ≡ true = rw (get_or-drop, ← so) at e in
+      true_is_not_false f (ap (λ (j : Kind). not (is_blank j)) (sym p ∙ q))
 
   pub sign_word : (k : Kind) → i < length s → k ≡ kind_of (get_or s i 0) → k ≡ Sign → NextWord s at (record { start = i; end = i + 1 })
   sign_word k l p q =
@@ -126,37 +126,37 @@ module _ (s : List ℕ) (at i : ℕ) (so : i ≡ runEnd isBlank s at) (h : at �
         from = omega arith;
         order = omega arith;
         within = omega arith;
-        words = behind ∙ ap wordsAfter (kind-at Sign k l p q) ∙ rw (part-one s i l, add-one);
+        words = behind ∙ ap words_after (kind_at_lem Sign k l p q) ∙ rw (part_one s i l, add-one);
         last = λ e. absurd (omega arith);
       }
 
-  pub letter-word : (k : Kind) (e : ℕ) → i < length s → k ≡ kind_of (get_or s i 0) → k ≡ Letter → e ≡ runEnd isLetter s i → NextWord s at (record { start = i; end = e })
-  letter-word k e l p q z =
-      let n : e - i ≡ until (endsRun isLetter) (drop i s) = omega arith in
-      let m : until (endsRun isLetter) (drop i s) ≡ until (endsRun isLetter) (get_or s i 0 ∷ drop (suc i) s) = rw (drop-cons s i 0 l) in
+  pub letter_word : (k : Kind) (e : ℕ) → i < length s → k ≡ kind_of (get_or s i 0) → k ≡ Letter → e ≡ run_end is_letter s i → NextWord s at (record { start = i; end = e })
+  letter_word k e l p q z =
+      let n : e - i ≡ until (ends_run is_letter) (drop i s) = omega arith in
+      let m : until (ends_run is_letter) (drop i s) ≡ until (ends_run is_letter) (get_or s i 0 ∷ drop (suc i) s) = rw (drop-cons s i 0 l) in
       record {
         from = omega arith;
         order = omega arith;
-        within = omega (arith, until-most (endsRun isLetter) (drop i s), length-drop i s);
-        words = behind ∙ rw (n, z, ← drop-drop (until (endsRun isLetter) (drop i s)) i s) (first-letters (drop i s));
-        last = λ f. absurd (omega (arith, some-letters (get_or s i 0) (drop (suc i) s) (sym p ∙ q), m));
+        within = omega (arith, until_most (ends_run is_letter) (drop i s), length-drop i s);
+        words = behind ∙ rw (n, z, ← drop-drop (until (ends_run is_letter) (drop i s)) i s) (first_letters (drop i s));
+        last = λ f. absurd (omega (arith, some_letters (get_or s i 0) (drop (suc i) s) (sym p ∙ q), m));
       }
 
 -- the words from a place on, where the first of them is known
 module _ (s : List ℕ) (at : ℕ) (r : Word) (w : NextWord s at r) where
-  next-none : r.start ≡ r.end → words_of (drop at s) ≡ []
-  next-none e = w.words ∙ rw (e, part_none, w.last e)
+  next_none : r.start ≡ r.end → words_of (drop at s) ≡ []
+  next_none e = w.words ∙ rw (e, part_none, w.last e)
 
-  next-some : (r.start ≡ r.end → ⊥) → words_of (drop at s) ≡ part s r.start r.end ∷ words_of (drop r.end s)
-  next-some n = w.words ∙ push-some (part s r.start r.end) (words_of (drop r.end s)) (omega (arith, length_part s r.start r.end w.within, w.order))
+  next_some : (r.start ≡ r.end → ⊥) → words_of (drop at s) ≡ part s r.start r.end ∷ words_of (drop r.end s)
+  next_some n = w.words ∙ push_some (part s r.start r.end) (words_of (drop r.end s)) (omega (arith, length_part s r.start r.end w.within, w.order))
 
   -- counted, n before them
   module _ (n x : ℕ) (so : x ≡ n + length (words_of (drop at s))) where
     pub count_none : r.start ≡ r.end → n ≡ x
-    count_none e = omega (arith, ap length (next-none e))
+    count_none e = omega (arith, ap length (next_none e))
 
-    pub count-more : (r.start ≡ r.end → ⊥) → x ≡ n + 1 + length (words_of (drop r.end s))
-    count-more h = omega (arith, ap length (next-some h))
+    pub count_more : (r.start ≡ r.end → ⊥) → x ≡ n + 1 + length (words_of (drop r.end s))
+    count_more h = omega (arith, ap length (next_some h))
 
   -- word n of them
   module _ (n : ℕ) (x : List ℕ) (so : x ≡ word (words_of (drop at s)) n) where
@@ -164,26 +164,26 @@ module _ (s : List ℕ) (at : ℕ) (r : Word) (w : NextWord s at r) where
     found_word h =
         let z : n ≡ 0 = omega arith in
         cases (eqb r.start r.end)
-        (λ e. let q : r.start ≡ r.end = eqb-true _ _ e in rw (q, part_none) (sym (so ∙ rw (next-none q))))
-        (λ e. sym (so ∙ rw (z, next-some (eqb-false _ _ e))))
+        (λ e. let q : r.start ≡ r.end = eqb-true _ _ e in rw (q, part_none) (sym (so ∙ rw (next_none q))))
+        (λ e. sym (so ∙ rw (z, next_some (eqb-false _ _ e))))
 
-    pub pass-word : 0 < n → x ≡ word (words_of (drop r.end s)) (n - 1)
-    pass-word h =
+    pub pass_word : 0 < n → x ≡ word (words_of (drop r.end s)) (n - 1)
+    pass_word h =
         let z : n ≡ suc (n - 1) = omega arith in
         cases (eqb r.start r.end)
-        (λ e. let q : r.start ≡ r.end = eqb-true _ _ e in so ∙ rw (next-none q, w.last q))
-        (λ e. so ∙ ap (word (words_of (drop at s))) z ∙ rw (next-some (eqb-false _ _ e)))
+        (λ e. let q : r.start ≡ r.end = eqb-true _ _ e in so ∙ rw (next_none q, w.last q))
+        (λ e. so ∙ ap (word (words_of (drop at s))) z ∙ rw (next_some (eqb-false _ _ e)))
 
-pub count-end : (s : List ℕ) (at n x : ℕ) → x ≡ n + length (words_of (drop at s)) → length s ≤ at → n ≡ x
+pub count_end : (s : List ℕ) (at n x : ℕ) → x ≡ n + length (words_of (drop at s)) → length s ≤ at → n ≡ x
 unfolding cut
-count-end s at n x so h =
+count_end s at n x so h =
     let e : length (words_of (drop at s)) ≡ 0 = rw (drop_of_length-le s h) in
     omega arith
 
 -- a loop that passes bytes of a kind
-module _ (f : Kind → Bool) (s : List ℕ) (i x : ℕ) (u : Bool) (so : x ≡ i + until (endsRun f) (drop i s)) (l : i < length s) (p : u ≡ f (kind_of (get_or s i 0))) where
+module _ (f : Kind → Bool) (s : List ℕ) (i x : ℕ) (u : Bool) (so : x ≡ i + until (ends_run f) (drop i s)) (l : i < length s) (p : u ≡ f (kind_of (get_or s i 0))) where
   pub run_ends : not u ≡ true → i ≡ x
-  run_ends e = until-hit (endsRun f) s i x so (get_or s (i + 1) 0) l refl (ap not (sym p) ∙ e)
+  run_ends e = until_hit (ends_run f) s i x so (get_or s (i + 1) 0) l refl (ap not (sym p) ∙ e)
 
-  pub run-goes-on : not u ≡ false → x ≡ i + 1 + until (endsRun f) (drop (i + 1) s)
-  run-goes-on e = until-miss (endsRun f) s i x so (get_or s (i + 1) 0) l refl (ap not (sym p) ∙ e)
+  pub run_goes_on : not u ≡ false → x ≡ i + 1 + until (ends_run f) (drop (i + 1) s)
+  run_goes_on e = until_miss (ends_run f) s i x so (get_or s (i + 1) 0) l refl (ap not (sym p) ∙ e)

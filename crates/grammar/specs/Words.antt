@@ -25,13 +25,13 @@ abbrev pub push : List ℕ → List (List ℕ) → List (List ℕ)
 push [] ws = ws
 push (b ∷ w) ws = (b ∷ w) ∷ ws
 
-abbrev pub wordsAfter : Cut → List (List ℕ)
-wordsAfter c = push c.front c.rest
+abbrev pub words_after : Cut → List (List ℕ)
+words_after c = push c.front c.rest
 
 -- one byte before what is cut
 abbrev pub before : Kind → ℕ → Cut → Cut
-before Blank b c = record { front = []; rest = wordsAfter c }
-before Sign b c = record { front = []; rest = (b ∷ []) ∷ wordsAfter c }
+before Blank b c = record { front = []; rest = words_after c }
+before Sign b c = record { front = []; rest = (b ∷ []) ∷ words_after c }
 before Comment b c = nothing
 before Letter b c = record { front = b ∷ c.front; rest = c.rest }
 
@@ -41,7 +41,7 @@ cut (b ∷ s) = before (kind_of b) b (cut s)
 
 -- the words of a line
 abbrev pub words_of : List ℕ → List (List ℕ)
-words_of line = wordsAfter (cut line)
+words_of line = words_after (cut line)
 
 -- word k, counted from 0; no bytes where there are fewer words
 abbrev pub word : List (List ℕ) → ℕ → List ℕ

@@ -2,8 +2,8 @@
 ghost use Rattle.std.specs.Prelude.{◌≤◌, ◌<◌, ◌≡◌, length};
 ghost use Rattle.text.specs.Spelling.{same};
 ghost use Rattle.grammar.specs.Words.{kind_of, words_of, word};
-ghost use Rattle.grammar.specs.Grammar.{hexOf, dollar, oneDigit, offset, address, bits, after, width_of, romLine, pagedLine, ramLine, mappingLine, memattrLine, headingLine, lineSays};
-ghost use Rattle.grammar.specs.Code.Steps.{isBlank, isLetter, runEnd, NextWord, Below, romOf, pagedOf, ramOf};
+ghost use Rattle.grammar.specs.Grammar.{hex_of, dollar, one_digit, offset, address, bits, after, width_of, rom_line, paged_line, ram_line, mapping_line, memattr_line, heading_line, line_says};
+ghost use Rattle.grammar.specs.Code.Steps.{is_blank, is_letter, run_end, NextWord, Below, rom_of, paged_of, ram_of};
 
 use lines::{Entry, Width};
 use places::{BinWord, Console, Page};
@@ -60,7 +60,7 @@ fn kind_of(b: u8) -> Kind
 }
 
 fn is_blank(b: u8) -> bool
-    ensures { result ≡ isBlank (kind_of b) }
+    ensures { result ≡ is_blank (kind_of b) }
 {
     let k = kind_of(b);
     match k {
@@ -72,7 +72,7 @@ fn is_blank(b: u8) -> bool
 }
 
 fn is_letter(b: u8) -> bool
-    ensures { result ≡ isLetter (kind_of b) }
+    ensures { result ≡ is_letter (kind_of b) }
 {
     let k = kind_of(b);
     match k {
@@ -85,7 +85,7 @@ fn is_letter(b: u8) -> bool
 
 // The first place from `at` on that holds no blank, or the line's length.
 fn blanks_end(line: &[u8], at: usize) -> usize
-    ensures { result ≡ runEnd isBlank line.now at }
+    ensures { result ≡ run_end is_blank line.now at }
 {
     let mut i = at;
     while i < line.len() {
@@ -99,7 +99,7 @@ fn blanks_end(line: &[u8], at: usize) -> usize
 
 // The first place from `at` on that holds no letter, or the line's length.
 fn letters_end(line: &[u8], at: usize) -> usize
-    ensures { result ≡ runEnd isLetter line.now at }
+    ensures { result ≡ run_end is_letter line.now at }
 {
     let mut i = at;
     while i < line.len() {
@@ -179,7 +179,7 @@ fn is_word(line: &[u8], k: usize, spelt: &[u8]) -> bool
 // The number that a word's bytes say in hex; they are five at most.
 fn hex(w: &[u8]) -> Number
     requires { length w.now ≤ 5 }
-    ensures { result ≡ hexOf w.now }
+    ensures { result ≡ hex_of w.now }
 {
     let mut n: u32 = 0;
     let mut i = 0;
@@ -227,7 +227,7 @@ fn address_at(line: &[u8], k: usize) -> Number
 
 // Word k as one hex digit, and as the bits of a RAM word: 16 or 8.
 fn digit_at(line: &[u8], k: usize) -> Number
-    ensures { result ≡ oneDigit (word (words_of line.now) k) }
+    ensures { result ≡ one_digit (word (words_of line.now) k) }
 {
     let w = word_at(line, k);
     if w.len() == 1 { hex(w) } else { Number::Not }
@@ -264,7 +264,7 @@ fn width_of(n: u32) -> Width
 
 fn rom_of(a: Number, b: Number, c: Number) -> Says
     requires { Below 65536 c }
-    ensures { result ≡ romOf a b c }
+    ensures { result ≡ rom_of a b c }
 {
     let Number::Is(lo) = a else {
         return Says::Outside;
@@ -280,7 +280,7 @@ fn rom_of(a: Number, b: Number, c: Number) -> Says
 
 fn paged_of(a: Number, b: Number, c: Number, d: Number) -> Says
     requires { (Below 65536 c) × (Below 256 d) }
-    ensures { result ≡ pagedOf a b c d }
+    ensures { result ≡ paged_of a b c d }
 {
     let Number::Is(lo) = a else {
         return Says::Outside;
@@ -299,7 +299,7 @@ fn paged_of(a: Number, b: Number, c: Number, d: Number) -> Says
 
 fn ram_of(a: Number, b: Number, c: Number) -> Says
     requires { (Below 65536 a) × (Below 65536 b) }
-    ensures { result ≡ ramOf a b c }
+    ensures { result ≡ ram_of a b c }
 {
     let Number::Is(lo) = a else {
         return Says::Outside;
@@ -315,7 +315,7 @@ fn ram_of(a: Number, b: Number, c: Number) -> Says
 
 // `$lo - $hi = $addr`
 fn rom_line(line: &[u8]) -> Says
-    ensures { result ≡ romLine (words_of line.now) }
+    ensures { result ≡ rom_line (words_of line.now) }
 {
     let lo = offset_at(line, 0);
     let hi = after_word(is_word(line, 1, b"-"), offset_at(line, 2));
@@ -325,7 +325,7 @@ fn rom_line(line: &[u8]) -> Says
 
 // `$lo - $hi = $addr PAGE d`
 fn paged_line(line: &[u8]) -> Says
-    ensures { result ≡ pagedLine (words_of line.now) }
+    ensures { result ≡ paged_line (words_of line.now) }
 {
     let lo = offset_at(line, 0);
     let hi = after_word(is_word(line, 1, b"-"), offset_at(line, 2));
@@ -336,7 +336,7 @@ fn paged_line(line: &[u8]) -> Says
 
 // `$lo - $hi = RAM 16` or `RAM 8`
 fn ram_line(line: &[u8]) -> Says
-    ensures { result ≡ ramLine (words_of line.now) }
+    ensures { result ≡ ram_line (words_of line.now) }
 {
     let lo = address_at(line, 0);
     let hi = after_word(is_word(line, 1, b"-"), address_at(line, 2));
@@ -346,7 +346,7 @@ fn ram_line(line: &[u8]) -> Says
 
 // An entry of [mapping] has five words, or seven with its page.
 fn mapping_line(line: &[u8]) -> Says
-    ensures { result ≡ mappingLine (words_of line.now) }
+    ensures { result ≡ mapping_line (words_of line.now) }
 {
     let n = word_count(line);
     if n == 5 {
@@ -360,7 +360,7 @@ fn mapping_line(line: &[u8]) -> Says
 
 // An entry of [memattr] has six.
 fn memattr_line(line: &[u8]) -> Says
-    ensures { result ≡ memattrLine (words_of line.now) }
+    ensures { result ≡ memattr_line (words_of line.now) }
 {
     if word_count(line) == 6 {
         return ram_line(line);
@@ -370,7 +370,7 @@ fn memattr_line(line: &[u8]) -> Says
 
 // A section's name.
 fn heading_line(w: &[u8]) -> Says
-    ensures { result ≡ headingLine w.now }
+    ensures { result ≡ heading_line w.now }
 {
     if text::same_text(w, b"[mapping]") {
         return Says::Heading(Section::Mapping);
@@ -383,7 +383,7 @@ fn heading_line(w: &[u8]) -> Says
 
 // What a line says in a section.
 pub fn read_line(line: &[u8], section: Section) -> Says
-    ensures { result ≡ lineSays section line.now }
+    ensures { result ≡ line_says section line.now }
 {
     let n = word_count(line);
     if n == 0 {

@@ -11,122 +11,122 @@ use lib.Dec.{ltb, eqb}
 use borrow.Author.Tests.{ltb-false, eq-eqb, ne_eqb}
 use borrow.Rule.Slice.PartMut.{put_mid}
 use Rattle.basics.specs.declared.Refusal.{Refusal}
-use Rattle.basics.specs.Refusals.{refuse, noRefusal}
-use Rattle.basics.specs.Lists.{part, putFront}
+use Rattle.basics.specs.Refusals.{refuse, no_refusal}
+use Rattle.basics.specs.Lists.{part, put_front}
 use Rattle.basics.specs.Laws.Counts.{any_of}
-use Rattle.basics.specs.Laws.Tests.{or-false-left}
-use Rattle.basics.specs.Laws.Wrote.{Wrote, wrote_none, wrote-set}
-use Rattle.basics.specs.Laws.Puts.{put-short, put-wrote, wrote-put}
-use Rattle.sums.specs.Crc.{dowcrcOf}
-use Rattle.header.specs.Header.{magic, version, reserved, versionAt, flagsAt, uidAt, reservedAt, sum_at, headerSize, flagsSize, uidSize, head_of, headerOf, wrongLength, wrongMagic, wrongVersion, wrongHeaderSum, headerRows, headerRefusal}
+use Rattle.basics.specs.Laws.Tests.{or_false_left}
+use Rattle.basics.specs.Laws.Wrote.{Wrote, wrote_none, wrote_set}
+use Rattle.basics.specs.Laws.Puts.{put_short, put_wrote, wrote_put}
+use Rattle.sums.specs.Crc.{dowcrc_of}
+use Rattle.header.specs.Header.{magic, version, reserved, version_at, flags_at, uid_at, reserved_at, sum_at, header_size, flags_size, uid_size, head_of, header_of, wrong_length, wrong_magic, wrong_version, wrong_header_sum, header_rows, header_refusal}
 use Rattle.header.specs.declared.TutorVision.{TutorVision}
 use Rattle.header.specs.declared.TutorVision.TheVariants.{NotStated}
-use Rattle.header.specs.Flags.{jlpField, setting_of, statedAt, compatOf}
-use Rattle.header.specs.Laws.Header.{length-head, length-header}
+use Rattle.header.specs.Flags.{jlp_field, setting_of, stated_at, compat_of}
+use Rattle.header.specs.Laws.Header.{length_head, length_header}
 
 -- the JLP field, from its byte
-pub field-byte : (flags : List ℕ) (x : ℕ) → x ≡ get_or flags 2 0 → x % 4 ≡ jlpField flags
-field-byte flags x e = simp (← e, div-one)
+pub field_byte : (flags : List ℕ) (x : ℕ) → x ≡ get_or flags 2 0 → x % 4 ≡ jlp_field flags
+field_byte flags x e = simp (← e, div-one)
 
 -- the compatibility fields, from two bytes
-pub compat-bytes : (flags : List ℕ) (x y : ℕ) → x ≡ get_or flags 0 0 → y ≡ get_or flags 1 0 → (t : TutorVision) → t ≡ statedAt (y % 4) (y / 4 % 4)
-    → record { intellivoice = x % 4; ecs = x / 4 % 4; intellivision2 = x / 16 % 4; keyboard = x / 64 % 4; tutorvision = t } ≡ compatOf flags
-unfolding compatOf
-compat-bytes flags x y e f t g = simp (← e, ← f, div-one, g)
+pub compat_bytes : (flags : List ℕ) (x y : ℕ) → x ≡ get_or flags 0 0 → y ≡ get_or flags 1 0 → (t : TutorVision) → t ≡ stated_at (y % 4) (y / 4 % 4)
+    → record { intellivoice = x % 4; ecs = x / 4 % 4; intellivision2 = x / 16 % 4; keyboard = x / 64 % 4; tutorvision = t } ≡ compat_of flags
+unfolding compat_of
+compat_bytes flags x y e f t g = simp (← e, ← f, div-one, g)
 
 -- not stated at version 0, and a setting at any other
 module _ (version bits : ℕ) where
-  pub stated-none : version ≡ 0 → NotStated ≡ statedAt version bits
-  unfolding statedAt
-  stated-none e = rw (eq-eqb _ _ e)
+  pub stated_none : version ≡ 0 → NotStated ≡ stated_at version bits
+  unfolding stated_at
+  stated_none e = rw (eq-eqb _ _ e)
 
-  pub stated-some : (version ≡ 0 → ⊥) → (t : TutorVision) → t ≡ setting_of bits → t ≡ statedAt version bits
-  unfolding statedAt
-  stated-some n t e = e ∙ rw (ne_eqb _ _ n)
+  pub stated_some : (version ≡ 0 → ⊥) → (t : TutorVision) → t ≡ setting_of bits → t ≡ stated_at version bits
+  unfolding stated_at
+  stated_some n t e = e ∙ rw (ne_eqb _ _ n)
 
 -- a byte that differs from the magic number's, and one more that agrees
-pub differs : (s : List ℕ) (i x : ℕ) → i < versionAt → x ≡ get_or s i 0 → (x ≡ get_or magic i 0 → ⊥) → true ≡ wrongMagic s
-differs s i x h e d = sym (any_of versionAt _ i h (rw (← e, ne_eqb _ _ d)))
+pub differs : (s : List ℕ) (i x : ℕ) → i < version_at → x ≡ get_or s i 0 → (x ≡ get_or magic i 0 → ⊥) → true ≡ wrong_magic s
+differs s i x h e d = sym (any_of version_at _ i h (rw (← e, ne_eqb _ _ d)))
 
 pub agrees : (s : List ℕ) (i x : ℕ) → x ≡ get_or s i 0 → x ≡ get_or magic i 0 → not (eqb (get_or s i 0) (get_or magic i 0)) ≡ false
 agrees s i x e d = rw (← e, eq-eqb _ _ d)
 
 -- the version, and the checksum of what stands before it
-pub version-tested : (s : List ℕ) (x : ℕ) → x ≡ get_or s versionAt 0 → not (eqb x version) ≡ wrongVersion s
-version-tested s x e = rw e
+pub version_tested : (s : List ℕ) (x : ℕ) → x ≡ get_or s version_at 0 → not (eqb x version) ≡ wrong_version s
+version_tested s x e = rw e
 
-pub sum-tested : (s : List ℕ) (x : ℕ) → x ≡ dowcrcOf (take sum_at s) → not (eqb x (get_or s sum_at 0)) ≡ wrongHeaderSum s
-sum-tested s x e = rw e
+pub sum_tested : (s : List ℕ) (x : ℕ) → x ≡ dowcrc_of (take sum_at s) → not (eqb x (get_or s sum_at 0)) ≡ wrong_header_sum s
+sum_tested s x e = rw e
 
 -- a header that is not too short has its checksum
-pub long-enough : (s : List ℕ) (b : Bool) → b ≡ wrongLength s → b ≡ false → headerSize ≤ length s
-long-enough s b e h = ltb-false (length s) headerSize (or-false-left (ltb (length s) headerSize) _ (sym e ∙ h))
+pub long_enough : (s : List ℕ) (b : Bool) → b ≡ wrong_length s → b ≡ false → header_size ≤ length s
+long_enough s b e h = ltb-false (length s) header_size (or_false_left (ltb (length s) header_size) _ (sym e ∙ h))
 
 -- the check: a row that holds with none before it
-module _ (s : List ℕ) (r : Refusal) (b₁ : Bool) (e₁ : b₁ ≡ wrongLength s) where
-  pub check-length : b₁ ≡ true → r ≡ refuse 1 0 → r ≡ headerRefusal s
-  unfolding headerRows
-  check-length h e = rw (← e₁, h) e
+module _ (s : List ℕ) (r : Refusal) (b₁ : Bool) (e₁ : b₁ ≡ wrong_length s) where
+  pub check_length : b₁ ≡ true → r ≡ refuse 1 0 → r ≡ header_refusal s
+  unfolding header_rows
+  check_length h e = rw (← e₁, h) e
 
-  module _ (h₁ : b₁ ≡ false) (b₂ : Bool) (e₂ : b₂ ≡ wrongMagic s) where
-    pub check-magic : b₂ ≡ true → r ≡ refuse 2 0 → r ≡ headerRefusal s
-    unfolding headerRows
-    check-magic h e = rw (← e₁, h₁, ← e₂, h) e
+  module _ (h₁ : b₁ ≡ false) (b₂ : Bool) (e₂ : b₂ ≡ wrong_magic s) where
+    pub check_magic : b₂ ≡ true → r ≡ refuse 2 0 → r ≡ header_refusal s
+    unfolding header_rows
+    check_magic h e = rw (← e₁, h₁, ← e₂, h) e
 
-    module _ (h₂ : b₂ ≡ false) (b₃ : Bool) (e₃ : b₃ ≡ wrongVersion s) where
-      pub check-version : b₃ ≡ true → r ≡ refuse 3 0 → r ≡ headerRefusal s
-      unfolding headerRows
-      check-version h e = rw (← e₁, h₁, ← e₂, h₂, ← e₃, h) e
+    module _ (h₂ : b₂ ≡ false) (b₃ : Bool) (e₃ : b₃ ≡ wrong_version s) where
+      pub check_version : b₃ ≡ true → r ≡ refuse 3 0 → r ≡ header_refusal s
+      unfolding header_rows
+      check_version h e = rw (← e₁, h₁, ← e₂, h₂, ← e₃, h) e
 
-      module _ (h₃ : b₃ ≡ false) (b₄ : Bool) (e₄ : b₄ ≡ wrongHeaderSum s) where
-        pub check-sum : b₄ ≡ true → r ≡ refuse 4 0 → r ≡ headerRefusal s
-        unfolding headerRows
-        check-sum h e = rw (← e₁, h₁, ← e₂, h₂, ← e₃, h₃, ← e₄, h) e
+      module _ (h₃ : b₃ ≡ false) (b₄ : Bool) (e₄ : b₄ ≡ wrong_header_sum s) where
+        pub check_sum : b₄ ≡ true → r ≡ refuse 4 0 → r ≡ header_refusal s
+        unfolding header_rows
+        check_sum h e = rw (← e₁, h₁, ← e₂, h₂, ← e₃, h₃, ← e₄, h) e
 
-        pub check-good : b₄ ≡ false → r ≡ noRefusal → r ≡ headerRefusal s
-        unfolding headerRows
-        check-good h e = rw (← e₁, h₁, ← e₂, h₂, ← e₃, h₃, ← e₄, h) e
+        pub check_good : b₄ ≡ false → r ≡ no_refusal → r ≡ header_refusal s
+        unfolding header_rows
+        check_good h e = rw (← e₁, h₁, ← e₂, h₂, ← e₃, h₃, ← e₄, h) e
 
-pub ruleset checks = (check-length, check-magic, check-version, check-sum, check-good)
+pub ruleset checks = (check_length, check_magic, check_version, check_sum, check_good)
 
 -- a buffer without room for a header, and one with: five fields in their parts, then the checksum of what stands there
-module _ (out flags uid : List ℕ) (ef : length flags ≡ flagsSize) (eu : length uid ≡ uidSize) where
-  pub no_room : length out < headerSize → out ≡ putFront (headerOf flags uid) out
-  no_room h = put-short (headerOf flags uid) out (omega (arith, length-header flags uid ef eu))
+module _ (out flags uid : List ℕ) (ef : length flags ≡ flags_size) (eu : length uid ≡ uid_size) where
+  pub no_room : length out < header_size → out ≡ put_front (header_of flags uid) out
+  no_room h = put_short (header_of flags uid) out (omega (arith, length_header flags uid ef eu))
 
   module _ (y₁ y₂ y₃ y₄ y₅ : List ℕ) where
     abbrev out₁ : List ℕ
-    out₁ = put_mid 0 versionAt out y₁
+    out₁ = put_mid 0 version_at out y₁
 
     abbrev out₂ : List ℕ
-    out₂ = put_mid versionAt (flagsAt - versionAt) out₁ y₂
+    out₂ = put_mid version_at (flags_at - version_at) out₁ y₂
 
     abbrev out₃ : List ℕ
-    out₃ = put_mid flagsAt flagsSize out₂ y₃
+    out₃ = put_mid flags_at flags_size out₂ y₃
 
     abbrev out₄ : List ℕ
-    out₄ = put_mid uidAt uidSize out₃ y₄
+    out₄ = put_mid uid_at uid_size out₃ y₄
 
     abbrev out₅ : List ℕ
-    out₅ = put_mid reservedAt (sum_at - reservedAt) out₄ y₅
+    out₅ = put_mid reserved_at (sum_at - reserved_at) out₄ y₅
 
-    module _ (h : headerSize ≤ length out) (e₁ : y₁ ≡ putFront magic (part out 0 versionAt)) (e₂ : y₂ ≡ putFront (version ∷ []) (part out₁ versionAt flagsAt))
-        (e₃ : y₃ ≡ putFront flags (part out₂ flagsAt uidAt)) (e₄ : y₄ ≡ putFront uid (part out₃ uidAt reservedAt))
-        (e₅ : y₅ ≡ putFront reserved (part out₄ reservedAt sum_at)) where
+    module _ (h : header_size ≤ length out) (e₁ : y₁ ≡ put_front magic (part out 0 version_at)) (e₂ : y₂ ≡ put_front (version ∷ []) (part out₁ version_at flags_at))
+        (e₃ : y₃ ≡ put_front flags (part out₂ flags_at uid_at)) (e₄ : y₄ ≡ put_front uid (part out₃ uid_at reserved_at))
+        (e₅ : y₅ ≡ put_front reserved (part out₄ reserved_at sum_at)) where
       fields : Wrote out out₅ (head_of flags uid)
       unfolding head_of
       fields =
-          let w₁ : Wrote out out₁ magic = wrote-put out out [] 0 versionAt y₁ magic (wrote_none out) refl refl (omega arith) e₁ in
-          let w₂ : Wrote out out₂ (magic ++ (version ∷ [])) = wrote-put out out₁ magic versionAt _ y₂ (version ∷ []) w₁ refl refl (omega arith) e₂ in
-          let w₃ : Wrote out out₃ (magic ++ (version ∷ flags)) = wrote-put out out₂ _ flagsAt _ y₃ flags w₂ refl (sym ef) (omega arith) e₃ in
-          let l₃ : uidAt ≡ length (magic ++ (version ∷ flags)) = omega arith in
-          let w₄ : Wrote out out₄ ((magic ++ (version ∷ flags)) ++ uid) = wrote-put out out₃ _ uidAt _ y₄ uid w₃ l₃ (sym eu) (omega arith) e₄ in
-          let l₄ : reservedAt ≡ length ((magic ++ (version ∷ flags)) ++ uid) = omega (arith, length-append flags uid) in
-          simp append_assoc at (wrote-put out out₄ _ reservedAt _ y₅ reserved w₄ l₄ refl (omega arith) e₅)
+          let w₁ : Wrote out out₁ magic = wrote_put out out [] 0 version_at y₁ magic (wrote_none out) refl refl (omega arith) e₁ in
+          let w₂ : Wrote out out₂ (magic ++ (version ∷ [])) = wrote_put out out₁ magic version_at _ y₂ (version ∷ []) w₁ refl refl (omega arith) e₂ in
+          let w₃ : Wrote out out₃ (magic ++ (version ∷ flags)) = wrote_put out out₂ _ flags_at _ y₃ flags w₂ refl (sym ef) (omega arith) e₃ in
+          let l₃ : uid_at ≡ length (magic ++ (version ∷ flags)) = omega arith in
+          let w₄ : Wrote out out₄ ((magic ++ (version ∷ flags)) ++ uid) = wrote_put out out₃ _ uid_at _ y₄ uid w₃ l₃ (sym eu) (omega arith) e₄ in
+          let l₄ : reserved_at ≡ length ((magic ++ (version ∷ flags)) ++ uid) = omega (arith, length-append flags uid) in
+          simp append_assoc at (wrote_put out out₄ _ reserved_at _ y₅ reserved w₄ l₄ refl (omega arith) e₅)
 
-      pub header-written : (sum : ℕ) → sum ≡ dowcrcOf (take sum_at out₅) → set out₅ sum_at sum ≡ putFront (headerOf flags uid) out
-      unfolding headerOf
-      header-written sum e =
-          let l : length (head_of flags uid) ≡ sum_at = length-head flags uid ef eu in
-          let s : sum ≡ dowcrcOf (head_of flags uid) = e ∙ ap dowcrcOf (ap (take sum_at) fields.is ∙ take_at (head_of flags uid) _ sum_at l) in
-          put-wrote out _ _ (wrote-set out out₅ (head_of flags uid) sum_at sum _ fields (sym l) (omega arith) s)
+      pub header_written : (sum : ℕ) → sum ≡ dowcrc_of (take sum_at out₅) → set out₅ sum_at sum ≡ put_front (header_of flags uid) out
+      unfolding header_of
+      header_written sum e =
+          let l : length (head_of flags uid) ≡ sum_at = length_head flags uid ef eu in
+          let s : sum ≡ dowcrc_of (head_of flags uid) = e ∙ ap dowcrc_of (ap (take sum_at) fields.is ∙ take_at (head_of flags uid) _ sum_at l) in
+          put_wrote out _ _ (wrote_set out out₅ (head_of flags uid) sum_at sum _ fields (sym l) (omega arith) s)

@@ -1,8 +1,8 @@
 // The header of an image, both ways: checked and written; and the compatibility fields of its flags.
 ghost use Rattle.std.specs.Prelude.{◌≤◌, ◌≡◌, length};
-ghost use Rattle.basics.specs.Lists.{putFront};
-ghost use Rattle.header.specs.Header.{headerSize, flagsSize, uidSize, headerOf, wrongLength, wrongMagic, wrongVersion, wrongHeaderSum, headerRefusal};
-ghost use Rattle.header.specs.Flags.{jlpField, flashSize, setting_of, statedAt, number_of, compatOf, noCompat};
+ghost use Rattle.basics.specs.Lists.{put_front};
+ghost use Rattle.header.specs.Header.{header_size, flags_size, uid_size, header_of, wrong_length, wrong_magic, wrong_version, wrong_header_sum, header_refusal};
+ghost use Rattle.header.specs.Flags.{jlp_field, flash_size, setting_of, stated_at, number_of, compat_of, no_compat};
 
 use basics::{Refusal, byte_at, put_bytes};
 use places::IMAGE_LIMIT;
@@ -70,7 +70,7 @@ fn setting_of(bits: u8) -> TutorVision
 
 // What two bits say of the TutorVision at a version of the compatibility fields.
 fn stated_at(version: u8, bits: u8) -> TutorVision
-    ensures { result ≡ statedAt version bits }
+    ensures { result ≡ stated_at version bits }
 {
     if version == 0 {
         return TutorVision::NotStated;
@@ -93,20 +93,20 @@ pub fn number_of(t: TutorVision) -> u8
 
 // The JLP field.
 pub fn jlp_field(flags: &[u8]) -> u8
-    ensures { result ≡ jlpField flags.now }
+    ensures { result ≡ jlp_field flags.now }
 {
     byte_at(flags, 2) % 4
 }
 
 // The size of the JLP flash, in sectors.
 pub fn flash_size(flags: &[u8]) -> u16
-    ensures { result ≡ flashSize flags.now }
+    ensures { result ≡ flash_size flags.now }
 {
     byte_at(flags, 2) as u16 / 64 + 4 * (byte_at(flags, 3) as u16)
 }
 
 pub fn compat_of(flags: &[u8]) -> Compat
-    ensures { result ≡ compatOf flags.now }
+    ensures { result ≡ compat_of flags.now }
 {
     let x = byte_at(flags, 0);
     let y = byte_at(flags, 1);
@@ -121,7 +121,7 @@ pub fn compat_of(flags: &[u8]) -> Compat
 
 // Those of a refused load.
 pub fn no_compat() -> Compat
-    ensures { result ≡ noCompat }
+    ensures { result ≡ no_compat }
 {
     Compat {
         intellivoice: 0,
@@ -134,13 +134,13 @@ pub fn no_compat() -> Compat
 
 // Refusals 1 to 4, each by itself.
 fn wrong_length(s: &[u8]) -> bool
-    ensures { result ≡ wrongLength s.now }
+    ensures { result ≡ wrong_length s.now }
 {
     basics::either(s.len() < HEADER_SIZE, IMAGE_LIMIT < s.len())
 }
 
 fn wrong_magic(s: &[u8]) -> bool
-    ensures { result ≡ wrongMagic s.now }
+    ensures { result ≡ wrong_magic s.now }
 {
     for i in 0..VERSION_AT {
         if byte_at(s, i) != MAGIC[i] {
@@ -151,14 +151,14 @@ fn wrong_magic(s: &[u8]) -> bool
 }
 
 fn wrong_version(s: &[u8]) -> bool
-    ensures { result ≡ wrongVersion s.now }
+    ensures { result ≡ wrong_version s.now }
 {
     byte_at(s, VERSION_AT) != VERSION
 }
 
 fn wrong_sum(s: &[u8]) -> bool
-    requires { headerSize ≤ length s.now }
-    ensures { result ≡ wrongHeaderSum s.now }
+    requires { header_size ≤ length s.now }
+    ensures { result ≡ wrong_header_sum s.now }
 {
     let sum = sums::dowcrc_short(&s[..SUM_AT]);
     sum != s[SUM_AT]
@@ -166,7 +166,7 @@ fn wrong_sum(s: &[u8]) -> bool
 
 // The refusal of an image's header; none where it is good.
 pub fn check(s: &[u8]) -> Refusal
-    ensures { result ≡ headerRefusal s.now }
+    ensures { result ≡ header_refusal s.now }
 {
     if wrong_length(s) {
         return basics::refuse(1, 0);
@@ -185,8 +185,8 @@ pub fn check(s: &[u8]) -> Refusal
 
 // The header, at the front of a buffer that has room for it: each field into its own part, then their checksum.
 fn put_header(out: &mut [u8], flags: &[u8], uid: &[u8])
-    requires { (length flags.now ≡ flagsSize) × (length uid.now ≡ uidSize) }
-    ensures { out.new ≡ putFront (headerOf flags.now uid.now) out.old }
+    requires { (length flags.now ≡ flags_size) × (length uid.now ≡ uid_size) }
+    ensures { out.new ≡ put_front (header_of flags.now uid.now) out.old }
 {
     if out.len() < HEADER_SIZE {
         return;
@@ -202,20 +202,20 @@ fn put_header(out: &mut [u8], flags: &[u8], uid: &[u8])
 
 // How many bytes the header of these flags and this UID has.
 fn size_of(flags: &[u8], uid: &[u8]) -> usize
-    requires { (length flags.now ≡ flagsSize) × (length uid.now ≡ uidSize) }
-    ensures { (result ≡ length (headerOf flags.now uid.now)) × (result ≡ headerSize) }
+    requires { (length flags.now ≡ flags_size) × (length uid.now ≡ uid_size) }
+    ensures { (result ≡ length (header_of flags.now uid.now)) × (result ≡ header_size) }
 {
     HEADER_SIZE
 }
 
 pub fn size(flags: &[u8; FLAGS_SIZE], uid: &[u8; UID_SIZE]) -> usize
-    ensures { (result ≡ length (headerOf flags.now uid.now)) × (result ≡ headerSize) }
+    ensures { (result ≡ length (header_of flags.now uid.now)) × (result ≡ header_size) }
 {
     size_of(flags, uid)
 }
 
 pub fn write(out: &mut [u8], flags: &[u8; FLAGS_SIZE], uid: &[u8; UID_SIZE])
-    ensures { out.new ≡ putFront (headerOf flags.now uid.now) out.old }
+    ensures { out.new ≡ put_front (header_of flags.now uid.now) out.old }
 {
     put_header(out, flags, uid)
 }

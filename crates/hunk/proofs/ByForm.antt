@@ -11,51 +11,51 @@ use mir.Val.{Fits}
 use Rattle.hunk.specs.declared.Form.{Form}
 use Rattle.hunk.specs.declared.Form.TheVariants.{Bytes, Decles, Words}
 use Rattle.hunk.specs.declared.Block.TheVariants.{End, Wrong, Data}
-use Rattle.hunk.specs.Forms.{form_of, isReserved, count_for, mostFor, size_for, count_of, size_of}
+use Rattle.hunk.specs.Forms.{form_of, is_reserved, count_for, most_for, size_for, count_of, size_of}
 use Rattle.hunk.specs.Hunk.{whole_at}
-use Rattle.hunk.specs.Laws.Forms.{Starts, starts-of, count_most}
+use Rattle.hunk.specs.Laws.Forms.{Starts, starts_of, count_most}
 use Rattle.hunk.specs.Code.Blocks.{block_at}
 
 -- a start byte is a byte
-module _ (f : Form) (n : ℕ) (h : n ≤ mostFor f) where
-  pub fit-bytes : f ≡ Bytes → Fits w8 n
-  fit-bytes e = let k : n ≤ mostFor Bytes = rw e at h in omega arith
+module _ (f : Form) (n : ℕ) (h : n ≤ most_for f) where
+  pub fit_bytes : f ≡ Bytes → Fits w8 n
+  fit_bytes e = let k : n ≤ most_for Bytes = rw e at h in omega arith
 
-  pub fit-decles : f ≡ Decles → Fits w8 (0x3F + n)
-  fit-decles e = let k : n ≤ mostFor Decles = rw e at h in omega arith
+  pub fit_decles : f ≡ Decles → Fits w8 (0x3F + n)
+  fit_decles e = let k : n ≤ most_for Decles = rw e at h in omega arith
 
   pub fit_words : f ≡ Words → Fits w8 (0xBF + n)
-  fit_words e = let k : n ≤ mostFor Words = rw e at h in omega arith
+  fit_words e = let k : n ≤ most_for Words = rw e at h in omega arith
 
-pub fit-wider : (x : ℕ) → Fits w8 x → Fits w64 x
-fit-wider x h = omega arith
+pub fit_wider : (x : ℕ) → Fits w8 x → Fits w64 x
+fit_wider x h = omega arith
 
-pub ruleset fitting = (fit-bytes, fit-decles, fit_words, fit-wider)
+pub ruleset fitting = (fit_bytes, fit_decles, fit_words, fit_wider)
 
 -- the words that a start byte counts
 module _ (f : Form) (b : ℕ) (ef : f ≡ form_of b) where
-  starts-in : Starts f b
-  starts-in = rw ef (starts-of b)
+  starts_in_lem : Starts f b
+  starts_in_lem = rw ef (starts_of b)
 
-  pub from-decles : f ≡ Decles → 0x3F ≤ b
-  from-decles e = let h : Starts Decles b = rw e at starts-in in omega arith
+  pub from_decles : f ≡ Decles → 0x3F ≤ b
+  from_decles e = let h : Starts Decles b = rw e at starts_in_lem in omega arith
 
-  pub from-words : f ≡ Words → 0xBF ≤ b
-  from-words e = let h : Starts Words b = rw e at starts-in in omega arith
+  pub from_words : f ≡ Words → 0xBF ≤ b
+  from_words e = let h : Starts Words b = rw e at starts_in_lem in omega arith
 
   pub count_small : (n : ℕ) → n ≡ count_for f b → n < 256
   unfolding count_of
   count_small n en = let h : count_for (form_of b) b ≤ 128 = count_most b in omega (arith, en ∙ ap (λ (g : Form). count_for g b) ef)
 
 -- what stands at p
-pub block-end : (s : List ℕ) (p : ℕ) → length s ≤ p → End ≡ block_at s p
+pub block_end : (s : List ℕ) (p : ℕ) → length s ≤ p → End ≡ block_at s p
 unfolding block_at
-block-end s p h = rw (le-leb _ _ h)
+block_end s p h = rw (le-leb _ _ h)
 
-module _ (s : List ℕ) (p b : ℕ) (f : Form) (at : p < length s) (eb : b ≡ get_or s p 0) (ef : f ≡ form_of b) (t : Bool) (et : t ≡ isReserved f) where
-  pub block-reserved : t ≡ true → Wrong ≡ block_at s p
+module _ (s : List ℕ) (p b : ℕ) (f : Form) (at : p < length s) (eb : b ≡ get_or s p 0) (ef : f ≡ form_of b) (t : Bool) (et : t ≡ is_reserved f) where
+  pub block_reserved : t ≡ true → Wrong ≡ block_at s p
   unfolding block_at whole_at
-  block-reserved h = rw (lt-leb _ _ at, ← eb, ← ef, ← et, h)
+  block_reserved h = rw (lt-leb _ _ at, ← eb, ← ef, ← et, h)
 
   module _ (h : t ≡ false) (n z : ℕ) (en : n ≡ count_for f b) (ez : z ≡ size_for f n) where
     counted : count_of b ≡ n
@@ -66,12 +66,12 @@ module _ (s : List ℕ) (p b : ℕ) (f : Form) (at : p < length s) (eb : b ≡ g
     unfolding size_of
     sized = rw (counted, ← ef) (sym ez)
 
-    pub block-cut : length s - p < z → Wrong ≡ block_at s p
+    pub block_cut : length s - p < z → Wrong ≡ block_at s p
     unfolding block_at whole_at
-    block-cut l = let g : length s < p + z = omega arith in rw (lt-leb _ _ at, ← eb, ← ef, ← et, h, sized, lt-leb _ _ g)
+    block_cut l = let g : length s < p + z = omega arith in rw (lt-leb _ _ at, ← eb, ← ef, ← et, h, sized, lt-leb _ _ g)
 
-    pub block-data : z ≤ length s - p → Data n (p + z) ≡ block_at s p
+    pub block_data : z ≤ length s - p → Data n (p + z) ≡ block_at s p
     unfolding block_at whole_at
-    block-data l = let g : p + z ≤ length s = omega arith in rw (lt-leb _ _ at, ← eb, ← ef, ← et, h, sized, counted, le-leb _ _ g)
+    block_data l = let g : p + z ≤ length s = omega arith in rw (lt-leb _ _ at, ← eb, ← ef, ← et, h, sized, counted, le-leb _ _ g)
 
-pub ruleset blocks = (block-end, block-reserved, block-cut, block-data)
+pub ruleset blocks = (block_end, block_reserved, block_cut, block_data)

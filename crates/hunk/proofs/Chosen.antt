@@ -9,29 +9,29 @@ use lib.Dec.{leb}
 use lib.ListN.{length, get_or}
 use Rattle.hunk.specs.declared.Form.{Form}
 use Rattle.hunk.specs.declared.Form.TheVariants.{Bytes, Decles, Words}
-use Rattle.hunk.specs.Forms.{mostFor, size_for}
-use Rattle.hunk.specs.Smallest.{largest, canHold, carries, smaller, formFor}
+use Rattle.hunk.specs.Forms.{most_for, size_for}
+use Rattle.hunk.specs.Smallest.{largest, can_hold, carries, smaller, form_for}
 
 -- the largest of the first words
 module _ (words : List ℕ) where
-  pub largest-none : 0 ≡ largest 0 words
+  pub largest_none : 0 ≡ largest 0 words
   unfolding largest
-  largest-none = refl
+  largest_none = refl
 
   module _ (top i : ℕ) (e : top ≡ largest i words) where
-    pub largest-more : (v : ℕ) → v ≡ max top (get_or words i 0) → v ≡ largest (i + 1) words
+    pub largest_more : (v : ℕ) → v ≡ max top (get_or words i 0) → v ≡ largest (i + 1) words
     unfolding largest
-    largest-more v ev = rw (add-one, ← e) ev
+    largest_more v ev = rw (add-one, ← e) ev
 
-    pub largest-done : (n : ℕ) → i ≤ n → n ≤ i → top ≡ largest n words
-    largest-done n h k = let d : i ≡ n = omega arith in rw d at e
+    pub largest_done : (n : ℕ) → i ≤ n → n ≤ i → top ≡ largest n words
+    largest_done n h k = let d : i ≡ n = omega arith in rw d at e
 
-pub ruleset largests = (largest-none, largest-more, largest-done)
+pub ruleset largests = (largest_none, largest_more, largest_done)
 
 -- whether a form can carry the words
-pub carry-tested : (f : Form) (n top m : ℕ) (h b r : Bool) → m ≡ mostFor f → h ≡ canHold f top → b ≡ (leb n m && h) → r ≡ (leb 1 n && b) → r ≡ carries f n top
+pub carry_tested : (f : Form) (n top m : ℕ) (h b r : Bool) → m ≡ most_for f → h ≡ can_hold f top → b ≡ (leb n m && h) → r ≡ (leb 1 n && b) → r ≡ carries f n top
 unfolding carries
-carry-tested f n top m h b r em eh eb er = er ∙ rw (eb, em, eh)
+carry_tested f n top m h b r em eh eb er = er ∙ rw (eb, em, eh)
 
 -- of two forms, the one that is taken
 module _ (f g : Form) (n top x y : ℕ) (ex : x ≡ size_for f n) (ey : y ≡ size_for g n) (a b u t : Bool) (ea : a ≡ carries f n top) (eb : b ≡ carries g n top)
@@ -43,12 +43,12 @@ module _ (f g : Form) (n top x y : ℕ) (ex : x ≡ size_for f n) (ey : y ≡ si
   unfolding smaller
   takes_first h = rw (test, h)
 
-  pub takes-second : t ≡ false → g ≡ smaller f g n top
+  pub takes_second : t ≡ false → g ≡ smaller f g n top
   unfolding smaller
-  takes-second h = rw (test, h)
+  takes_second h = rw (test, h)
 
 -- the smallest of the three
-pub form-chosen : (words : List ℕ) (top : ℕ) (g r : Form) → top ≡ largest (length words - 1) words → g ≡ smaller Decles Bytes (length words) top
-    → r ≡ smaller Words g (length words) top → r ≡ formFor words
-unfolding formFor
-form-chosen words top g r et eg er = er ∙ rw (eg, et)
+pub form_chosen : (words : List ℕ) (top : ℕ) (g r : Form) → top ≡ largest (length words - 1) words → g ≡ smaller Decles Bytes (length words) top
+    → r ≡ smaller Words g (length words) top → r ≡ form_for words
+unfolding form_for
+form_chosen words top g r et eg er = er ∙ rw (eg, et)

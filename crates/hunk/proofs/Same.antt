@@ -6,14 +6,14 @@ use Rattle.hunk.proofs.store.Reads as store
 use Rattle.hunk.proofs.size.Reads as size
 use Rattle.hunk.proofs.write.Reads as write
 
-pub one-check : OneAnswer check.Learnt
-one-check κs a y z e f = same
+pub one_check : OneAnswer check.Learnt
+one_check κs a y z e f = same
 
-pub one-store-lent : OneLent store.Learnt (λ κs e. e.1.0.now)
-one-store-lent κs a y z e f = same
+pub one_store_lent : OneLent store.Learnt (λ κs e. e.1.0.now)
+one_store_lent κs a y z e f = same
 
 pub one_size : OneAnswer size.Learnt
 one_size κs a y z e f p q = same p.0 q.0
 
-pub one-write-lent : OneLent write.Learnt (λ κs e. e.0.now)
-one-write-lent κs a y z e f = same
+pub one_write_lent : OneLent write.Learnt (λ κs e. e.0.now)
+one_write_lent κs a y z e f = same

@@ -15,11 +15,11 @@ form_of b =
     (cond (ltb b 0xFE) Words
     Reserved)))
 
-abbrev pub isReserved : Form → Bool
-isReserved Bytes = false
-isReserved Decles = false
-isReserved Words = false
-isReserved Reserved = true
+abbrev pub is_reserved : Form → Bool
+is_reserved Bytes = false
+is_reserved Decles = false
+is_reserved Words = false
+is_reserved Reserved = true
 
 -- N, the number of words, by the start byte (001, "N = start_byte", "N = start_byte - 0x3F", "N = start_byte - 0xBF"); and back
 abbrev pub count_for : Form → ℕ → ℕ
@@ -28,18 +28,18 @@ count_for Decles b = b - 0x3F
 count_for Words b = b - 0xBF
 count_for Reserved b = 0
 
-abbrev pub startFor : Form → ℕ → ℕ
-startFor Bytes n = n
-startFor Decles n = 0x3F + n
-startFor Words n = 0xBF + n
-startFor Reserved n = 0
+abbrev pub start_for : Form → ℕ → ℕ
+start_for Bytes n = n
+start_for Decles n = 0x3F + n
+start_for Words n = 0xBF + n
+start_for Reserved n = 0
 
 -- the most words that the start bytes of a form can count (001, "0x01 to 0x3F", "0x40 to 0xBF", "0xC0 to 0xFD")
-abbrev pub mostFor : Form → ℕ
-mostFor Bytes = 0x3F
-mostFor Decles = 0xBF - 0x3F
-mostFor Words = 0xFD - 0xBF
-mostFor Reserved = 0
+abbrev pub most_for : Form → ℕ
+most_for Bytes = 0x3F
+most_for Decles = 0xBF - 0x3F
+most_for Words = 0xFD - 0xBF
+most_for Reserved = 0
 
 -- the number of bytes of n words, start byte included (001, "2 + N", "2 + ((N + 2) >> 2) + N", "1 + 2*N")
 abbrev pub size_for : Form → ℕ → ℕ
@@ -91,20 +91,20 @@ unfoldable pub packets : List ℕ → ℕ → ℕ
 packets ws k = packet ws (4 * (k / 5)) (k % 5)
 
 -- the words of a data block before its last: a byte of each, packets of four decles, 16 bits of each
-abbrev pub bodyFor : Form → List ℕ → List ℕ
-bodyFor Bytes ws = table (length ws) (lower ws)
-bodyFor Decles ws = table ((length ws + 3) / 4 + length ws) (packets ws)
-bodyFor Words ws = bytes16 ws
-bodyFor Reserved ws = []
+abbrev pub body_for : Form → List ℕ → List ℕ
+body_for Bytes ws = table (length ws) (lower ws)
+body_for Decles ws = table ((length ws + 3) / 4 + length ws) (packets ws)
+body_for Words ws = bytes16 ws
+body_for Reserved ws = []
 
 -- all words but the last, and the last
-abbrev pub butLast : List ℕ → List ℕ
-butLast words = take (length words - 1) words
+abbrev pub but_last : List ℕ → List ℕ
+but_last words = take (length words - 1) words
 
 abbrev pub last_of : List ℕ → ℕ
 last_of words = get_or words (length words - 1) 0
 
 -- words as a data block of a form: its start byte, the words before the last, and the last as 16 bits (001, "Each block type terminates with a
 -- 16-bit word")
-unfoldable pub dataIn : Form → List ℕ → List ℕ
-dataIn f words = startFor f (length words) ∷ (bodyFor f (butLast words) ++ le16 (last_of words))
+unfoldable pub data_in : Form → List ℕ → List ℕ
+data_in f words = start_for f (length words) ∷ (body_for f (but_last words) ++ le16 (last_of words))

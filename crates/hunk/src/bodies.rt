@@ -2,7 +2,7 @@
 // (001, "8-bit", "10-bit" and "16-bit Data Block").
 ghost use Rattle.std.specs.Prelude.{◌+◌, ◌-◌, ◌*◌, ◌/◌, ◌%◌, ◌≤◌, ◌<◌, ◌≡◌, length, get_or, drop};
 ghost use Rattle.basics.specs.Lists.{laid};
-ghost use Rattle.hunk.specs.Forms.{lower, packet, packets, bodyFor};
+ghost use Rattle.hunk.specs.Forms.{lower, packet, packets, body_for};
 
 use crate::Form;
 use basics::{low, put_words};
@@ -91,8 +91,8 @@ fn put_decles(out: &mut [u8], words: &[u16])
 
 // In a form, into a part of just their size.
 pub(crate) fn put_body(out: &mut [u8], words: &[u16], f: Form)
-    requires { length out.old ≡ length (bodyFor f words.now) }
-    ensures { out.new ≡ bodyFor f words.now }
+    requires { length out.old ≡ length (body_for f words.now) }
+    ensures { out.new ≡ body_for f words.now }
 {
     match f {
         Form::Bytes => {

@@ -1,8 +1,8 @@
 // The form of a data block: the smallest that can carry its words (02, W-207). One pass over the words finds the largest but the last;
 // the rest goes by that number and how many words there are.
 ghost use Rattle.std.specs.Prelude.{◌≤◌, ◌<◌, max, ◌≡◌, length};
-ghost use Rattle.hunk.specs.Forms.{mostFor};
-ghost use Rattle.hunk.specs.Smallest.{largest, canHold, carries, smaller, formFor};
+ghost use Rattle.hunk.specs.Forms.{most_for};
+ghost use Rattle.hunk.specs.Smallest.{largest, can_hold, carries, smaller, form_for};
 
 use crate::Form;
 use crate::forms::size_of;
@@ -30,7 +30,7 @@ fn largest_of(words: &[u16], n: usize) -> u16
 
 // A word that a form can hold before its last one.
 fn can_hold(f: Form, w: u16) -> bool
-    ensures { result ≡ canHold f w }
+    ensures { result ≡ can_hold f w }
 {
     match f {
         Form::Bytes => w < 0x100,
@@ -42,7 +42,7 @@ fn can_hold(f: Form, w: u16) -> bool
 
 // The most words that a form's start bytes can count.
 fn most_of(f: Form) -> usize
-    ensures { result ≡ mostFor f }
+    ensures { result ≡ most_for f }
 {
     match f {
         Form::Bytes => 0x3F,
@@ -76,7 +76,7 @@ fn smaller_of(f: Form, g: Form, n: usize, top: u16) -> Form
 // On a tie 16-bit before 10-bit before 8-bit.
 pub(crate) fn form_for(words: &[u16]) -> Form
     requires { (1 ≤ length words.now) × (length words.now < 256) }
-    ensures { result ≡ formFor words.now }
+    ensures { result ≡ form_for words.now }
 {
     let n = words.len();
     let top = largest_of(words, n - 1);

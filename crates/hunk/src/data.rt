@@ -3,8 +3,8 @@
 ghost use Rattle.std.specs.Prelude.{◌+◌, ◌≤◌, ◌%◌, ◌^◌, ◌++◌, ◌≡◌, length};
 ghost use Rattle.basics.specs.Bytes.{le16, le24};
 ghost use Rattle.basics.specs.Lists.{joined};
-ghost use Rattle.places.specs.Limits.{paragraphSize};
-ghost use Rattle.hunk.specs.Forms.{mostFor, bodyFor, butLast, last_of, dataIn};
+ghost use Rattle.places.specs.Limits.{paragraph_size};
+ghost use Rattle.hunk.specs.Forms.{most_for, body_for, but_last, last_of, data_in};
 ghost use Rattle.hunk.specs.Smallest.{data_of};
 ghost use Rattle.hunk.specs.Cuts.{cuts_of};
 
@@ -40,8 +40,8 @@ fn put_last(out: &mut [u8], w: u16)
 
 // What stands behind a start byte: the words before the last in a form, and the last.
 fn put_behind(out: &mut [u8], words: &[u16], f: Form)
-    requires { (1 ≤ length words.now) × (length out.old ≡ length (bodyFor f (butLast words.now)) + 2) }
-    ensures { out.new ≡ bodyFor f (butLast words.now) ++ le16 (last_of words.now) }
+    requires { (1 ≤ length words.now) × (length out.old ≡ length (body_for f (but_last words.now)) + 2) }
+    ensures { out.new ≡ body_for f (but_last words.now) ++ le16 (last_of words.now) }
 {
     let last = words.len() - 1;
     let end = out.len() - 2;
@@ -51,8 +51,8 @@ fn put_behind(out: &mut [u8], words: &[u16], f: Form)
 
 // A data block of these words in a form, into a part of just its size.
 fn write_data(out: &mut [u8], words: &[u16], f: Form)
-    requires { (1 ≤ length words.now) × (length words.now ≤ mostFor f) × (length out.old ≡ length (dataIn f words.now)) }
-    ensures { out.new ≡ dataIn f words.now }
+    requires { (1 ≤ length words.now) × (length words.now ≤ most_for f) × (length out.old ≡ length (data_in f words.now)) }
+    ensures { out.new ≡ data_in f words.now }
 {
     out[0] = start_of(f, words.len());
     put_behind(&mut out[1..], words, f);
@@ -60,7 +60,7 @@ fn write_data(out: &mut [u8], words: &[u16], f: Form)
 
 // How many bytes the data blocks of all cuts have.
 pub(crate) fn cuts_size(words: &[u16]) -> usize
-    requires { length words.now ≤ paragraphSize }
+    requires { length words.now ≤ paragraph_size }
     ensures { result ≡ length (joined data_of (cuts_of words.now)) }
 {
     let mut long = 0;

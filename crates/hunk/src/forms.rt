@@ -1,6 +1,6 @@
 // What the start byte of a data block says (001, "Start byte", Reserved Encodings).
 ghost use Rattle.std.specs.Prelude.{◌<◌, ◌≤◌, ◌≡◌};
-ghost use Rattle.hunk.specs.Forms.{form_of, isReserved, count_for, startFor, mostFor, size_for};
+ghost use Rattle.hunk.specs.Forms.{form_of, is_reserved, count_for, start_for, most_for, size_for};
 
 use crate::Form;
 
@@ -23,7 +23,7 @@ pub(crate) fn form_of(b: usize) -> Form
 }
 
 pub(crate) fn reserved(f: Form) -> bool
-    ensures { result ≡ isReserved f }
+    ensures { result ≡ is_reserved f }
 {
     match f {
         Form::Bytes => false,
@@ -48,8 +48,8 @@ pub(crate) fn count_of(f: Form, b: usize) -> usize
 
 // The start byte, by the number of words.
 pub(crate) fn start_of(f: Form, n: usize) -> u8
-    requires { n ≤ mostFor f }
-    ensures { result ≡ startFor f n }
+    requires { n ≤ most_for f }
+    ensures { result ≡ start_for f n }
 {
     match f {
         Form::Bytes => n as u8,

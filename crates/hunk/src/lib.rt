@@ -7,10 +7,10 @@ mod forms;
 mod stores;
 
 ghost use Rattle.std.specs.Prelude.{◌+◌, ◌*◌, ◌≤◌, ◌≡◌, ltb, length};
-ghost use Rattle.basics.specs.Lists.{lay, putFront};
-ghost use Rattle.places.specs.Limits.{lent, lentLimit, paragraphSize};
+ghost use Rattle.basics.specs.Lists.{lay, put_front};
+ghost use Rattle.places.specs.Limits.{lent, lent_limit, paragraph_size};
 ghost use Rattle.places.specs.Places.{locutus};
-ghost use Rattle.hunk.specs.Hunk.{hunk, address, words_of, checkHunk, storeHunk, hunkPayload, payloadSize};
+ghost use Rattle.hunk.specs.Hunk.{hunk, address, words_of, check_hunk, store_hunk, hunk_payload, payload_size};
 ghost use Rattle.hunk.specs.Code.Blocks.{block_at, Storable};
 
 use basics::wide;
@@ -83,7 +83,7 @@ fn past(at: Locutus, n: usize, m: usize) -> bool
 
 // Whether a hunk's words all lie in m words of RAM, and where it breaks if not.
 pub fn check(s: &[u8], m: usize) -> Checked
-    ensures { result ≡ checkHunk s.now m }
+    ensures { result ≡ check_hunk s.now m }
 {
     if s.len() < 3 {
         return Checked::Broken(0);
@@ -113,7 +113,7 @@ pub fn check(s: &[u8], m: usize) -> Checked
 
 // The place n words on.
 fn after(at: Locutus, n: usize) -> Locutus
-    requires { at.0 + n ≤ lentLimit }
+    requires { at.0 + n ≤ lent_limit }
     ensures { result ≡ locutus (at.0 + n) }
 {
     Locutus(at.0 + n as u32)
@@ -146,7 +146,7 @@ fn store_blocks(s: &[u8], ram: &mut [u16])
 
 // Stores a hunk's words, where the check passes for the words lent; else nothing.
 pub fn store(s: &[u8], ram: &mut [u16])
-    ensures { ram.new ≡ storeHunk s.now ram.old }
+    ensures { ram.new ≡ store_hunk s.now ram.old }
 {
     let c = check(s, lent_words(ram));
     match c {
@@ -159,14 +159,14 @@ pub fn store(s: &[u8], ram: &mut [u16])
 
 // How many bytes the payload of a paragraph's words has.
 pub fn size(words: &[u16; PARAGRAPH_SIZE]) -> usize
-    ensures { (result ≡ payloadSize words.now) × (result ≤ 3 + 3 * paragraphSize) }
+    ensures { (result ≡ payload_size words.now) × (result ≤ 3 + 3 * paragraph_size) }
 {
     3 + cuts_size(words)
 }
 
 // The payload of a paragraph's words, at the front of a buffer that has room for it.
 pub fn write(out: &mut [u8], at: Locutus, words: &[u16; PARAGRAPH_SIZE])
-    ensures { out.new ≡ putFront (hunkPayload (hunk at words.now)) out.old }
+    ensures { out.new ≡ put_front (hunk_payload (hunk at words.now)) out.old }
 {
     let n = size(words);
     if out.len() < n {

@@ -5,7 +5,7 @@ use Rattle.jlp.proofs.arith.multiply.Reads as multiply
 use Rattle.jlp.proofs.arith.divide.Reads as divide
 use Rattle.jlp.proofs.sum.checksum.Reads as checksum
 use Rattle.jlp.proofs.in_window.Reads as in_window
-use Rattle.jlp.proofs.in_ram.Reads as in-ram
+use Rattle.jlp.proofs.in_ram.Reads as in_ram_lem
 use Rattle.jlp.proofs.is_operand.Reads as is-operand
 use Rattle.jlp.proofs.location.Reads as location
 use Rattle.jlp.proofs.fresh.Reads as fresh
@@ -19,53 +19,53 @@ use Rattle.jlp.proofs.crc_after.Reads as crc-after
 use Rattle.jlp.proofs.write.Reads as write
 use Rattle.jlp.proofs.read.Reads as read
 
-pub one-multiply : OneAnswer multiply.Learnt
-one-multiply κs a y z e f = same
+pub one_multiply : OneAnswer multiply.Learnt
+one_multiply κs a y z e f = same
 
-pub one-divide : OneAnswer divide.Learnt
-one-divide κs a y z e f = same
+pub one_divide : OneAnswer divide.Learnt
+one_divide κs a y z e f = same
 
-pub one-checksum : OneAnswer checksum.Learnt
-one-checksum κs a y z e f = same
+pub one_checksum : OneAnswer checksum.Learnt
+one_checksum κs a y z e f = same
 
-pub one-in-window : OneAnswer in_window.Learnt
-one-in-window κs a y z e f = same
+pub one_in_window : OneAnswer in_window.Learnt
+one_in_window κs a y z e f = same
 
-pub one-in-ram : OneAnswer in-ram.Learnt
-one-in-ram κs a y z e f = same
+pub one_in_ram : OneAnswer in_ram_lem.Learnt
+one_in_ram κs a y z e f = same
 
-pub one-is-operand : OneAnswer is-operand.Learnt
-one-is-operand κs a y z e f = same
+pub one_is_operand : OneAnswer is-operand.Learnt
+one_is_operand κs a y z e f = same
 
-pub one-location : OneAnswer location.Learnt
-one-location κs a y z e f = same
+pub one_location : OneAnswer location.Learnt
+one_location κs a y z e f = same
 
-pub one-fresh : OneAnswer fresh.Learnt
-one-fresh κs a y z e f = same
+pub one_fresh : OneAnswer fresh.Learnt
+one_fresh κs a y z e f = same
 
-pub one-reset : OneAnswer reset.Learnt
-one-reset κs a y z e f = same
+pub one_reset : OneAnswer reset.Learnt
+one_reset κs a y z e f = same
 
-pub one-turns-on : OneAnswer turns-on.Learnt
-one-turns-on κs a y z e f = same
+pub one_turns_on : OneAnswer turns-on.Learnt
+one_turns_on κs a y z e f = same
 
-pub one-turns-off : OneAnswer turns-off.Learnt
-one-turns-off κs a y z e f = same
+pub one_turns_off : OneAnswer turns-off.Learnt
+one_turns_off κs a y z e f = same
 
-pub one-takes : OneAnswer takes.Learnt
-one-takes κs a y z e f = same
+pub one_takes : OneAnswer takes.Learnt
+one_takes κs a y z e f = same
 
-pub one-latches : OneAnswer latches.Learnt
-one-latches κs a y z e f = same
+pub one_latches : OneAnswer latches.Learnt
+one_latches κs a y z e f = same
 
-pub one-function-of : OneAnswer Function-of.Learnt
-one-function-of κs a y z e f = same
+pub one_function_of : OneAnswer Function-of.Learnt
+one_function_of κs a y z e f = same
 
-pub one-crc-after : OneAnswer crc-after.Learnt
-one-crc-after κs a y z e f = same
+pub one_crc_after : OneAnswer crc-after.Learnt
+one_crc_after κs a y z e f = same
 
-pub one-write : OneAnswer write.Learnt
-one-write κs a y z e f = same
+pub one_write : OneAnswer write.Learnt
+one_write κs a y z e f = same
 
-pub one-read : OneAnswer read.Learnt
-one-read κs a y z e f = same
+pub one_read : OneAnswer read.Learnt
+one_read κs a y z e f = same

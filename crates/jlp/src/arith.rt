@@ -1,6 +1,6 @@
 // Products, quotients and remainders of words, by sign and size (000, "JLP Multiply and Divide Accelerators").
 ghost use Rattle.std.specs.Prelude.{◌<◌, ◌≡◌};
-ghost use Rattle.jlp.specs.Arith.{wordValues, longValues, number_of, word_of, unlike, productOf, multiplied, quotient_of, divided};
+ghost use Rattle.jlp.specs.Arith.{word_values, long_values, number_of, word_of, unlike, product_of, multiplied, quotient_of, divided};
 
 use crate::Results;
 
@@ -41,7 +41,7 @@ fn unlike(a: bool, b: bool) -> bool
 
 // A number in 16 bits, and in 32.
 fn word16(negative: bool, size: u16) -> u16
-    ensures { result ≡ word_of wordValues negative size }
+    ensures { result ≡ word_of word_values negative size }
 {
     if negative {
         ((0x1_0000 - size as u32) % 0x1_0000) as u16
@@ -51,7 +51,7 @@ fn word16(negative: bool, size: u16) -> u16
 }
 
 fn word32(negative: bool, size: u32) -> u32
-    ensures { result ≡ word_of longValues negative size }
+    ensures { result ≡ word_of long_values negative size }
 {
     if negative {
         ((0x1_0000_0000 - size as u64) % 0x1_0000_0000) as u32
@@ -61,7 +61,7 @@ fn word32(negative: bool, size: u32) -> u32
 }
 
 fn product(a: Number, b: Number) -> u32
-    ensures { result ≡ productOf a b }
+    ensures { result ≡ product_of a b }
 {
     word32(
         unlike(a.negative, b.negative),

@@ -5,8 +5,8 @@ mod arith;
 mod sum;
 
 ghost use Rattle.std.specs.Prelude.{◌<◌, ◌≡◌};
-ghost use Rattle.jlp.specs.Window.{between, inWindow, inRam, isOperand, ramLocation};
-ghost use Rattle.jlp.specs.Accelerators.{operandCount, startsOn, freshJlp, withOn, resetJlp, turnsOn, turnsOff, takes, latches, functionOf, operated, crcAfter, withCrcAndSaves, writtenOn, writtenJlp, registerWord, heardAt};
+ghost use Rattle.jlp.specs.Window.{between, in_window, in_ram, is_operand, ram_location};
+ghost use Rattle.jlp.specs.Accelerators.{operand_count, starts_on, fresh_jlp, with_on, reset_jlp, turns_on, turns_off, takes, latches, function_of, operated, crc_after, with_crc_and_saves, written_on, written_jlp, register_word, heard_at};
 
 pub use arith::{divide, multiply};
 use flash::{Heard, RAM_END, RAM_SHIFT, RAM_START, Saves};
@@ -75,34 +75,34 @@ fn between(low: u16, high: u16, a: u16) -> bool
 }
 
 pub fn in_window(at: Console) -> bool
-    ensures { result ≡ inWindow at }
+    ensures { result ≡ in_window at }
 {
     between(WINDOW_START, WINDOW_END, at.0)
 }
 
 pub fn in_ram(at: Console) -> bool
-    ensures { result ≡ inRam at }
+    ensures { result ≡ in_ram at }
 {
     between(RAM_START, RAM_END, at.0)
 }
 
 // Whether an address is an operand's.
 pub fn is_operand(at: Console) -> bool
-    ensures { result ≡ isOperand at }
+    ensures { result ≡ is_operand at }
 {
     between(OPERANDS_START, OPERANDS_END, at.0)
 }
 
 // Where a word of the window's RAM lies.
 pub fn location(at: Console) -> Locutus
-    ensures { result ≡ ramLocation at }
+    ensures { result ≡ ram_location at }
 {
     Locutus(at.0 as u32 + RAM_SHIFT)
 }
 
 // Whether the field has the accelerators on at load and reset.
 fn starts_on(field: u8) -> bool
-    ensures { result ≡ startsOn field }
+    ensures { result ≡ starts_on field }
 {
     if field == 1 {
         return true;
@@ -112,7 +112,7 @@ fn starts_on(field: u8) -> bool
 
 // The accelerators at load, with a flash of so many sectors.
 pub fn fresh(field: u8, sectors: u16) -> Jlp
-    ensures { result ≡ freshJlp field sectors }
+    ensures { result ≡ fresh_jlp field sectors }
 {
     let on = starts_on(field);
     let operands = [0u16; OPERAND_COUNT];
@@ -133,21 +133,21 @@ pub fn fresh(field: u8, sectors: u16) -> Jlp
 
 // On or off; all else stays.
 fn with_on(mut j: Jlp, on: bool) -> Jlp
-    ensures { result ≡ withOn j on }
+    ensures { result ≡ with_on j on }
 {
     j.on = on;
     j
 }
 
 pub fn reset(j: Jlp) -> Jlp
-    ensures { result ≡ resetJlp j }
+    ensures { result ≡ reset_jlp j }
 {
     with_on(j, starts_on(j.field))
 }
 
 // The word that turns the accelerators on, which field 0 does not know.
 pub fn turns_on(field: u8, at: Console, value: u16) -> bool
-    ensures { result ≡ turnsOn field at value }
+    ensures { result ≡ turns_on field at value }
 {
     if at.0 != ON_AT {
         return false;
@@ -160,7 +160,7 @@ pub fn turns_on(field: u8, at: Console, value: u16) -> bool
 
 // The word that turns them off.
 pub fn turns_off(at: Console, value: u16) -> bool
-    ensures { result ≡ turnsOff at value }
+    ensures { result ≡ turns_off at value }
 {
     if at.0 != OFF_AT {
         return false;
@@ -194,7 +194,7 @@ pub fn latches(j: Jlp, at: Console, value: u16) -> bool
 // The functions as 000's table has them: products, S before U in each factor, then quotients, DIVSS before DIVUU. The number tells which factors are signed,
 // so that no product waits for a row of the table that cannot be foreseen.
 pub fn function_of(n: usize, a: u16, b: u16, old: Results) -> Results
-    ensures { result ≡ functionOf n a b old }
+    ensures { result ≡ function_of n a b old }
 {
     if n < 4 {
         return multiply(n < 2, n % 2 == 0, a, b);
@@ -204,7 +204,7 @@ pub fn function_of(n: usize, a: u16, b: u16, old: Results) -> Results
 
 // Operand k is written, and its own function computes.
 fn operate(mut j: Jlp, k: usize, value: u16) -> Jlp
-    requires { k < operandCount }
+    requires { k < operand_count }
     ensures { result ≡ operated j k value }
 {
     let n = k / 2;
@@ -219,7 +219,7 @@ fn operate(mut j: Jlp, k: usize, value: u16) -> Jlp
 
 // The CRC after a write.
 pub fn crc_after(crc: u16, at: Console, value: u16) -> u16
-    ensures { result ≡ crcAfter crc at value }
+    ensures { result ≡ crc_after crc at value }
 {
     if at.0 == DATA_AT {
         return checksum(crc, value);
@@ -231,7 +231,7 @@ pub fn crc_after(crc: u16, at: Console, value: u16) -> u16
 }
 
 fn with_crc_and_saves(mut j: Jlp, crc: u16, saves: Saves) -> Jlp
-    ensures { result ≡ withCrcAndSaves j crc saves }
+    ensures { result ≡ with_crc_and_saves j crc saves }
 {
     j.crc = crc;
     j.saves = saves;
@@ -240,7 +240,7 @@ fn with_crc_and_saves(mut j: Jlp, crc: u16, saves: Saves) -> Jlp
 
 // What a write leaves of the accelerators while they are on.
 fn write_on(j: Jlp, at: Console, value: u16) -> Jlp
-    ensures { result ≡ writtenOn j at value }
+    ensures { result ≡ written_on j at value }
 {
     if turns_off(at, value) {
         return with_on(j, false);
@@ -257,7 +257,7 @@ fn write_on(j: Jlp, at: Console, value: u16) -> Jlp
 
 // What a write leaves of the accelerators.
 pub fn write(j: Jlp, at: Console, value: u16) -> Jlp
-    ensures { result ≡ writtenJlp j at value }
+    ensures { result ≡ written_jlp j at value }
 {
     if turns_on(j.field, at, value) {
         return with_on(j, true);
@@ -270,7 +270,7 @@ pub fn write(j: Jlp, at: Console, value: u16) -> Jlp
 
 // The registers that answer.
 fn register_at(j: Jlp, at: Console) -> Heard
-    ensures { result ≡ registerWord j at }
+    ensures { result ≡ register_word j at }
 {
     if at.0 == FIRST_AT {
         return Heard::Word(j.results.first);
@@ -286,7 +286,7 @@ fn register_at(j: Jlp, at: Console) -> Heard
 
 // What a read of them gets.
 pub fn read(j: Jlp, at: Console) -> Heard
-    ensures { result ≡ heardAt j at }
+    ensures { result ≡ heard_at j at }
 {
     if !j.on {
         return Heard::Silence;

@@ -1,7 +1,7 @@
 // A publisher's label file as a metadata block: its bytes as they stand, in one frame (02, "W-204").
 ghost use Rattle.std.specs.Prelude.{◌≡◌, ◌+◌, ◌≤◌, length};
-ghost use Rattle.blocks.specs.Blocks.{frameSize, payloadLimit};
-ghost use Rattle.label.specs.Label.{labelBlock, wrongLabel, writingOf, written_of};
+ghost use Rattle.blocks.specs.Blocks.{frame_size, payload_limit};
+ghost use Rattle.label.specs.Label.{label_block, wrong_label, writing_of, written_of};
 
 use basics::Refusal;
 use blocks::{FRAME_SIZE, PAYLOAD_LIMIT};
@@ -15,15 +15,15 @@ pub struct Writing {
 
 // 12, of a label that is to be a block.
 pub fn is_wrong(label: &[u8]) -> bool
-    ensures { result ≡ wrongLabel label.now }
+    ensures { result ≡ wrong_label label.now }
 {
     basics::either(metadata::is_cut(label), PAYLOAD_LIMIT < label.len())
 }
 
 // The label's block, into a part of just its size.
 fn put_block(out: &mut [u8], label: &[u8])
-    requires { (length out.old ≡ frameSize + length label.now) × (length label.now ≤ payloadLimit) }
-    ensures { out.new ≡ labelBlock label.now }
+    requires { (length out.old ≡ frame_size + length label.now) × (length label.now ≤ payload_limit) }
+    ensures { out.new ≡ label_block label.now }
 {
     basics::put_bytes(&mut out[FRAME_SIZE..], label);
     blocks::put_frame(out, blocks::METADATA_TYPE, sums::crc324(label));
@@ -31,7 +31,7 @@ fn put_block(out: &mut [u8], label: &[u8])
 
 // The label's block, at the front of a lent buffer.
 pub fn write(out: &mut [u8], label: &[u8]) -> Writing
-    ensures { (result ≡ writingOf out.old label.now) × (out.new ≡ written_of out.old label.now) }
+    ensures { (result ≡ writing_of out.old label.now) × (out.new ≡ written_of out.old label.now) }
 {
     if is_wrong(label) {
         return Writing {

@@ -5,8 +5,8 @@
 mod date;
 
 ghost use Rattle.std.specs.Prelude.{◌+◌, ◌≤◌, ◌≡◌, length};
-ghost use Rattle.places.specs.Limits.{imageLimit};
-ghost use Rattle.blocks.specs.Blocks.{payloadLimit};
+ghost use Rattle.places.specs.Limits.{image_limit};
+ghost use Rattle.blocks.specs.Blocks.{payload_limit};
 
 use blocks::PAYLOAD_LIMIT;
 use lookup::Found;
@@ -19,7 +19,7 @@ const DATE_TAG: u8 = 0x04;
 const IMAGE_ROOM: usize = IMAGE_LIMIT + 1;
 
 fn image_room() -> [u8; IMAGE_ROOM]
-    ensures { imageLimit + 1 ≡ length result }
+    ensures { image_limit + 1 ≡ length result }
 {
     [0; IMAGE_ROOM]
 }
@@ -27,7 +27,7 @@ fn image_room() -> [u8; IMAGE_ROOM]
 const LABEL_ROOM: usize = PAYLOAD_LIMIT + 1;
 
 fn label_room() -> [u8; LABEL_ROOM]
-    ensures { payloadLimit + 1 ≡ length result }
+    ensures { payload_limit + 1 ≡ length result }
 {
     [0; LABEL_ROOM]
 }
@@ -93,7 +93,7 @@ fn show_found<'a>(label: &'a [u8], image: &'a [u8], tag: u8, f: Found) -> bool {
 
 // Every text with the tag, the first one first; answers how many. No file here has so many as an image has bytes.
 fn show_tag<'a>(label: &'a [u8], image: &'a [u8], tag: u8) -> usize
-    ensures { result ≤ imageLimit }
+    ensures { result ≤ image_limit }
 {
     let mut n = 0;
     while n < IMAGE_LIMIT {

@@ -10,28 +10,28 @@ use lib.Dec.{eqb}
 use lib.Seq.{get_or-set_same, get_or-set_other}
 use borrow.Author.Tests.{eqb-true, eq-eqb, eqb-false, ne_eqb}
 use Rattle.basics.specs.Counts.{count, nth}
-use Rattle.basics.specs.Laws.Tables.{Filled, filled_none, filled_more, filled-all, table_of}
-use Rattle.basics.specs.Laws.Tests.{cases, and-false}
+use Rattle.basics.specs.Laws.Tables.{Filled, filled_none, filled_more, filled_all, table_of}
+use Rattle.basics.specs.Laws.Tests.{cases, and_false}
 use Rattle.basics.specs.Tables.{table}
 use Rattle.places.specs.Limits.{slots}
-use Rattle.layout.specs.Code.Survey.{isUsed, numberedOf}
+use Rattle.layout.specs.Code.Survey.{is_used, numbered_of}
 
 pub record Numbering (used : List Bool) (page slot : List ℕ) (n s : ℕ) : Type 0 where
   pub up : s ≤ slots
   pub few : n ≤ s
-  pub pages : n ≡ count (isUsed used) s
-  pub each : Filled 0 slots (count (isUsed used)) s page
+  pub pages : n ≡ count (is_used used) s
+  pub each : Filled 0 slots (count (is_used used)) s page
   pub long : length slot ≡ slots
-  pub back : (i : ℕ) → i < slots → get_or slot i 0 ≡ nth (isUsed used) s i
+  pub back : (i : ℕ) → i < slots → get_or slot i 0 ≡ nth (is_used used) s i
 
-pub numbering-none : (used : List Bool) → Numbering used (replicate slots 0) (replicate slots 0) 0 0
+pub numbering_none : (used : List Bool) → Numbering used (replicate slots 0) (replicate slots 0) 0 0
 unfolding count nth
-numbering-none used =
+numbering_none used =
     record {
       up = omega arith;
       few = omega arith;
       pages = refl;
-      each = filled_none 0 slots (count (isUsed used)) (replicate slots 0) (length-replicate {A = ℕ} slots 0);
+      each = filled_none 0 slots (count (is_used used)) (replicate slots 0) (length-replicate {A = ℕ} slots 0);
       long = length-replicate {A = ℕ} slots 0;
       back = λ i h. get_or-replicate {A = ℕ} slots i 0 0 h;
     }
@@ -44,23 +44,23 @@ count_next f s n k e q = rw (add-one, q, ← e) (by (f s))
     by true = omega arith
     by false = omega arith
 
-nth-next : (f : ℕ → Bool) (s i : ℕ) → nth f (s + 1) i ≡ cond (f s && eqb (count f s) i) s (nth f s i)
+nth_next : (f : ℕ → Bool) (s i : ℕ) → nth f (s + 1) i ≡ cond (f s && eqb (count f s) i) s (nth f s i)
 unfolding nth
-nth-next f s i = rw add-one
+nth_next f s i = rw add-one
 
 and_yes : (b c : Bool) → c ≡ true → b && c ≡ b
 and_yes true c e = e
 and_yes false c e = refl
 
 module _ (used : List Bool) (page slot : List ℕ) (n s : ℕ) (c : Numbering used page slot n s) where
-  pub numbering-more : s < slots → (v k : ℕ) → v ≡ cond (isUsed used s) s (get_or slot n 0) → (k ≡ cond (isUsed used s) 1 0) × (k ≤ 1)
+  pub numbering_more : s < slots → (v k : ℕ) → v ≡ cond (is_used used s) s (get_or slot n 0) → (k ≡ cond (is_used used s) 1 0) × (k ≤ 1)
       → Numbering used (set page s n) (set slot n v) (n + k) (s + 1)
-  numbering-more h v k ev ek =
+  numbering_more h v k ev ek =
       record {
         up = omega arith;
         few = omega (arith, c.few, ek.1);
-        pages = count_next (isUsed used) s n k c.pages ek.0;
-        each = filled_more 0 slots (count (isUsed used)) s n page c.each h c.pages;
+        pages = count_next (is_used used) s n k c.pages ek.0;
+        each = filled_more 0 slots (count (is_used used)) s n page c.each h c.pages;
         long = length-set slot n v ∙ c.long;
         back =
             λ i l.
@@ -71,22 +71,22 @@ module _ (used : List Bool) (page slot : List ℕ) (n s : ℕ) (c : Numbering us
             (get_or-set_same slot n v 0 (omega (arith, c.long, c.few))
             ∙ ev
             ∙ rw (c.back n (omega (arith, c.few)))
-            (sym (nth-next (isUsed used) s n ∙ ap (λ (b : Bool). cond b s (nth (isUsed used) s n)) (and_yes (isUsed used s) _ (eq-eqb (count (isUsed used) s) n (sym c.pages)))))))
+            (sym (nth_next (is_used used) s n ∙ ap (λ (b : Bool). cond b s (nth (is_used used) s n)) (and_yes (is_used used s) _ (eq-eqb (count (is_used used) s) n (sym c.pages)))))))
             (λ q.
             let d : i ≡ n → ⊥ = eqb-false i n q in
             get_or-set_other slot n i v 0 d
             ∙ c.back i l
             ∙ sym
-            (nth-next (isUsed used) s i
-            ∙ ap (λ (b : Bool). cond b s (nth (isUsed used) s i)) (and-false (isUsed used s) _ (ne_eqb (count (isUsed used) s) i (λ z. d (sym (c.pages ∙ z)))))));
+            (nth_next (is_used used) s i
+            ∙ ap (λ (b : Bool). cond b s (nth (is_used used) s i)) (and_false (is_used used s) _ (ne_eqb (count (is_used used) s) i (λ z. d (sym (c.pages ∙ z)))))));
       }
 
-  pub numbering-all : slots ≤ s → record { page = page; slot = slot; pages = n } ≡ numberedOf used
-  unfolding numberedOf
-  numbering-all h =
+  pub numbering_all : slots ≤ s → record { page = page; slot = slot; pages = n } ≡ numbered_of used
+  unfolding numbered_of
+  numbering_all h =
       let e : s ≡ slots = omega (arith, c.up) in
-      let p : page ≡ table slots (count (isUsed used)) = filled-all 0 slots (count (isUsed used)) s page c.each h in
-      let q : slot ≡ table slots (nth (isUsed used) s) = table_of 0 slots (nth (isUsed used) s) slot c.long c.back in
-      let q' : slot ≡ table slots (nth (isUsed used) slots) = q ∙ ap (λ (m : ℕ). table slots (nth (isUsed used) m)) e in
-      let r : n ≡ count (isUsed used) slots = c.pages ∙ ap (count (isUsed used)) e in
+      let p : page ≡ table slots (count (is_used used)) = filled_all 0 slots (count (is_used used)) s page c.each h in
+      let q : slot ≡ table slots (nth (is_used used) s) = table_of 0 slots (nth (is_used used) s) slot c.long c.back in
+      let q' : slot ≡ table slots (nth (is_used used) slots) = q ∙ ap (λ (m : ℕ). table slots (nth (is_used used) m)) e in
+      let r : n ≡ count (is_used used) slots = c.pages ∙ ap (count (is_used used)) e in
       cc

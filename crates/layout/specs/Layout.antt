@@ -7,16 +7,16 @@ use Rattle.basics.specs.Options.{is_some}
 use Rattle.basics.specs.Tables.{table}
 use Rattle.places.specs.declared.Console.{Console}
 use Rattle.places.specs.Places.{console}
-use Rattle.places.specs.Limits.{slots, layers, paragraphs, chapterParagraphs, chapterPages, flipEntries, paragraphSize, pageSize, pageParagraphs}
-use Rattle.jlp.specs.Accelerators.{freshJlp}
+use Rattle.places.specs.Limits.{slots, layers, paragraphs, chapter_paragraphs, chapter_pages, flip_entries, paragraph_size, page_size, page_paragraphs}
+use Rattle.jlp.specs.Accelerators.{fresh_jlp}
 use Rattle.cart.specs.declared.Cartridge.{Cartridge}
 use Rattle.cart.specs.Cartridges.{fresh}
-use Rattle.switches.specs.Flips.{firstK, flipMapping, flipPermissions}
+use Rattle.switches.specs.Flips.{first_k, flip_mapping, flip_permissions}
 use Rattle.lines.specs.declared.Line.{Line}
 use Rattle.lines.specs.declared.Entry.{Entry}
 use Rattle.lines.specs.declared.Entry.TheVariants.{Rom, Paged, Ram}
-use Rattle.lines.specs.Bin.{binWord, binPlace}
-use Rattle.rules.specs.Chapters.{lineIn, uses, paged, kind_at, under}
+use Rattle.lines.specs.Bin.{bin_word, bin_place}
+use Rattle.rules.specs.Chapters.{line_in, uses, paged, kind_at, under}
 
 -- A slot is a layer of a chapter, in the order of the pages: chapters rising; in each, its plain lines (layer 0), then its
 -- PAGE lines by page number (layer 1 + y).
@@ -34,11 +34,11 @@ page_of lines x t = count (used lines) (slot_of x t)
 unfoldable pub pages : List Line → ℕ
 pages lines = count (used lines) slots
 
-unfoldable pub slotOfPage : List Line → ℕ → ℕ
-slotOfPage lines n = nth (used lines) slots n
+unfoldable pub slot_of_page : List Line → ℕ → ℕ
+slot_of_page lines n = nth (used lines) slots n
 
 abbrev pub needed : List Line → ℕ
-needed lines = pageSize * pages lines
+needed lines = page_size * pages lines
 
 -- the Locutus page that answers in chapter x while page y is asked for: the PAGE line's, else that of plain ROM that covers
 -- the flippable range
@@ -47,49 +47,49 @@ answering lines x y =
     cond (uses lines x (suc y)) (some (page_of lines x (suc y))) (cond (under lines x) (some (page_of lines x 0)) none)
 
 -- flip entry y of a chapter with PAGE lines is 16L + 9 for the page L that answers there, else 8; all other entries are 0
-abbrev pub entryFor : Option ℕ → ℕ
-entryFor none = 8
-entryFor (some n) = pageParagraphs * n + 9
+abbrev pub entry_for : Option ℕ → ℕ
+entry_for none = 8
+entry_for (some n) = page_paragraphs * n + 9
 
-unfoldable pub flipEntry : List Line → ℕ → ℕ → ℕ
-flipEntry lines x y = cond (paged lines x) (entryFor (answering lines x y)) 0
+unfoldable pub flip_entry : List Line → ℕ → ℕ → ℕ
+flip_entry lines x y = cond (paged lines x) (entry_for (answering lines x y)) 0
 
 -- paragraph p lies in the flippable range of a chapter with PAGE lines
 unfoldable pub flippable : List Line → ℕ → Bool
-flippable lines p = paged lines (p / chapterParagraphs) && leb (firstK (p / chapterParagraphs)) (p % chapterParagraphs)
+flippable lines p = paged lines (p / chapter_paragraphs) && leb (first_k (p / chapter_paragraphs)) (p % chapter_paragraphs)
 
 -- The mapping and the permissions of paragraph p, where page y of its chapter has just been asked for. Outside the flippable
 -- ranges a plain paragraph maps to 16L + k, and its kind is its permissions; the rest maps to 0 with permission 0.
-abbrev pub plainMapping : List Line → ℕ → ℕ
-plainMapping lines p =
-    cond (is_some (lineIn lines 0 p)) (pageParagraphs * page_of lines (p / chapterParagraphs) 0 + p % chapterParagraphs) 0
+abbrev pub plain_mapping : List Line → ℕ → ℕ
+plain_mapping lines p =
+    cond (is_some (line_in lines 0 p)) (page_paragraphs * page_of lines (p / chapter_paragraphs) 0 + p % chapter_paragraphs) 0
 
-unfoldable pub mappingAt : List Line → ℕ → ℕ → ℕ
-mappingAt lines y p =
-    cond (flippable lines p) (flipMapping (flipEntry lines (p / chapterParagraphs) y) (p % chapterParagraphs)) (plainMapping lines p)
+unfoldable pub mapping_at : List Line → ℕ → ℕ → ℕ
+mapping_at lines y p =
+    cond (flippable lines p) (flip_mapping (flip_entry lines (p / chapter_paragraphs) y) (p % chapter_paragraphs)) (plain_mapping lines p)
 
-unfoldable pub permissionsAt : List Line → ℕ → ℕ → ℕ
-permissionsAt lines y p =
-    cond (flippable lines p) (flipPermissions (flipEntry lines (p / chapterParagraphs) y) (p % chapterParagraphs)) (kind_at lines p)
+unfoldable pub permissions_at : List Line → ℕ → ℕ → ℕ
+permissions_at lines y p =
+    cond (flippable lines p) (flip_permissions (flip_entry lines (p / chapter_paragraphs) y) (p % chapter_paragraphs)) (kind_at lines p)
 
 -- the three tables: the flippable paragraphs start as if page 0 had just been asked for
-abbrev pub mappingTable : List Line → List ℕ
-mappingTable lines = table paragraphs (mappingAt lines 0)
+abbrev pub mapping_table : List Line → List ℕ
+mapping_table lines = table paragraphs (mapping_at lines 0)
 
-abbrev pub permissionsTable : List Line → List ℕ
-permissionsTable lines = table paragraphs (permissionsAt lines 0)
+abbrev pub permissions_table : List Line → List ℕ
+permissions_table lines = table paragraphs (permissions_at lines 0)
 
-abbrev pub flipTable : List Line → List ℕ
-flipTable lines = table flipEntries (λ n. flipEntry lines (n / chapterPages) (n % chapterPages))
+abbrev pub flip_table : List Line → List ℕ
+flip_table lines = table flip_entries (λ n. flip_entry lines (n / chapter_pages) (n % chapter_pages))
 
 -- the cartridge with these tables, as a load leaves it
-abbrev pub cartridgeOf : List Line → Cartridge
-cartridgeOf lines = fresh (freshJlp 0 0) (mappingTable lines) (permissionsTable lines) (flipTable lines)
+abbrev pub cartridge_of : List Line → Cartridge
+cartridge_of lines = fresh (fresh_jlp 0 0) (mapping_table lines) (permissions_table lines) (flip_table lines)
 
 -- the word that a line has at an address when the image is written: the BIN's; declared RAM is written as zeros
 abbrev pub written_by : List ℕ → Entry → Console → ℕ
-written_by bin (Rom lo hi at) a = binWord bin (binPlace lo at a)
-written_by bin (Paged lo hi at y) a = binWord bin (binPlace lo at a)
+written_by bin (Rom lo hi at) a = bin_word bin (bin_place lo at a)
+written_by bin (Paged lo hi at y) a = bin_word bin (bin_place lo at a)
 written_by bin (Ram lo hi w) a = 0
 
 abbrev pub written_of : List ℕ → Option Line → Console → ℕ
@@ -97,20 +97,20 @@ written_of bin none a = 0
 written_of bin (some l) a = written_by bin l.entry a
 
 -- Locutus paragraph p holds a paragraph of the console, on a layer
-abbrev pub layerHeld : List Line → ℕ → ℕ
-layerHeld lines p = slotOfPage lines (p / pageParagraphs) % layers
+abbrev pub layer_held : List Line → ℕ → ℕ
+layer_held lines p = slot_of_page lines (p / page_paragraphs) % layers
 
-abbrev pub paragraphHeld : List Line → ℕ → ℕ
-paragraphHeld lines p = chapterParagraphs * (slotOfPage lines (p / pageParagraphs) / layers) + p % pageParagraphs
+abbrev pub paragraph_held : List Line → ℕ → ℕ
+paragraph_held lines p = chapter_paragraphs * (slot_of_page lines (p / page_paragraphs) / layers) + p % page_paragraphs
 
 -- the line behind it; it is covered where there is one
-unfoldable pub lineHeld : List Line → ℕ → Option Line
-lineHeld lines p = cond (ltb (p / pageParagraphs) (pages lines)) (lineIn lines (layerHeld lines p) (paragraphHeld lines p)) none
+unfoldable pub line_held : List Line → ℕ → Option Line
+line_held lines p = cond (ltb (p / page_paragraphs) (pages lines)) (line_in lines (layer_held lines p) (paragraph_held lines p)) none
 
 abbrev pub covered : List Line → ℕ → Bool
-covered lines p = is_some (lineHeld lines p)
+covered lines p = is_some (line_held lines p)
 
 -- the words of its hunk
-unfoldable pub paragraphWords : List ℕ → List Line → ℕ → List ℕ
-paragraphWords bin lines p =
-    table paragraphSize (λ i. written_of bin (lineHeld lines p) (console (paragraphSize * paragraphHeld lines p + i)))
+unfoldable pub paragraph_words : List ℕ → List Line → ℕ → List ℕ
+paragraph_words bin lines p =
+    table paragraph_size (λ i. written_of bin (line_held lines p) (console (paragraph_size * paragraph_held lines p + i)))

@@ -1,6 +1,6 @@
 // Which line is behind each cell, a paragraph of a layer: the first of the lines that holds it, by its number from 1 on.
 ghost use Rattle.std.specs.Prelude.{◌≤◌, ◌-◌, ◌≡◌, take};
-ghost use Rattle.places.specs.Limits.{lineLimit};
+ghost use Rattle.places.specs.Limits.{line_limit};
 ghost use Rattle.layout.specs.Code.Survey.{takes, claimed, Cells};
 
 use basics::both;
@@ -42,7 +42,7 @@ fn claim(numbers: &mut [u8; CELLS], e: Entry, number: u8)
 }
 
 pub(crate) fn cells_of(n: usize, lines: [Line; LINE_LIMIT]) -> [u8; CELLS]
-    requires { n ≤ lineLimit }
+    requires { n ≤ line_limit }
     ensures { Cells lines (take n lines) result }
 {
     let mut numbers = [0u8; CELLS];

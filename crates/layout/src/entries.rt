@@ -1,9 +1,9 @@
 // The entries of the three tables: flips, mapping, permissions.
 ghost use Rattle.std.specs.Prelude.{◌+◌, ◌≤◌, ◌<◌, ◌≡◌, ◌&&◌, leb};
 ghost use Rattle.basics.specs.Tables.{table};
-ghost use Rattle.places.specs.Limits.{slots, chapters, chapterPages, chapterParagraphs, paragraphs};
-ghost use Rattle.switches.specs.Flips.{firstK};
-ghost use Rattle.layout.specs.Code.Entries.{Small, answerBy, answer_in, entryBy, row_in, rowsIn, flipsIn, mappingBy, mappingIn, permissionsBy, permissionsIn};
+ghost use Rattle.places.specs.Limits.{slots, chapters, chapter_pages, chapter_paragraphs, paragraphs};
+ghost use Rattle.switches.specs.Flips.{first_k};
+ghost use Rattle.layout.specs.Code.Entries.{Small, answer_by, answer_in, entry_by, row_in, rows_in, flips_in, mapping_by, mapping_in, permissions_by, permissions_in};
 
 use basics::both;
 use places::{
@@ -14,7 +14,7 @@ use places::{
 // One more than the page that answers: the PAGE line's, else that of plain ROM that covers the flippable range, else none.
 fn answer(used: bool, page: u16, under: bool, plain: u16) -> u16
     requires { (page ≤ slots) × (plain ≤ slots) }
-    ensures { (result ≡ answerBy used page under plain) × (result ≤ slots + 1) }
+    ensures { (result ≡ answer_by used page under plain) × (result ≤ slots + 1) }
 {
     if used {
         return page + 1;
@@ -32,7 +32,7 @@ fn answer_at(
     x: usize,
     y: usize,
 ) -> u16
-    requires { ((x < chapters) × (y < chapterPages)) × Small page.now }
+    requires { ((x < chapters) × (y < chapter_pages)) × Small page.now }
     ensures { result ≡ answer_in used.now page.now under.now x y }
 {
     let s = LAYERS * x + (y + 1);
@@ -65,7 +65,7 @@ fn rows_of(
     under: &[bool; CHAPTERS],
 ) -> [[u16; CHAPTER_PAGES]; CHAPTERS]
     requires { Small page.now }
-    ensures { result ≡ rowsIn used.now page.now under.now }
+    ensures { result ≡ rows_in used.now page.now under.now }
 {
     let mut rows = [[0u16; CHAPTER_PAGES]; CHAPTERS];
     let mut x = 0;
@@ -79,7 +79,7 @@ fn rows_of(
 // 16L + 9 for the page L that answers, else 8; 0 in a chapter without PAGE lines.
 fn flip_entry(paged: bool, answer: u16) -> u16
     requires { answer ≤ slots + 1 }
-    ensures { result ≡ entryBy paged answer }
+    ensures { result ≡ entry_by paged answer }
 {
     if !paged {
         return 0;
@@ -98,7 +98,7 @@ pub(crate) fn flips_of(
     paged: &[bool; CHAPTERS],
 ) -> [u16; FLIP_ENTRIES]
     requires { Small page.now }
-    ensures { result ≡ flipsIn used.now page.now under.now paged.now }
+    ensures { result ≡ flips_in used.now page.now under.now paged.now }
 {
     let rows = rows_of(used, page, under);
     let mut flips = [0u16; FLIP_ENTRIES];
@@ -113,15 +113,15 @@ pub(crate) fn flips_of(
 
 // Whether paragraph k of chapter x is flippable, where the chapter has PAGE lines.
 fn is_flippable(paged: bool, x: usize, k: usize) -> bool
-    ensures { result ≡ (paged && leb (firstK x) k) }
+    ensures { result ≡ (paged && leb (first_k x) k) }
 {
     both(paged, switches::first_k(x) <= k)
 }
 
 // The mapping of a paragraph: as its flip entry gives it, else 16L + k where a plain line is, else 0.
 fn mapping_by(turns: bool, entry: u16, kind: u8, page: u16, k: u16) -> u16
-    requires { (page ≤ slots) × (k < chapterParagraphs) }
-    ensures { result ≡ mappingBy turns entry kind page k }
+    requires { (page ≤ slots) × (k < chapter_paragraphs) }
+    ensures { result ≡ mapping_by turns entry kind page k }
 {
     if turns {
         return entry / 16 * 16 + k;
@@ -140,7 +140,7 @@ fn mapping_at(
     p: usize,
 ) -> u16
     requires { (p < paragraphs) × Small page.now }
-    ensures { result ≡ mappingIn paged.now flips.now kinds.now page.now p }
+    ensures { result ≡ mapping_in paged.now flips.now kinds.now page.now p }
 {
     let x = p / CHAPTER_PARAGRAPHS;
     let k = p % CHAPTER_PARAGRAPHS;
@@ -161,7 +161,7 @@ pub(crate) fn mapping_of(
     page: &[u16; SLOTS],
 ) -> [u16; PARAGRAPHS]
     requires { Small page.now }
-    ensures { result ≡ table paragraphs (mappingIn paged.now flips.now kinds.now page.now) }
+    ensures { result ≡ table paragraphs (mapping_in paged.now flips.now kinds.now page.now) }
 {
     let mut mapping = [0u16; PARAGRAPHS];
     let mut p = 0;
@@ -174,7 +174,7 @@ pub(crate) fn mapping_of(
 
 // Its permissions: as its flip entry gives them, else its kind.
 fn permissions_by(turns: bool, entry: u16, kind: u8, k: usize) -> u8
-    ensures { result ≡ permissionsBy turns entry kind k }
+    ensures { result ≡ permissions_by turns entry kind k }
 {
     if turns { (entry % 8) as u8 } else { kind }
 }
@@ -186,7 +186,7 @@ fn permissions_at(
     p: usize,
 ) -> u8
     requires { p < paragraphs }
-    ensures { result ≡ permissionsIn paged.now flips.now kinds.now p }
+    ensures { result ≡ permissions_in paged.now flips.now kinds.now p }
 {
     let x = p / CHAPTER_PARAGRAPHS;
     let k = p % CHAPTER_PARAGRAPHS;
@@ -199,7 +199,7 @@ pub(crate) fn permissions_of(
     flips: &[u16; FLIP_ENTRIES],
     kinds: &[u8; PARAGRAPHS],
 ) -> [u8; PARAGRAPHS]
-    ensures { result ≡ table paragraphs (permissionsIn paged.now flips.now kinds.now) }
+    ensures { result ≡ table paragraphs (permissions_in paged.now flips.now kinds.now) }
 {
     let mut permissions = [0u8; PARAGRAPHS];
     let mut p = 0;

@@ -2,8 +2,8 @@
 ghost use Rattle.std.specs.Prelude.{◌*◌, ◌<◌, ◌≡◌};
 ghost use Rattle.basics.specs.Tables.{table};
 ghost use Rattle.places.specs.Places.{console};
-ghost use Rattle.places.specs.Limits.{cells, slots, paragraphs, paragraphSize, locutusParagraphs};
-ghost use Rattle.layout.specs.Code.Entries.{Slots, slotIn, paragraphIn, heldIn, markIn};
+ghost use Rattle.places.specs.Limits.{cells, slots, paragraphs, paragraph_size, locutus_paragraphs};
+ghost use Rattle.layout.specs.Code.Entries.{Slots, slot_in, paragraph_in, held_in, mark_in};
 
 use places::{
     CELLS, CHAPTER_PARAGRAPHS, Console, LAYERS, LOCUTUS_PARAGRAPHS, PAGE_PARAGRAPHS,
@@ -13,7 +13,7 @@ use places::{
 // The slot of the page that Locutus paragraph p lies on.
 fn slot_at(slot: &[u16; SLOTS], p: usize) -> usize
     requires { (p < cells) × Slots slot.now }
-    ensures { (result ≡ slotIn slot.now p) × (result < slots) }
+    ensures { (result ≡ slot_in slot.now p) × (result < slots) }
 {
     slot[p / PAGE_PARAGRAPHS] as usize
 }
@@ -21,7 +21,7 @@ fn slot_at(slot: &[u16; SLOTS], p: usize) -> usize
 // The console paragraph that Locutus paragraph p holds.
 fn paragraph_at(slot: &[u16; SLOTS], p: usize) -> usize
     requires { (p < cells) × Slots slot.now }
-    ensures { (result ≡ paragraphIn slot.now p) × (result < paragraphs) }
+    ensures { (result ≡ paragraph_in slot.now p) × (result < paragraphs) }
 {
     CHAPTER_PARAGRAPHS * (slot_at(slot, p) / LAYERS) + p % PAGE_PARAGRAPHS
 }
@@ -29,7 +29,7 @@ fn paragraph_at(slot: &[u16; SLOTS], p: usize) -> usize
 // Its first address.
 pub(crate) fn address_at(slot: &[u16; SLOTS], p: usize) -> Console
     requires { (p < cells) × Slots slot.now }
-    ensures { result ≡ console (paragraphSize * paragraphIn slot.now p) }
+    ensures { result ≡ console (paragraph_size * paragraph_in slot.now p) }
 {
     Console((PARAGRAPH_SIZE * paragraph_at(slot, p)) as u16)
 }
@@ -37,7 +37,7 @@ pub(crate) fn address_at(slot: &[u16; SLOTS], p: usize) -> Console
 // The number of the line behind it, where there are so many pages; 0 where there is none.
 pub(crate) fn held_at(numbers: &[u8; CELLS], slot: &[u16; SLOTS], pages: u16, p: usize) -> u8
     requires { (p < cells) × Slots slot.now }
-    ensures { result ≡ heldIn numbers.now slot.now pages p }
+    ensures { result ≡ held_in numbers.now slot.now pages p }
 {
     if pages as usize <= p / PAGE_PARAGRAPHS {
         return 0;
@@ -53,7 +53,7 @@ pub(crate) fn marks_of(
     pages: u16,
 ) -> [bool; LOCUTUS_PARAGRAPHS]
     requires { Slots slot.now }
-    ensures { result ≡ table locutusParagraphs (markIn numbers.now slot.now pages) }
+    ensures { result ≡ table locutus_paragraphs (mark_in numbers.now slot.now pages) }
 {
     let mut marks = [false; LOCUTUS_PARAGRAPHS];
     let mut p = 0;

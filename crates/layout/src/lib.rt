@@ -7,8 +7,8 @@ mod pour;
 mod survey;
 
 ghost use Rattle.std.specs.Prelude.{◌≡◌, take};
-ghost use Rattle.layout.specs.Drawing.{drawingOf, ramOf};
-ghost use Rattle.layout.specs.Code.Entries.{Small, Slots, drawnBy};
+ghost use Rattle.layout.specs.Drawing.{drawing_of, ram_of};
+ghost use Rattle.layout.specs.Code.Entries.{Small, Slots, drawn_by};
 
 use entries::{flips_of, mapping_of, permissions_of};
 use held::marks_of;
@@ -29,7 +29,7 @@ pub struct Drawing {
 
 fn drawn(s: Survey) -> Drawing
     requires { Small s.page × Slots s.slot }
-    ensures { result ≡ drawnBy s }
+    ensures { result ≡ drawn_by s }
 {
     let cells = s.cells;
     let kinds = s.kinds;
@@ -53,7 +53,7 @@ fn drawn(s: Survey) -> Drawing
 
 // The tables, pages and marks of a CFG's lines.
 pub fn draw(count: u32, lines: [Line; LINE_LIMIT]) -> Drawing
-    ensures { result ≡ drawingOf (take count lines) }
+    ensures { result ≡ drawing_of (take count lines) }
 {
     let s = survey_of(count, lines);
     drawn(s)
@@ -61,7 +61,7 @@ pub fn draw(count: u32, lines: [Line; LINE_LIMIT]) -> Drawing
 
 // The same, with the words of all pages laid into a RAM.
 pub fn lay_out(bin: &[u8], count: u32, lines: [Line; LINE_LIMIT], ram: &mut [u16]) -> Drawing
-    ensures { (result ≡ drawingOf (take count lines)) × (ram.new ≡ ramOf bin.now (take count lines) ram.old) }
+    ensures { (result ≡ drawing_of (take count lines)) × (ram.new ≡ ram_of bin.now (take count lines) ram.old) }
 {
     let s = survey_of(count, lines);
     pour(bin, lines, s, ram);

@@ -1,6 +1,6 @@
 // Locutus pages by number: the slots in use, in their order.
 ghost use Rattle.std.specs.Prelude.{◌≤◌, ◌≡◌, cond};
-ghost use Rattle.layout.specs.Code.Survey.{numberedOf};
+ghost use Rattle.layout.specs.Code.Survey.{numbered_of};
 
 use places::SLOTS;
 
@@ -26,7 +26,7 @@ pub(crate) fn one_if(used: bool) -> u16
 }
 
 pub(crate) fn number(used: &[bool; SLOTS]) -> Numbered
-    ensures { result ≡ numberedOf used.now }
+    ensures { result ≡ numbered_of used.now }
 {
     let mut page = [0u16; SLOTS];
     let mut slot = [0u16; SLOTS];

@@ -3,13 +3,13 @@ ghost use Rattle.std.specs.Prelude.{◌+◌, ◌*◌, ◌-◌, ◌≤◌, ◌<�
 ghost use Rattle.std.proofs.Math.Option.{none, some};
 ghost use Rattle.basics.specs.Lists.{laid};
 ghost use Rattle.places.specs.Places.{console};
-ghost use Rattle.places.specs.Limits.{lineLimit, cells, slots, paragraphSize};
+ghost use Rattle.places.specs.Limits.{line_limit, cells, slots, paragraph_size};
 ghost use Rattle.lines.specs.Lines.{first};
-ghost use Rattle.lines.specs.Bin.{binWord, binPlace};
+ghost use Rattle.lines.specs.Bin.{bin_word, bin_place};
 ghost use Rattle.layout.specs.Layout.{written_by, written_of};
-ghost use Rattle.layout.specs.Code.Survey.{noLine, line_of};
+ghost use Rattle.layout.specs.Code.Survey.{no_line, line_of};
 ghost use Rattle.layout.specs.Code.Entries.{Slots};
-ghost use Rattle.layout.specs.Code.Pour.{writtenIn, Begins, pouredBy};
+ghost use Rattle.layout.specs.Code.Pour.{written_in, Begins, poured_by};
 
 use crate::cells::place_of;
 use crate::held::{address_at, held_at};
@@ -24,15 +24,15 @@ use places::{
 // may name one past all words of a BIN.
 fn word_of(lo: BinWord, at: Console, a: Console) -> usize
     requires { at.0 ≤ a.0 }
-    ensures { (result ≡ (binPlace lo at a).0) × (result < 4294967296 + 65536) }
+    ensures { (result ≡ (bin_place lo at a).0) × (result < 4294967296 + 65536) }
 {
     lo.0 as usize + (a.0 - at.0) as usize
 }
 
 // A paragraph's words from Locutus word `to` on: of the BIN, those that such a line has from address `a` on.
 fn copy(bin: &[u8], lo: BinWord, at: Console, a: Console, ram: &mut [u16], to: Locutus)
-    requires { (at.0 ≤ a.0) × (2 * ((binPlace lo at a).0 + paragraphSize) ≤ length bin.now) × (to.0 + paragraphSize ≤ length ram.old) }
-    ensures { ram.new ≡ laid to.0 paragraphSize (λ i. binWord bin.now (binPlace lo at (console (a.0 + i)))) ram.old }
+    requires { (at.0 ≤ a.0) × (2 * ((bin_place lo at a).0 + paragraph_size) ≤ length bin.now) × (to.0 + paragraph_size ≤ length ram.old) }
+    ensures { ram.new ≡ laid to.0 paragraph_size (λ i. bin_word bin.now (bin_place lo at (console (a.0 + i)))) ram.old }
 {
     let w = word_of(lo, at, a);
     let t = to.0 as usize;
@@ -48,8 +48,8 @@ fn copy(bin: &[u8], lo: BinWord, at: Console, a: Console, ram: &mut [u16], to: L
 
 // The same where they may run past the BIN's end: only of lines that the rules refuse.
 fn copy_past(bin: &[u8], lo: BinWord, at: Console, a: Console, ram: &mut [u16], to: Locutus)
-    requires { (at.0 ≤ a.0) × (to.0 + paragraphSize ≤ length ram.old) }
-    ensures { ram.new ≡ laid to.0 paragraphSize (λ i. binWord bin.now (binPlace lo at (console (a.0 + i)))) ram.old }
+    requires { (at.0 ≤ a.0) × (to.0 + paragraph_size ≤ length ram.old) }
+    ensures { ram.new ≡ laid to.0 paragraph_size (λ i. bin_word bin.now (bin_place lo at (console (a.0 + i)))) ram.old }
 {
     let w = word_of(lo, at, a);
     let t = to.0 as usize;
@@ -64,8 +64,8 @@ fn copy_past(bin: &[u8], lo: BinWord, at: Console, a: Console, ram: &mut [u16], 
 }
 
 fn clear(ram: &mut [u16], to: Locutus)
-    requires { to.0 + paragraphSize ≤ length ram.old }
-    ensures { ram.new ≡ laid to.0 paragraphSize (λ i. 0) ram.old }
+    requires { to.0 + paragraph_size ≤ length ram.old }
+    ensures { ram.new ≡ laid to.0 paragraph_size (λ i. 0) ram.old }
 {
     let t = to.0 as usize;
     let mut i = 0;
@@ -76,8 +76,8 @@ fn clear(ram: &mut [u16], to: Locutus)
 }
 
 fn copy_from(bin: &[u8], lo: BinWord, at: Console, a: Console, ram: &mut [u16], to: Locutus)
-    requires { (at.0 ≤ a.0) × (to.0 + paragraphSize ≤ length ram.old) }
-    ensures { ram.new ≡ laid to.0 paragraphSize (λ i. binWord bin.now (binPlace lo at (console (a.0 + i)))) ram.old }
+    requires { (at.0 ≤ a.0) × (to.0 + paragraph_size ≤ length ram.old) }
+    ensures { ram.new ≡ laid to.0 paragraph_size (λ i. bin_word bin.now (bin_place lo at (console (a.0 + i)))) ram.old }
 {
     if word_of(lo, at, a) + PARAGRAPH_SIZE <= bin.len() / 2 {
         copy(bin, lo, at, a, ram, to);
@@ -87,8 +87,8 @@ fn copy_from(bin: &[u8], lo: BinWord, at: Console, a: Console, ram: &mut [u16], 
 }
 
 fn write_line(bin: &[u8], e: Entry, a: Console, ram: &mut [u16], to: Locutus)
-    requires { (first e ≤ a.0) × (to.0 + paragraphSize ≤ length ram.old) }
-    ensures { ram.new ≡ laid to.0 paragraphSize (λ i. written_by bin.now e (console (a.0 + i))) ram.old }
+    requires { (first e ≤ a.0) × (to.0 + paragraph_size ≤ length ram.old) }
+    ensures { ram.new ≡ laid to.0 paragraph_size (λ i. written_by bin.now e (console (a.0 + i))) ram.old }
 {
     match e {
         Entry::Rom(lo, _, at) => copy_from(bin, lo, at, a, ram, to),
@@ -99,8 +99,8 @@ fn write_line(bin: &[u8], e: Entry, a: Console, ram: &mut [u16], to: Locutus)
 
 // The words of a line that may be none: then zeros.
 fn write_if(bin: &[u8], number: u8, l: Line, a: Console, ram: &mut [u16], to: Locutus)
-    requires { ((number ≡ 0 → ⊥) → first l.entry ≤ a.0) × (to.0 + paragraphSize ≤ length ram.old) }
-    ensures { ram.new ≡ laid to.0 paragraphSize (λ i. written_of bin.now (cond (eqb number 0) none (some l)) (console (a.0 + i))) ram.old }
+    requires { ((number ≡ 0 → ⊥) → first l.entry ≤ a.0) × (to.0 + paragraph_size ≤ length ram.old) }
+    ensures { ram.new ≡ laid to.0 paragraph_size (λ i. written_of bin.now (cond (eqb number 0) none (some l)) (console (a.0 + i))) ram.old }
 {
     let e = l.entry;
     if number == 0 {
@@ -119,9 +119,9 @@ fn write_number(
     ram: &mut [u16],
     to: Locutus,
 )
-    requires number_le_line_limit { (number ≤ lineLimit) × ((number ≡ 0 → ⊥) → first (get_or lines (number - 1) noLine).entry ≤ a.0) }
-    requires paragraph_size_in_bounds { to.0 + paragraphSize ≤ length ram.old }
-    ensures { ram.new ≡ laid to.0 paragraphSize (λ i. written_of bin.now (line_of lines number) (console (a.0 + i))) ram.old }
+    requires number_le_line_limit { (number ≤ line_limit) × ((number ≡ 0 → ⊥) → first (get_or lines (number - 1) no_line).entry ≤ a.0) }
+    requires paragraph_size_in_bounds { to.0 + paragraph_size ≤ length ram.old }
+    ensures { ram.new ≡ laid to.0 paragraph_size (λ i. written_of bin.now (line_of lines number) (console (a.0 + i))) ram.old }
 {
     let i = place_of(number);
     let l = lines[i];
@@ -138,9 +138,9 @@ fn write_paragraph(
     p: usize,
     ram: &mut [u16],
 )
-    requires p_lt_cells { (p < cells) × (paragraphSize * p + paragraphSize ≤ length ram.old) }
+    requires p_lt_cells { (p < cells) × (paragraph_size * p + paragraph_size ≤ length ram.old) }
     requires slots { Slots slot.now × Begins lines numbers.now slot.now pages }
-    ensures { ram.new ≡ laid (paragraphSize * p) paragraphSize (λ i. writtenIn bin.now lines numbers.now slot.now pages (paragraphSize * p + i)) ram.old }
+    ensures { ram.new ≡ laid (paragraph_size * p) paragraph_size (λ i. written_in bin.now lines numbers.now slot.now pages (paragraph_size * p + i)) ram.old }
 {
     let a = address_at(slot, p);
     let number = held_at(numbers, slot, pages, p);
@@ -164,9 +164,9 @@ fn write_paragraphs(
     n: usize,
     ram: &mut [u16],
 )
-    requires n_le_cells { (n ≤ cells) × (paragraphSize * n ≤ length ram.old) }
+    requires n_le_cells { (n ≤ cells) × (paragraph_size * n ≤ length ram.old) }
     requires slots { Slots slot.now × Begins lines numbers.now slot.now pages }
-    ensures { ram.new ≡ laid 0 (paragraphSize * n) (writtenIn bin.now lines numbers.now slot.now pages) ram.old }
+    ensures { ram.new ≡ laid 0 (paragraph_size * n) (written_in bin.now lines numbers.now slot.now pages) ram.old }
 {
     let mut p = 0;
     while p < n {
@@ -178,7 +178,7 @@ fn write_paragraphs(
 // The words of all pages, as many whole paragraphs as the RAM has room for.
 pub(crate) fn pour(bin: &[u8], lines: [Line; LINE_LIMIT], s: Survey, ram: &mut [u16])
     requires { (s.pages ≤ slots) × Slots s.slot × Begins lines s.cells s.slot s.pages }
-    ensures { ram.new ≡ pouredBy bin.now lines s ram.old }
+    ensures { ram.new ≡ poured_by bin.now lines s ram.old }
 {
     let numbers = s.cells;
     let slot = s.slot;

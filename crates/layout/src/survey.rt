@@ -5,7 +5,7 @@ ghost use Rattle.std.proofs.Math.Option.{none, some};
 ghost use Rattle.basics.specs.Tables.{table};
 ghost use Rattle.places.specs.Limits.{chapters, layers, slots, paragraphs};
 ghost use Rattle.lines.specs.Kinds.{kind_of};
-ghost use Rattle.layout.specs.Code.Survey.{Few, usedIn, pagedIn, kindIn, underIn, Surveyed};
+ghost use Rattle.layout.specs.Code.Survey.{Few, used_in, paged_in, kind_in, under_in, Surveyed};
 
 use crate::cells::{cells_of, place_of};
 use crate::pages::number;
@@ -30,7 +30,7 @@ pub(crate) struct Survey {
 // Whether layer t of chapter x is in use.
 fn is_used(numbers: &[u8; CELLS], x: usize, t: usize) -> bool
     requires { (x < chapters) × (t < layers) }
-    ensures { result ≡ usedIn numbers.now x t }
+    ensures { result ≡ used_in numbers.now x t }
 {
     let mut r = false;
     let mut k = 0;
@@ -45,7 +45,7 @@ fn is_used(numbers: &[u8; CELLS], x: usize, t: usize) -> bool
 }
 
 fn used_of(numbers: &[u8; CELLS]) -> [bool; SLOTS]
-    ensures { result ≡ table slots (λ s. usedIn numbers.now (s / layers) (s % layers)) }
+    ensures { result ≡ table slots (λ s. used_in numbers.now (s / layers) (s % layers)) }
 {
     let mut used = [false; SLOTS];
     let mut s = 0;
@@ -59,7 +59,7 @@ fn used_of(numbers: &[u8; CELLS]) -> [bool; SLOTS]
 // Whether chapter x has PAGE lines.
 fn is_paged(used: &[bool; SLOTS], x: usize) -> bool
     requires { x < chapters }
-    ensures { result ≡ pagedIn used.now x }
+    ensures { result ≡ paged_in used.now x }
 {
     let mut r = false;
     let mut y = 0;
@@ -71,7 +71,7 @@ fn is_paged(used: &[bool; SLOTS], x: usize) -> bool
 }
 
 fn paged_of(used: &[bool; SLOTS]) -> [bool; CHAPTERS]
-    ensures { result ≡ table chapters (pagedIn used.now) }
+    ensures { result ≡ table chapters (paged_in used.now) }
 {
     let mut paged = [false; CHAPTERS];
     let mut x = 0;
@@ -95,7 +95,7 @@ fn kind_if(number: u8, l: Line) -> u8
 
 fn kinds_of(numbers: &[u8; CELLS], lines: [Line; LINE_LIMIT]) -> [u8; PARAGRAPHS]
     requires { Few numbers.now }
-    ensures { result ≡ table paragraphs (kindIn lines numbers.now) }
+    ensures { result ≡ table paragraphs (kind_in lines numbers.now) }
 {
     let mut kinds = [0u8; PARAGRAPHS];
     let mut p = 0;
@@ -112,7 +112,7 @@ fn kinds_of(numbers: &[u8; CELLS], lines: [Line; LINE_LIMIT]) -> [u8; PARAGRAPHS
 // Whether plain ROM covers the flippable range of chapter x.
 fn is_under(kinds: &[u8; PARAGRAPHS], x: usize) -> bool
     requires { x < chapters }
-    ensures { result ≡ underIn kinds.now x }
+    ensures { result ≡ under_in kinds.now x }
 {
     let first = switches::first_k(x);
     let mut r = true;
@@ -125,7 +125,7 @@ fn is_under(kinds: &[u8; PARAGRAPHS], x: usize) -> bool
 }
 
 fn under_of(kinds: &[u8; PARAGRAPHS]) -> [bool; CHAPTERS]
-    ensures { result ≡ table chapters (underIn kinds.now) }
+    ensures { result ≡ table chapters (under_in kinds.now) }
 {
     let mut under = [false; CHAPTERS];
     let mut x = 0;

@@ -8,55 +8,55 @@ use native.Mathlib.Numerals.{add-one}
 use lib.Dec.{eqb}
 use lib.ListN.{get_or}
 use Rattle.basics.specs.Counts.{count}
-use Rattle.basics.specs.Laws.Counts.{count-last}
-use Rattle.basics.specs.Laws.Joined.{Somewhere, somewhere-all}
-use Rattle.places.specs.Limits.{chapterPages, chapterParagraphs, chapters, layers, pageParagraphs, paragraphSize}
-use Rattle.switches.specs.Flips.{firstK}
-use Rattle.plan.specs.Image.{base, holdsRam, pageAt, ramCoveredOf, size}
-use Rattle.plan.specs.Plan.{hasPlain}
-use Rattle.plan.specs.Valid.{isRamKind}
-use Rattle.canon.specs.Bin.{pagePlace, plainPlace}
-use Rattle.ledger.specs.Held.{planIn}
+use Rattle.basics.specs.Laws.Counts.{count_last}
+use Rattle.basics.specs.Laws.Joined.{Somewhere, somewhere_all}
+use Rattle.places.specs.Limits.{chapter_pages, chapter_paragraphs, chapters, layers, page_paragraphs, paragraph_size}
+use Rattle.switches.specs.Flips.{first_k}
+use Rattle.plan.specs.Image.{base, holds_ram, page_at, ram_covered_of, size}
+use Rattle.plan.specs.Plan.{has_plain}
+use Rattle.plan.specs.Valid.{is_ram_kind}
+use Rattle.canon.specs.Bin.{page_place, plain_place}
+use Rattle.ledger.specs.Held.{plan_in}
 
 -- plain paragraphs among the first k
 abbrev pub plain : List ℕ → ℕ → ℕ → Bool
-plain ks x i = not (eqb (get_or ks (chapterParagraphs * x + i) 0) 0)
+plain ks x i = not (eqb (get_or ks (chapter_paragraphs * x + i) 0) 0)
 
-pub plains_all : (ks : List ℕ) (ps : List Bool) (x : ℕ) (r : Bool) (k : ℕ) → Somewhere chapterParagraphs (plain ks x) k r → chapterParagraphs ≤ k → r ≡ hasPlain (planIn ks ps x)
-unfolding hasPlain
-plains_all ks ps x r k c h = somewhere-all chapterParagraphs (plain ks x) k r c h
+pub plains_all : (ks : List ℕ) (ps : List Bool) (x : ℕ) (r : Bool) (k : ℕ) → Somewhere chapter_paragraphs (plain ks x) k r → chapter_paragraphs ≤ k → r ≡ has_plain (plan_in ks ps x)
+unfolding has_plain
+plains_all ks ps x r k c h = somewhere_all chapter_paragraphs (plain ks x) k r c h
 
 -- pages among the first i
 pub record Below (ks : List ℕ) (ps : List Bool) (x y n i : ℕ) : Type 0 where
   pub up : i ≤ y
-  pub most : y ≤ chapterPages
+  pub most : y ≤ chapter_pages
   pub few : n ≤ i
-  pub is : n ≡ count (planIn ks ps x).page i
+  pub is : n ≡ count (plan_in ks ps x).page i
 
 module _ (ks : List ℕ) (ps : List Bool) (x y : ℕ) where
-  pub below_none : y ≤ chapterPages → Below ks ps x y 0 0
+  pub below_none : y ≤ chapter_pages → Below ks ps x y 0 0
   unfolding count
   below_none h = record { up = omega arith; most = h; few = omega arith; is = refl }
 
   module _ (n i : ℕ) (c : Below ks ps x y n i) where
-    pub below_more : (v : ℕ) → i < y → v ≡ cond (get_or ps (chapterPages * x + i) false) 1 0 → v ≤ 1 → Below ks ps x y (n + v) (i + 1)
+    pub below_more : (v : ℕ) → i < y → v ≡ cond (get_or ps (chapter_pages * x + i) false) 1 0 → v ≤ 1 → Below ks ps x y (n + v) (i + 1)
     below_more v h e m =
         record {
           up = omega arith;
           most = c.most;
           few = omega (arith, c.few);
-          is = rw add-one (rw (e, c.is) (sym (count-last (planIn ks ps x).page i)));
+          is = rw add-one (rw (e, c.is) (sym (count_last (plan_in ks ps x).page i)));
         }
 
-    pub below_all : y ≤ i → n ≡ count (planIn ks ps x).page y
-    below_all h = let z : i ≡ y = omega (arith, c.up) in c.is ∙ ap (count (planIn ks ps x).page) z
+    pub below_all : y ≤ i → n ≡ count (plan_in ks ps x).page y
+    below_all h = let z : i ≡ y = omega (arith, c.up) in c.is ∙ ap (count (plan_in ks ps x).page) z
 
-    pub below-few : n ≤ y
-    below-few = omega (arith, c.up, c.few)
+    pub below_few : n ≤ y
+    below_few = omega (arith, c.up, c.few)
 
 -- a chapter
-pub size_is : (ks : List ℕ) (ps : List Bool) (x a n : ℕ) (b : Bool) → b ≡ hasPlain (planIn ks ps x) → a ≡ cond b 1 0 → n ≡ count (planIn ks ps x).page chapterPages
-    → a + n ≡ size (planIn ks ps x)
+pub size_is : (ks : List ℕ) (ps : List Bool) (x a n : ℕ) (b : Bool) → b ≡ has_plain (plan_in ks ps x) → a ≡ cond b 1 0 → n ≡ count (plan_in ks ps x).page chapter_pages
+    → a + n ≡ size (plan_in ks ps x)
 unfolding size
 size_is ks ps x a n b eb ea en = rw (ea, eb, en)
 
@@ -65,44 +65,44 @@ pub record Based (ks : List ℕ) (ps : List Bool) (x b i : ℕ) : Type 0 where
   pub up : i ≤ x
   pub most : x ≤ chapters
   pub few : b ≤ layers * i
-  pub is : b ≡ base (planIn ks ps) i
+  pub is : b ≡ base (plan_in ks ps) i
 
 module _ (ks : List ℕ) (ps : List Bool) (x : ℕ) where
-  pub based-none : x ≤ chapters → Based ks ps x 0 0
+  pub based_none : x ≤ chapters → Based ks ps x 0 0
   unfolding base
-  based-none h = record { up = omega arith; most = h; few = omega arith; is = refl }
+  based_none h = record { up = omega arith; most = h; few = omega arith; is = refl }
 
   module _ (b i : ℕ) (c : Based ks ps x b i) where
-    pub based-more : (v : ℕ) → i < x → v ≡ size (planIn ks ps i) → v ≤ layers → Based ks ps x (b + v) (i + 1)
+    pub based_more : (v : ℕ) → i < x → v ≡ size (plan_in ks ps i) → v ≤ layers → Based ks ps x (b + v) (i + 1)
     unfolding base
-    based-more v h e m = record { up = omega arith; most = c.most; few = omega (arith, c.few); is = rw (add-one, e, c.is) }
+    based_more v h e m = record { up = omega arith; most = c.most; few = omega (arith, c.few); is = rw (add-one, e, c.is) }
 
-    pub based-all : x ≤ i → b ≡ base (planIn ks ps) x
-    based-all h = let z : i ≡ x = omega (arith, c.up) in c.is ∙ ap (base (planIn ks ps)) z
+    pub based_all : x ≤ i → b ≡ base (plan_in ks ps) x
+    based_all h = let z : i ≡ x = omega (arith, c.up) in c.is ∙ ap (base (plan_in ks ps)) z
 
-    pub based-few : b ≤ layers * x
-    based-few = omega (arith, c.up, c.few)
+    pub based_few : b ≤ layers * x
+    based_few = omega (arith, c.up, c.few)
 
 -- the places
 module _ (ks : List ℕ) (ps : List Bool) (p : ℕ) where
-  pub plain-place : (b : ℕ) → b ≡ base (planIn ks ps) (p / chapterParagraphs)
-      → paragraphSize * (pageParagraphs * b + p % chapterParagraphs) ≡ plainPlace (planIn ks ps) p
-  plain-place b e = rw e
+  pub plain_place_lem : (b : ℕ) → b ≡ base (plan_in ks ps) (p / chapter_paragraphs)
+      → paragraph_size * (page_paragraphs * b + p % chapter_paragraphs) ≡ plain_place (plan_in ks ps) p
+  plain_place_lem b e = rw e
 
-  pub page-place : (b a n k : ℕ) (h : Bool) → b ≡ base (planIn ks ps) (p / chapterPages) → h ≡ hasPlain (planIn ks ps (p / chapterPages)) → a ≡ cond h 1 0
-      → n ≡ count (planIn ks ps (p / chapterPages)).page (p % chapterPages) → k ≡ firstK (p / chapterPages)
-      → paragraphSize * (pageParagraphs * (b + a + n) + k) ≡ pagePlace (planIn ks ps) p
-  unfolding pageAt
-  page-place b a n k h eb eh ea en ek = rw (ea, eh, en, ek, eb)
+  pub page_place_lem : (b a n k : ℕ) (h : Bool) → b ≡ base (plan_in ks ps) (p / chapter_pages) → h ≡ has_plain (plan_in ks ps (p / chapter_pages)) → a ≡ cond h 1 0
+      → n ≡ count (plan_in ks ps (p / chapter_pages)).page (p % chapter_pages) → k ≡ first_k (p / chapter_pages)
+      → paragraph_size * (page_paragraphs * (b + a + n) + k) ≡ page_place (plan_in ks ps) p
+  unfolding page_at
+  page_place_lem b a n k h eb eh ea en ek = rw (ea, eh, en, ek, eb)
 
 -- RAM of a chapter, and of one of the first k
 module _ (ks : List ℕ) (ps : List Bool) (p : ℕ) where
-  abbrev pub ramIn : ℕ → Bool
-  ramIn x = holdsRam (planIn ks ps x) (base (planIn ks ps) x) p
+  abbrev pub ram_in : ℕ → Bool
+  ram_in x = holds_ram (plan_in ks ps x) (base (plan_in ks ps) x) p
 
-  pub ram-in : (x b : ℕ) (k r : Bool) → b ≡ base (planIn ks ps) x → k ≡ isRamKind (get_or ks (16 * x + p % 16) 0) → r ≡ (eqb (p / 16) b && k) → r ≡ ramIn x
-  unfolding holdsRam
-  ram-in x b k r eb ek er = er ∙ rw (eb, ek)
+  pub ram_in_lem : (x b : ℕ) (k r : Bool) → b ≡ base (plan_in ks ps) x → k ≡ is_ram_kind (get_or ks (16 * x + p % 16) 0) → r ≡ (eqb (p / 16) b && k) → r ≡ ram_in x
+  unfolding holds_ram
+  ram_in_lem x b k r eb ek er = er ∙ rw (eb, ek)
 
-  pub rams-all : (r : Bool) (x : ℕ) → Somewhere chapters ramIn x r → chapters ≤ x → r ≡ ramCoveredOf (planIn ks ps) p
-  rams-all r x c h = somewhere-all chapters ramIn x r c h
+  pub rams_all : (r : Bool) (x : ℕ) → Somewhere chapters ram_in x r → chapters ≤ x → r ≡ ram_covered_of (plan_in ks ps) p
+  rams_all r x c h = somewhere_all chapters ram_in x r c h

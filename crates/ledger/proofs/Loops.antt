@@ -9,44 +9,44 @@ use lib.Dec.{eqb}
 use lib.ListN.{get_or}
 use borrow.Author.Tests.{eq-eqb, ne_eqb}
 use Rattle.basics.specs.Counts.{count}
-use Rattle.basics.specs.Laws.Counts.{count-last}
-use Rattle.places.specs.Limits.{chapterPages, chapterParagraphs, chapterSize, flipEntries, paragraphs, paragraphSize}
-use Rattle.places.specs.Places.{binWord, console, page}
-use Rattle.switches.specs.Flips.{firstK}
+use Rattle.basics.specs.Laws.Counts.{count_last}
+use Rattle.places.specs.Limits.{chapter_pages, chapter_paragraphs, chapter_size, flip_entries, paragraphs, paragraph_size}
+use Rattle.places.specs.Places.{bin_word, console, page}
+use Rattle.switches.specs.Flips.{first_k}
 use Rattle.lines.specs.declared.Entry.TheVariants.{Paged, Ram, Rom}
 use Rattle.lines.specs.declared.Width.{Width}
 use Rattle.plan.specs.Fewest.{starts}
-use Rattle.plan.specs.Plan.{Plan, hasPage, kinds}
-use Rattle.canon.specs.Canonical.{is_rom, pageEntry, pageOffset, pageWords, ramEntry, ramWidth, reach, romEntry, romOffset, run_at, startsRam, startsRom}
-use Rattle.ledger.specs.Held.{planIn}
-use Rattle.ledger.specs.Laws.Held.{kind-in, page-in}
+use Rattle.plan.specs.Plan.{Plan, has_page, kinds}
+use Rattle.canon.specs.Canonical.{is_rom, page_entry, page_offset, page_words, ram_entry, ram_width, reach, rom_entry, rom_offset, run_at, starts_ram, starts_rom}
+use Rattle.ledger.specs.Held.{plan_in}
+use Rattle.ledger.specs.Laws.Held.{kind_in_lem, page_in_lem}
 
 module _ (ks : List ℕ) (ps : List Bool) (p : ℕ) where
   abbrev q : Plan
-  q = planIn ks ps
+  q = plan_in ks ps
 
   pub starts_none : get_or ks p 0 ≡ 0 → false ≡ starts (kinds q) p
   unfolding starts
-  starts_none e = rw (kind-in ks ps p, e)
+  starts_none e = rw (kind_in_lem ks ps p, e)
 
   module _ (h : get_or ks p 0 ≡ 0 → ⊥) where
     pub starts_first : p ≡ 0 → true ≡ starts (kinds q) p
     unfolding starts
-    starts_first e = rw (kind-in ks ps p, ne_eqb (get_or ks p 0) 0 h, eq-eqb p 0 e)
+    starts_first e = rw (kind_in_lem ks ps p, ne_eqb (get_or ks p 0) 0 h, eq-eqb p 0 e)
 
-    pub starts-same : (p ≡ 0 → ⊥) → get_or ks (p - 1) 0 ≡ get_or ks p 0 → false ≡ starts (kinds q) p
+    pub starts_same : (p ≡ 0 → ⊥) → get_or ks (p - 1) 0 ≡ get_or ks p 0 → false ≡ starts (kinds q) p
     unfolding starts
-    starts-same n e = rw (kind-in ks ps p, kind-in ks ps (p - 1), ne_eqb (get_or ks p 0) 0 h, ne_eqb p 0 n, eq-eqb (get_or ks (p - 1) 0) (get_or ks p 0) e)
+    starts_same n e = rw (kind_in_lem ks ps p, kind_in_lem ks ps (p - 1), ne_eqb (get_or ks p 0) 0 h, ne_eqb p 0 n, eq-eqb (get_or ks (p - 1) 0) (get_or ks p 0) e)
 
     pub starts_other : (p ≡ 0 → ⊥) → (get_or ks (p - 1) 0 ≡ get_or ks p 0 → ⊥) → true ≡ starts (kinds q) p
     unfolding starts
-    starts_other n e = rw (kind-in ks ps p, kind-in ks ps (p - 1), ne_eqb (get_or ks p 0) 0 h, ne_eqb p 0 n, ne_eqb (get_or ks (p - 1) 0) (get_or ks p 0) e)
+    starts_other n e = rw (kind_in_lem ks ps p, kind_in_lem ks ps (p - 1), ne_eqb (get_or ks p 0) 0 h, ne_eqb p 0 n, ne_eqb (get_or ks (p - 1) 0) (get_or ks p 0) e)
 
-  pub rom-starts : (a r : Bool) → a ≡ starts (kinds q) p → r ≡ (a && eqb (get_or ks p 0) 1) → r ≡ startsRom q p
-  rom-starts a r ea er = er ∙ rw (ea, kind-in ks ps p)
+  pub rom_starts : (a r : Bool) → a ≡ starts (kinds q) p → r ≡ (a && eqb (get_or ks p 0) 1) → r ≡ starts_rom q p
+  rom_starts a r ea er = er ∙ rw (ea, kind_in_lem ks ps p)
 
-  pub ram-starts : (a b r : Bool) → a ≡ starts (kinds q) p → b ≡ (eqb (get_or ks p 0) 3 || eqb (get_or ks p 0) 7) → r ≡ (a && b) → r ≡ startsRam q p
-  ram-starts a b r ea eb er = er ∙ rw (ea, eb, kind-in ks ps p)
+  pub ram_starts : (a b r : Bool) → a ≡ starts (kinds q) p → b ≡ (eqb (get_or ks p 0) 3 || eqb (get_or ks p 0) 7) → r ≡ (a && b) → r ≡ starts_ram q p
+  ram_starts a b r ea eb er = er ∙ rw (ea, eb, kind_in_lem ks ps p)
 
   -- how far a run reaches
   pub record Running (r n : ℕ) : Type 0 where
@@ -64,106 +64,106 @@ module _ (ks : List ℕ) (ps : List Bool) (p : ℕ) where
       record {
         up = omega arith;
         few = m;
-        is = e ∙ rw (add-one, ← c.is, kind-in ks ps (p + n), kind-in ks ps p);
+        is = e ∙ rw (add-one, ← c.is, kind_in_lem ks ps (p + n), kind_in_lem ks ps p);
       }
 
-  pub running-all : (r n : ℕ) → p < paragraphs → Running r n → paragraphs - p ≤ n → r ≡ run_at q p
-  running-all r n l c h = let z : n ≡ paragraphs - p = omega (arith, c.up) in c.is ∙ ap (λ (m : ℕ). reach (kinds q) p m) z
+  pub running_all : (r n : ℕ) → p < paragraphs → Running r n → paragraphs - p ≤ n → r ≡ run_at q p
+  running_all r n l c h = let z : n ≡ paragraphs - p = omega (arith, c.up) in c.is ∙ ap (λ (m : ℕ). reach (kinds q) p m) z
 
-  pub running-within : (r n : ℕ) → Running r n → p + r ≤ paragraphs
-  running-within r n c = omega (arith, c.up, c.few)
+  pub running_within : (r n : ℕ) → Running r n → p + r ≤ paragraphs
+  running_within r n c = omega (arith, c.up, c.few)
 
 -- how many paragraphs of ROM
 pub record Roms (ks : List ℕ) (ps : List Bool) (p n i : ℕ) : Type 0 where
   pub up : i ≤ p
   pub below : p ≤ paragraphs
   pub few : n ≤ i
-  pub is : n ≡ count (is_rom (planIn ks ps)) i
+  pub is : n ≡ count (is_rom (plan_in ks ps)) i
 
 module _ (ks : List ℕ) (ps : List Bool) (p : ℕ) where
-  pub roms-none : p ≤ paragraphs → Roms ks ps p 0 0
+  pub roms_none : p ≤ paragraphs → Roms ks ps p 0 0
   unfolding count
-  roms-none h = record { up = omega arith; below = h; few = omega arith; is = refl }
+  roms_none h = record { up = omega arith; below = h; few = omega arith; is = refl }
 
   module _ (n i : ℕ) (c : Roms ks ps p n i) where
-    pub roms-more : (v : ℕ) → i < p → v ≡ cond (eqb (get_or ks i 0) 1) 1 0 → v ≤ 1 → Roms ks ps p (n + v) (i + 1)
-    roms-more v h e m =
+    pub roms_more : (v : ℕ) → i < p → v ≡ cond (eqb (get_or ks i 0) 1) 1 0 → v ≤ 1 → Roms ks ps p (n + v) (i + 1)
+    roms_more v h e m =
         record {
           up = omega arith;
           below = c.below;
           few = omega (arith, c.few);
-          is = rw add-one (rw (e, c.is) (sym (count-last (is_rom (planIn ks ps)) i ∙ rw (kind-in ks ps i))));
+          is = rw add-one (rw (e, c.is) (sym (count_last (is_rom (plan_in ks ps)) i ∙ rw (kind_in_lem ks ps i))));
         }
 
-    pub roms-all : p ≤ i → paragraphSize * n ≡ romOffset (planIn ks ps) p
-    roms-all h = let z : i ≡ p = omega (arith, c.up) in ap (λ (m : ℕ). paragraphSize * m) (c.is ∙ ap (count (is_rom (planIn ks ps))) z)
+    pub roms_all : p ≤ i → paragraph_size * n ≡ rom_offset (plan_in ks ps) p
+    roms_all h = let z : i ≡ p = omega (arith, c.up) in ap (λ (m : ℕ). paragraph_size * m) (c.is ∙ ap (count (is_rom (plan_in ks ps))) z)
 
-    pub roms-few : paragraphSize * n ≤ paragraphSize * p
-    roms-few = omega (arith, c.up, c.few)
+    pub roms_few : paragraph_size * n ≤ paragraph_size * p
+    roms_few = omega (arith, c.up, c.few)
 
 -- one page more
-page-on : (q : Plan) (i : ℕ) → hasPage q i ≡ true → pageOffset q (suc i) ≡ pageOffset q i + pageWords (i / 16)
-unfolding pageOffset
-page-on q i g = rw g
+page_on : (q : Plan) (i : ℕ) → has_page q i ≡ true → page_offset q (suc i) ≡ page_offset q i + page_words (i / 16)
+unfolding page_offset
+page_on q i g = rw g
 
-page-off : (q : Plan) (i : ℕ) → hasPage q i ≡ false → pageOffset q (suc i) ≡ pageOffset q i
-unfolding pageOffset
-page-off q i g = rw g
+page_off : (q : Plan) (i : ℕ) → has_page q i ≡ false → page_offset q (suc i) ≡ page_offset q i
+unfolding page_offset
+page_off q i g = rw g
 
-page-next : (q : Plan) (i : ℕ) (b : Bool) → hasPage q i ≡ b → pageOffset q i + cond b (pageWords (i / 16)) 0 ≡ pageOffset q (suc i)
-page-next q i true g = sym (page-on q i g)
-page-next q i false g = let z : pageOffset q i + 0 ≡ pageOffset q i = omega arith in z ∙ sym (page-off q i g)
+page_next : (q : Plan) (i : ℕ) (b : Bool) → has_page q i ≡ b → page_offset q i + cond b (page_words (i / 16)) 0 ≡ page_offset q (suc i)
+page_next q i true g = sym (page_on q i g)
+page_next q i false g = let z : page_offset q i + 0 ≡ page_offset q i = omega arith in z ∙ sym (page_off q i g)
 
 -- the offset behind the words of the pages below i
 pub record Offsets (ks : List ℕ) (ps : List Bool) (n o i : ℕ) : Type 0 where
   pub up : i ≤ n
-  pub below : n ≤ flipEntries
-  pub few : o ≤ paragraphSize * paragraphs + chapterSize * i
-  pub is : o ≡ pageOffset (planIn ks ps) i
+  pub below : n ≤ flip_entries
+  pub few : o ≤ paragraph_size * paragraphs + chapter_size * i
+  pub is : o ≡ page_offset (plan_in ks ps) i
 
 module _ (ks : List ℕ) (ps : List Bool) (n : ℕ) where
-  pub offsets-none : (o : ℕ) → n ≤ flipEntries → o ≡ romOffset (planIn ks ps) paragraphs → o ≤ paragraphSize * paragraphs → Offsets ks ps n o 0
-  unfolding pageOffset
-  offsets-none o h e m = record { up = omega arith; below = h; few = omega arith; is = e }
+  pub offsets_none : (o : ℕ) → n ≤ flip_entries → o ≡ rom_offset (plan_in ks ps) paragraphs → o ≤ paragraph_size * paragraphs → Offsets ks ps n o 0
+  unfolding page_offset
+  offsets_none o h e m = record { up = omega arith; below = h; few = omega arith; is = e }
 
   module _ (o i : ℕ) (c : Offsets ks ps n o i) where
-    pub offsets-more : (v : ℕ) → i < n → v ≡ cond (get_or ps i false) (pageWords (i / 16)) 0 → v ≤ chapterSize → Offsets ks ps n (o + v) (i + 1)
-    offsets-more v h e m =
-        record { up = omega arith; below = c.below; few = omega (arith, c.few); is = rw (add-one, e, c.is) (page-next (planIn ks ps) i (get_or ps i false) (page-in ks ps i)) }
+    pub offsets_more : (v : ℕ) → i < n → v ≡ cond (get_or ps i false) (page_words (i / 16)) 0 → v ≤ chapter_size → Offsets ks ps n (o + v) (i + 1)
+    offsets_more v h e m =
+        record { up = omega arith; below = c.below; few = omega (arith, c.few); is = rw (add-one, e, c.is) (page_next (plan_in ks ps) i (get_or ps i false) (page_in_lem ks ps i)) }
 
-    pub offsets-all : n ≤ i → o ≡ pageOffset (planIn ks ps) n
-    offsets-all h = let z : i ≡ n = omega (arith, c.up) in c.is ∙ ap (pageOffset (planIn ks ps)) z
+    pub offsets_all : n ≤ i → o ≡ page_offset (plan_in ks ps) n
+    offsets_all h = let z : i ≡ n = omega (arith, c.up) in c.is ∙ ap (page_offset (plan_in ks ps)) z
 
-    pub offsets-few : o ≤ paragraphSize * paragraphs + chapterSize * n
-    offsets-few = omega (arith, c.up, c.few)
+    pub offsets_few : o ≤ paragraph_size * paragraphs + chapter_size * n
+    offsets_few = omega (arith, c.up, c.few)
 
 -- by a flag
-pub cond-on : (b t : Bool) (x y : ℕ) → b ≡ t → b ≡ true → x ≡ cond t x y
-cond-on b t x y e h = rw (← e, h)
+pub cond_on : (b t : Bool) (x y : ℕ) → b ≡ t → b ≡ true → x ≡ cond t x y
+cond_on b t x y e h = rw (← e, h)
 
-pub cond-off : (b t : Bool) (x y : ℕ) → b ≡ t → b ≡ false → y ≡ cond t x y
-cond-off b t x y e h = rw (← e, h)
+pub cond_off : (b t : Bool) (x y : ℕ) → b ≡ t → b ≡ false → y ≡ cond t x y
+cond_off b t x y e h = rw (← e, h)
 
-pub if-on : (on : Bool) (v x : ℕ) → on ≡ true → v ≡ x → v ≡ cond on x 0
-if-on on v x h e = rw h e
+pub if_on : (on : Bool) (v x : ℕ) → on ≡ true → v ≡ x → v ≡ cond on x 0
+if_on on v x h e = rw h e
 
-pub if-off : (on : Bool) (x : ℕ) → on ≡ false → 0 ≡ cond on x 0
-if-off on x h = rw h
+pub if_off : (on : Bool) (x : ℕ) → on ≡ false → 0 ≡ cond on x 0
+if_off on x h = rw h
 
 -- the words of a page
-pub page-size : (x k : ℕ) → k ≡ firstK x → paragraphSize * (chapterParagraphs - k) ≡ pageWords x
-page-size x k e = rw e
+pub page_size_lem : (x k : ℕ) → k ≡ first_k x → paragraph_size * (chapter_paragraphs - k) ≡ page_words x
+page_size_lem x k e = rw e
 
 -- the entries
 module _ (ks : List ℕ) (ps : List Bool) (p : ℕ) where
-  pub rom_is : (at r m : ℕ) → at ≡ romOffset (planIn ks ps) p → r ≡ run_at (planIn ks ps) p → m ≡ paragraphSize * r - 1
-      → Rom (binWord at) (binWord (at + m)) (console (paragraphSize * p)) ≡ romEntry (planIn ks ps) p
+  pub rom_is : (at r m : ℕ) → at ≡ rom_offset (plan_in ks ps) p → r ≡ run_at (plan_in ks ps) p → m ≡ paragraph_size * r - 1
+      → Rom (bin_word at) (bin_word (at + m)) (console (paragraph_size * p)) ≡ rom_entry (plan_in ks ps) p
   rom_is at r m ea er em = rw (em, er, ea)
 
-  pub page-is : (at w k : ℕ) → at ≡ pageOffset (planIn ks ps) p → w ≡ pageWords (p / chapterPages) → k ≡ firstK (p / chapterPages)
-      → Paged (binWord at) (binWord (at + (w - 1))) (console (chapterSize * (p / chapterPages) + paragraphSize * k)) (page (p % chapterPages)) ≡ pageEntry (planIn ks ps) p
-  page-is at w k ea ew ek = rw (ew, ek, ea)
+  pub page_is : (at w k : ℕ) → at ≡ page_offset (plan_in ks ps) p → w ≡ page_words (p / chapter_pages) → k ≡ first_k (p / chapter_pages)
+      → Paged (bin_word at) (bin_word (at + (w - 1))) (console (chapter_size * (p / chapter_pages) + paragraph_size * k)) (page (p % chapter_pages)) ≡ page_entry (plan_in ks ps) p
+  page_is at w k ea ew ek = rw (ew, ek, ea)
 
-  pub ram-is : (r m : ℕ) (w : Width) → r ≡ run_at (planIn ks ps) p → m ≡ paragraphSize * r - 1 → w ≡ ramWidth (get_or ks p 0)
-      → Ram (console (paragraphSize * p)) (console (paragraphSize * p + m)) w ≡ ramEntry (planIn ks ps) p
-  ram-is r m w er em ew = rw (em, er, ew) (ap (λ (n : ℕ). Ram (console (paragraphSize * p)) (console (paragraphSize * p + (paragraphSize * run_at (planIn ks ps) p - 1))) (ramWidth n)) (sym (kind-in ks ps p)))
+  pub ram_is : (r m : ℕ) (w : Width) → r ≡ run_at (plan_in ks ps) p → m ≡ paragraph_size * r - 1 → w ≡ ram_width (get_or ks p 0)
+      → Ram (console (paragraph_size * p)) (console (paragraph_size * p + m)) w ≡ ram_entry (plan_in ks ps) p
+  ram_is r m w er em ew = rw (em, er, ew) (ap (λ (n : ℕ). Ram (console (paragraph_size * p)) (console (paragraph_size * p + (paragraph_size * run_at (plan_in ks ps) p - 1))) (ram_width n)) (sym (kind_in_lem ks ps p)))

@@ -7,17 +7,17 @@ use Rattle.ledger.proofs.bin.put_bin.Reads as put-bin
 use Rattle.ledger.proofs.bin.word_of.Reads as word_of
 use Rattle.ledger.proofs.homes.holds_ram.Reads as holds-ram
 
-pub one-lines-of : OneAnswer lines_of.Learnt
-one-lines-of κs a y z e f = same
+pub one_lines_of : OneAnswer lines_of.Learnt
+one_lines_of κs a y z e f = same
 
-pub one-bin-size : OneAnswer bin-size.Learnt
-one-bin-size κs a y z e f = same
+pub one_bin_size : OneAnswer bin-size.Learnt
+one_bin_size κs a y z e f = same
 
-pub one-word-of : OneAnswer word_of.Learnt
-one-word-of κs a y z e f = same
+pub one_word_of : OneAnswer word_of.Learnt
+one_word_of κs a y z e f = same
 
-pub one-holds-ram : OneAnswer holds-ram.Learnt
-one-holds-ram κs a y z e f = same
+pub one_holds_ram : OneAnswer holds-ram.Learnt
+one_holds_ram κs a y z e f = same
 
-pub one-put-bin : OneLent put-bin.Learnt (λ κs e. e.0.now)
-one-put-bin κs a y z e f = same
+pub one_put_bin : OneLent put-bin.Learnt (λ κs e. e.0.now)
+one_put_bin κs a y z e f = same

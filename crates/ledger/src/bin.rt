@@ -1,10 +1,10 @@
 // The words of a plan as a BIN has them: big endian, from a RAM.
 ghost use Rattle.std.specs.Prelude.{◌*◌, ◌≤◌, max, ◌≡◌, ◌++◌, [], ◌∷◌, not, eqb, get_or, length};
-ghost use Rattle.basics.specs.Lists.{joined, putFront};
-ghost use Rattle.places.specs.Limits.{chapterSize, pageSize, slots};
-ghost use Rattle.canon.specs.Bin.{be16, canonicalBin, pagedWords, romWords, wordsFrom};
-ghost use Rattle.canon.specs.Laws.Bin.{binSize};
-ghost use Rattle.ledger.specs.Held.{planIn, words_in};
+ghost use Rattle.basics.specs.Lists.{joined, put_front};
+ghost use Rattle.places.specs.Limits.{chapter_size, page_size, slots};
+ghost use Rattle.canon.specs.Bin.{be16, canonical_bin, paged_words, rom_words, words_from};
+ghost use Rattle.canon.specs.Laws.Bin.{bin_size};
+ghost use Rattle.ledger.specs.Held.{plan_in, words_in};
 
 use crate::entries::{page_offset, page_words};
 use crate::homes::{page_place, plain_place};
@@ -34,8 +34,8 @@ fn put_each(out: &mut [u8], words: &[u16])
 
 // n words from word a on, of which some may lie past the RAM's end, into a part of just their size.
 fn put_past(out: &mut [u8], ram: &[u16], a: usize, n: usize)
-    requires { (length out.old ≡ 2 * n) × (a ≤ pageSize * slots) × (n ≤ chapterSize) }
-    ensures { out.new ≡ joined be16 (wordsFrom (words_in ram.now) a n) }
+    requires { (length out.old ≡ 2 * n) × (a ≤ page_size * slots) × (n ≤ chapter_size) }
+    ensures { out.new ≡ joined be16 (words_from (words_in ram.now) a n) }
 {
     let mut i = 0;
     while i < n {
@@ -48,8 +48,8 @@ fn put_past(out: &mut [u8], ram: &[u16], a: usize, n: usize)
 
 // n words from word a on, into a part of just their size: as a rule the RAM has them all, and none is asked for by itself.
 fn put_words(out: &mut [u8], ram: &[u16], a: usize, n: usize)
-    requires { (length out.old ≡ 2 * n) × (a ≤ pageSize * slots) × (n ≤ chapterSize) }
-    ensures { out.new ≡ joined be16 (wordsFrom (words_in ram.now) a n) }
+    requires { (length out.old ≡ 2 * n) × (a ≤ page_size * slots) × (n ≤ chapter_size) }
+    ensures { out.new ≡ joined be16 (words_from (words_in ram.now) a n) }
 {
     let e = a + n;
     if e <= ram.len() {
@@ -66,8 +66,8 @@ fn put_roms(
     pages: &[bool; FLIP_ENTRIES],
     ram: &[u16],
 ) -> usize
-    requires { length (joined be16 (romWords (planIn kinds.now pages.now) (words_in ram.now))) ≤ length out.old }
-    ensures { (result ≡ length (joined be16 (romWords (planIn kinds.now pages.now) (words_in ram.now)))) × (out.new ≡ putFront (joined be16 (romWords (planIn kinds.now pages.now) (words_in ram.now))) out.old) }
+    requires { length (joined be16 (rom_words (plan_in kinds.now pages.now) (words_in ram.now))) ≤ length out.old }
+    ensures { (result ≡ length (joined be16 (rom_words (plan_in kinds.now pages.now) (words_in ram.now)))) × (out.new ≡ put_front (joined be16 (rom_words (plan_in kinds.now pages.now) (words_in ram.now))) out.old) }
 {
     let mut at = 0;
     let mut p = 0;
@@ -90,8 +90,8 @@ fn put_pages(
     pages: &[bool; FLIP_ENTRIES],
     ram: &[u16],
 ) -> usize
-    requires { length (joined be16 (pagedWords (planIn kinds.now pages.now) (words_in ram.now))) ≤ length out.old }
-    ensures { (result ≡ length (joined be16 (pagedWords (planIn kinds.now pages.now) (words_in ram.now)))) × (out.new ≡ putFront (joined be16 (pagedWords (planIn kinds.now pages.now) (words_in ram.now))) out.old) }
+    requires { length (joined be16 (paged_words (plan_in kinds.now pages.now) (words_in ram.now))) ≤ length out.old }
+    ensures { (result ≡ length (joined be16 (paged_words (plan_in kinds.now pages.now) (words_in ram.now)))) × (out.new ≡ put_front (joined be16 (paged_words (plan_in kinds.now pages.now) (words_in ram.now))) out.old) }
 {
     let mut at = 0;
     let mut n = 0;
@@ -115,8 +115,8 @@ fn put_both(
     pages: &[bool; FLIP_ENTRIES],
     ram: &[u16],
 ) -> bool
-    requires { 2 * max 1 (binSize (planIn kinds.now pages.now)) ≤ length out.old }
-    ensures { (result ≡ not (eqb (binSize (planIn kinds.now pages.now)) 0)) × (out.new ≡ putFront (joined be16 (romWords (planIn kinds.now pages.now) (words_in ram.now) ++ pagedWords (planIn kinds.now pages.now) (words_in ram.now))) out.old) }
+    requires { 2 * max 1 (bin_size (plan_in kinds.now pages.now)) ≤ length out.old }
+    ensures { (result ≡ not (eqb (bin_size (plan_in kinds.now pages.now)) 0)) × (out.new ≡ put_front (joined be16 (rom_words (plan_in kinds.now pages.now) (words_in ram.now) ++ paged_words (plan_in kinds.now pages.now) (words_in ram.now))) out.old) }
 {
     let a = put_roms(out, kinds, pages, ram);
     let b = put_pages(&mut out[a..], kinds, pages, ram);
@@ -125,7 +125,7 @@ fn put_both(
 
 // One zero word.
 fn put_zero(out: &mut [u8])
-    ensures { out.new ≡ putFront (0 ∷ 0 ∷ []) out.old }
+    ensures { out.new ≡ put_front (0 ∷ 0 ∷ []) out.old }
 {
     let word = [0u8; 2];
     put_bytes(out, &word)
@@ -133,7 +133,7 @@ fn put_zero(out: &mut [u8])
 
 // How many bytes the BIN of a plan has.
 pub fn bin_size(kinds: &[u8; PARAGRAPHS], pages: &[bool; FLIP_ENTRIES]) -> usize
-    ensures { result ≡ 2 * max 1 (binSize (planIn kinds.now pages.now)) }
+    ensures { result ≡ 2 * max 1 (bin_size (plan_in kinds.now pages.now)) }
 {
     let n = page_offset(kinds, pages, FLIP_ENTRIES);
     if n == 0 { 2 } else { 2 * n }
@@ -141,7 +141,7 @@ pub fn bin_size(kinds: &[u8; PARAGRAPHS], pages: &[bool; FLIP_ENTRIES]) -> usize
 
 // The BIN of a plan, with the words of a RAM, at the front of a buffer that has room for it.
 pub fn put_bin(out: &mut [u8], kinds: &[u8; PARAGRAPHS], pages: &[bool; FLIP_ENTRIES], ram: &[u16])
-    ensures { out.new ≡ putFront (canonicalBin (planIn kinds.now pages.now) (words_in ram.now)) out.old }
+    ensures { out.new ≡ put_front (canonical_bin (plan_in kinds.now pages.now) (words_in ram.now)) out.old }
 {
     if out.len() < bin_size(kinds, pages) {
         return;

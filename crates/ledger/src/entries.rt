@@ -1,8 +1,8 @@
 // The canonical entries of a plan that stands in two arrays (02, W-213): the kind of each paragraph, and whether each page is there.
 ghost use Rattle.std.specs.Prelude.{◌+◌, ◌*◌, ◌-◌, ◌≤◌, ◌<◌, ◌≡◌, cond, ◌&&◌, eqb};
-ghost use Rattle.places.specs.Limits.{chapterSize, flipEntries, paragraphs, paragraphSize};
-ghost use Rattle.canon.specs.Canonical.{pageEntry, pageOffset, pageWords, ramEntry, ramWidth, romEntry, romOffset, run_at, startsRam, startsRom};
-ghost use Rattle.ledger.specs.Held.{planIn, startsIn};
+ghost use Rattle.places.specs.Limits.{chapter_size, flip_entries, paragraphs, paragraph_size};
+ghost use Rattle.canon.specs.Canonical.{page_entry, page_offset, page_words, ram_entry, ram_width, rom_entry, rom_offset, run_at, starts_ram, starts_rom};
+ghost use Rattle.ledger.specs.Held.{plan_in, starts_in};
 
 use basics::{both, either};
 use lines::{Entry, Width};
@@ -15,7 +15,7 @@ use switches::first_k;
 // Whether a run of plain paragraphs starts at paragraph p.
 fn starts(kinds: &[u8; PARAGRAPHS], pages: &[bool; FLIP_ENTRIES], p: usize) -> bool
     requires { p < paragraphs }
-    ensures { result ≡ startsIn kinds.now pages.now p }
+    ensures { result ≡ starts_in kinds.now pages.now p }
 {
     if kinds[p] == 0 {
         return false;
@@ -32,14 +32,14 @@ fn starts(kinds: &[u8; PARAGRAPHS], pages: &[bool; FLIP_ENTRIES], p: usize) -> b
 // One of ROM, and one of RAM.
 pub(crate) fn starts_rom(kinds: &[u8; PARAGRAPHS], pages: &[bool; FLIP_ENTRIES], p: usize) -> bool
     requires { p < paragraphs }
-    ensures { result ≡ startsRom (planIn kinds.now pages.now) p }
+    ensures { result ≡ starts_rom (plan_in kinds.now pages.now) p }
 {
     both(starts(kinds, pages, p), kinds[p] == 1)
 }
 
 pub(crate) fn starts_ram(kinds: &[u8; PARAGRAPHS], pages: &[bool; FLIP_ENTRIES], p: usize) -> bool
     requires { p < paragraphs }
-    ensures { result ≡ startsRam (planIn kinds.now pages.now) p }
+    ensures { result ≡ starts_ram (plan_in kinds.now pages.now) p }
 {
     both(
         starts(kinds, pages, p),
@@ -58,7 +58,7 @@ fn further(r: usize, n: usize, same: bool) -> usize
 // How many paragraphs from p on have p's kind, one after the other.
 fn run_at(kinds: &[u8; PARAGRAPHS], pages: &[bool; FLIP_ENTRIES], p: usize) -> usize
     requires { p < paragraphs }
-    ensures { (result ≡ run_at (planIn kinds.now pages.now) p) × (p + result ≤ paragraphs) }
+    ensures { (result ≡ run_at (plan_in kinds.now pages.now) p) × (p + result ≤ paragraphs) }
 {
     let mut r = 0;
     let mut n = 0;
@@ -78,7 +78,7 @@ pub(crate) fn one_if(on: bool) -> usize
 // The BIN word where plain paragraph p starts.
 fn rom_offset(kinds: &[u8; PARAGRAPHS], pages: &[bool; FLIP_ENTRIES], p: usize) -> usize
     requires { p ≤ paragraphs }
-    ensures { (result ≡ romOffset (planIn kinds.now pages.now) p) × (result ≤ paragraphSize * p) }
+    ensures { (result ≡ rom_offset (plan_in kinds.now pages.now) p) × (result ≤ paragraph_size * p) }
 {
     let mut n = 0;
     let mut i = 0;
@@ -91,21 +91,21 @@ fn rom_offset(kinds: &[u8; PARAGRAPHS], pages: &[bool; FLIP_ENTRIES], p: usize) 
 
 // The words of a page of chapter x; none where there is no page.
 pub(crate) fn page_words(x: usize) -> usize
-    ensures { (result ≡ pageWords x) × ((1 ≤ result) × (result ≤ chapterSize)) }
+    ensures { (result ≡ page_words x) × ((1 ≤ result) × (result ≤ chapter_size)) }
 {
     PARAGRAPH_SIZE * (CHAPTER_PARAGRAPHS - first_k(x))
 }
 
 fn words_if(on: bool, x: usize) -> usize
-    ensures { (result ≡ cond on (pageWords x) 0) × (result ≤ chapterSize) }
+    ensures { (result ≡ cond on (page_words x) 0) × (result ≤ chapter_size) }
 {
     if on { page_words(x) } else { 0 }
 }
 
 // The BIN word where page n % 16 of chapter n / 16 starts.
 pub(crate) fn page_offset(kinds: &[u8; PARAGRAPHS], pages: &[bool; FLIP_ENTRIES], n: usize) -> usize
-    requires { n ≤ flipEntries }
-    ensures { (result ≡ pageOffset (planIn kinds.now pages.now) n) × (result ≤ paragraphSize * paragraphs + chapterSize * n) }
+    requires { n ≤ flip_entries }
+    ensures { (result ≡ page_offset (plan_in kinds.now pages.now) n) × (result ≤ paragraph_size * paragraphs + chapter_size * n) }
 {
     let mut o = rom_offset(kinds, pages, PARAGRAPHS);
     let mut i = 0;
@@ -119,7 +119,7 @@ pub(crate) fn page_offset(kinds: &[u8; PARAGRAPHS], pages: &[bool; FLIP_ENTRIES]
 // The words of r paragraphs, but the last.
 fn words_but_one(r: usize) -> usize
     requires { r ≤ paragraphs }
-    ensures { result ≡ paragraphSize * r - 1 }
+    ensures { result ≡ paragraph_size * r - 1 }
 {
     if r == 0 { 0 } else { PARAGRAPH_SIZE * r - 1 }
 }
@@ -127,7 +127,7 @@ fn words_but_one(r: usize) -> usize
 // The entry of the run of ROM that starts at paragraph p.
 pub(crate) fn rom_entry(kinds: &[u8; PARAGRAPHS], pages: &[bool; FLIP_ENTRIES], p: usize) -> Entry
     requires { p < paragraphs }
-    ensures { result ≡ romEntry (planIn kinds.now pages.now) p }
+    ensures { result ≡ rom_entry (plan_in kinds.now pages.now) p }
 {
     let at = rom_offset(kinds, pages, p);
     let more = words_but_one(run_at(kinds, pages, p));
@@ -140,8 +140,8 @@ pub(crate) fn rom_entry(kinds: &[u8; PARAGRAPHS], pages: &[bool; FLIP_ENTRIES], 
 
 // The entry of page n % 16 of chapter n / 16.
 pub(crate) fn page_entry(kinds: &[u8; PARAGRAPHS], pages: &[bool; FLIP_ENTRIES], n: usize) -> Entry
-    requires { n < flipEntries }
-    ensures { result ≡ pageEntry (planIn kinds.now pages.now) n }
+    requires { n < flip_entries }
+    ensures { result ≡ page_entry (plan_in kinds.now pages.now) n }
 {
     let x = n / CHAPTER_PAGES;
     let at = page_offset(kinds, pages, n);
@@ -156,7 +156,7 @@ pub(crate) fn page_entry(kinds: &[u8; PARAGRAPHS], pages: &[bool; FLIP_ENTRIES],
 }
 
 fn width_of(kind: u8) -> Width
-    ensures { result ≡ ramWidth kind }
+    ensures { result ≡ ram_width kind }
 {
     if kind == 3 {
         Width::Sixteen
@@ -168,7 +168,7 @@ fn width_of(kind: u8) -> Width
 // The entry of the run of RAM that starts at paragraph p.
 pub(crate) fn ram_entry(kinds: &[u8; PARAGRAPHS], pages: &[bool; FLIP_ENTRIES], p: usize) -> Entry
     requires { p < paragraphs }
-    ensures { result ≡ ramEntry (planIn kinds.now pages.now) p }
+    ensures { result ≡ ram_entry (plan_in kinds.now pages.now) p }
 {
     let more = words_but_one(run_at(kinds, pages, p));
     let from = PARAGRAPH_SIZE * p;

@@ -5,9 +5,9 @@ mod homes;
 
 ghost use Rattle.std.specs.Prelude.{◌+◌, ◌≤◌, ◌≡◌, [], cond, eqb, set};
 ghost use Rattle.places.specs.Limits.{paragraphs};
-ghost use Rattle.canon.specs.Laws.Lines.{canonicalLines, line};
-ghost use Rattle.ledger.specs.Held.{planIn};
-ghost use Rattle.ledger.specs.Code.Lists.{added, list_of, listingOf, mappingLines, mostLines, mostMapping, romLines};
+ghost use Rattle.canon.specs.Laws.Lines.{canonical_lines, line};
+ghost use Rattle.ledger.specs.Held.{plan_in};
+ghost use Rattle.ledger.specs.Code.Lists.{added, list_of, listing_of, mapping_lines, most_lines, most_mapping, rom_lines};
 
 pub use bin::{bin_size, put_bin, word_of};
 use entries::{page_entry, ram_entry, rom_entry, starts_ram, starts_rom};
@@ -53,7 +53,7 @@ fn store(lines: [Line; LINE_LIMIT], at: usize, e: Line) -> [Line; LINE_LIMIT]
 
 // One line more.
 fn add(f: Found, source: usize, e: Entry) -> Found
-    requires { (f.count ≤ mostLines) × (source ≤ 3 + mostLines) }
+    requires { (f.count ≤ most_lines) × (source ≤ 3 + most_lines) }
     ensures { result ≡ added f (line source e) }
 {
     let old = f.lines;
@@ -73,7 +73,7 @@ fn add(f: Found, source: usize, e: Entry) -> Found
 
 // The lines of ROM.
 fn roms_of(kinds: &[u8; PARAGRAPHS], pages: &[bool; FLIP_ENTRIES]) -> Found
-    ensures { (result ≡ list_of (romLines (planIn kinds.now pages.now))) × (result.count ≤ paragraphs) }
+    ensures { (result ≡ list_of (rom_lines (plan_in kinds.now pages.now))) × (result.count ≤ paragraphs) }
 {
     let mut f = none_found();
     let mut p = 0;
@@ -88,8 +88,8 @@ fn roms_of(kinds: &[u8; PARAGRAPHS], pages: &[bool; FLIP_ENTRIES]) -> Found
 
 // Behind them those of the pages.
 fn with_pages(kinds: &[u8; PARAGRAPHS], pages: &[bool; FLIP_ENTRIES], roms: Found) -> Found
-    requires { (roms ≡ list_of (romLines (planIn kinds.now pages.now))) × (roms.count ≤ paragraphs) }
-    ensures { (result ≡ list_of (mappingLines (planIn kinds.now pages.now))) × (result.count ≤ mostMapping) }
+    requires { (roms ≡ list_of (rom_lines (plan_in kinds.now pages.now))) × (roms.count ≤ paragraphs) }
+    ensures { (result ≡ list_of (mapping_lines (plan_in kinds.now pages.now))) × (result.count ≤ most_mapping) }
 {
     let mut f = roms;
     let mut n = 0;
@@ -116,8 +116,8 @@ fn with_rams(
     names: usize,
     mapping: Found,
 ) -> Found
-    requires { (mapping ≡ list_of (mappingLines (planIn kinds.now pages.now))) × (mapping.count ≤ mostMapping) × (names ≡ cond (eqb mapping.count 0) 2 3) × (names ≤ 3) }
-    ensures { result ≡ list_of (canonicalLines (planIn kinds.now pages.now)) }
+    requires { (mapping ≡ list_of (mapping_lines (plan_in kinds.now pages.now))) × (mapping.count ≤ most_mapping) × (names ≡ cond (eqb mapping.count 0) 2 3) × (names ≤ 3) }
+    ensures { result ≡ list_of (canonical_lines (plan_in kinds.now pages.now)) }
 {
     let mut f = mapping;
     let mut p = 0;
@@ -132,7 +132,7 @@ fn with_rams(
 
 // All canonical lines.
 pub fn lines_of(kinds: &[u8; PARAGRAPHS], pages: &[bool; FLIP_ENTRIES]) -> Listing
-    ensures { result ≡ listingOf (planIn kinds.now pages.now) }
+    ensures { result ≡ listing_of (plan_in kinds.now pages.now) }
 {
     let roms = roms_of(kinds, pages);
     let mapping = with_pages(kinds, pages, roms);

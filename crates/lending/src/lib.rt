@@ -1,8 +1,8 @@
 // What a program lends to a load of any image: a RAM of zeros, and of an erased flash the words that the image asks for.
 ghost use Rattle.std.specs.Prelude.{min, ℕ, ◌≡◌, length, replicate};
-ghost use Rattle.places.specs.Limits.{lentLimit};
-ghost use Rattle.flash.specs.Flash.{erasedWord};
-ghost use Rattle.lending.specs.Lending.{flashLimit, flashFor};
+ghost use Rattle.places.specs.Limits.{lent_limit};
+ghost use Rattle.flash.specs.Flash.{erased_word};
+ghost use Rattle.lending.specs.Lending.{flash_limit, flash_for};
 
 use places::LENT_LIMIT;
 
@@ -10,20 +10,20 @@ use places::LENT_LIMIT;
 pub const FLASH_LIMIT: usize = flash::SECTOR_LIMIT * flash::SECTOR_WORDS;
 
 pub fn blank_ram() -> [u16; LENT_LIMIT]
-    ensures { (result ≡ replicate {A = ℕ} lentLimit 0) × (lentLimit ≡ length result) }
+    ensures { (result ≡ replicate {A = ℕ} lent_limit 0) × (lent_limit ≡ length result) }
 {
     [0; LENT_LIMIT]
 }
 
 pub fn erased_flash() -> [u16; FLASH_LIMIT]
-    ensures { (result ≡ replicate {A = ℕ} flashLimit erasedWord) × (flashLimit ≡ length result) }
+    ensures { (result ≡ replicate {A = ℕ} flash_limit erased_word) × (flash_limit ≡ length result) }
 {
     [flash::ERASED_WORD; FLASH_LIMIT]
 }
 
 // The words of flash that an image asks for: none where it has no JLP flash, or is too short to ask.
 pub fn flash_for(image: &[u8]) -> usize
-    ensures { result ≡ flashFor image.now }
+    ensures { result ≡ flash_for image.now }
 {
     if image.len() < header::UID_AT {
         return 0;
@@ -37,7 +37,7 @@ pub fn flash_for(image: &[u8]) -> usize
 
 // Of so many at most.
 pub fn flash_words(image: &[u8], most: usize) -> usize
-    ensures { result ≡ min (flashFor image.now) most }
+    ensures { result ≡ min (flash_for image.now) most }
 {
     basics::least(flash_for(image), most)
 }

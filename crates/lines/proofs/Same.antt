@@ -5,19 +5,19 @@ use Rattle.lines.proofs.first_of.Reads as first_of
 use Rattle.lines.proofs.last_of.Reads as last_of
 use Rattle.lines.proofs.holds.Reads as holds
 use Rattle.lines.proofs.layer_of.Reads as layer-of
-use Rattle.lines.proofs.kind_of.Reads as kind-of
+use Rattle.lines.proofs.kind_of.Reads as kind_of_lem
 
-pub one-first-of : OneAnswer first_of.Learnt
-one-first-of κs a y z e f = same
+pub one_first_of : OneAnswer first_of.Learnt
+one_first_of κs a y z e f = same
 
-pub one-last-of : OneAnswer last_of.Learnt
-one-last-of κs a y z e f = same
+pub one_last_of : OneAnswer last_of.Learnt
+one_last_of κs a y z e f = same
 
 pub one_holds : OneAnswer holds.Learnt
 one_holds κs a y z e f = same
 
-pub one-layer-of : OneAnswer layer-of.Learnt
-one-layer-of κs a y z e f p q = same p.0 q.0
+pub one_layer_of : OneAnswer layer-of.Learnt
+one_layer_of κs a y z e f p q = same p.0 q.0
 
-pub one-kind-of : OneAnswer kind-of.Learnt
-one-kind-of κs a y z e f = same
+pub one_kind_of : OneAnswer kind_of_lem.Learnt
+one_kind_of κs a y z e f = same

@@ -7,12 +7,12 @@ use Rattle.lines.specs.declared.Entry.TheVariants.{Rom, Paged, Ram}
 use Rattle.lines.specs.declared.Line.{Line}
 use Rattle.lines.specs.declared.Width.TheVariants.{Sixteen, Eight}
 
-abbrev pub kindBy : Entry → ℕ
-kindBy (Rom lo hi at) = 1
-kindBy (Paged lo hi at y) = 1
-kindBy (Ram lo hi Sixteen) = 3
-kindBy (Ram lo hi Eight) = 7
+abbrev pub kind_by : Entry → ℕ
+kind_by (Rom lo hi at) = 1
+kind_by (Paged lo hi at y) = 1
+kind_by (Ram lo hi Sixteen) = 3
+kind_by (Ram lo hi Eight) = 7
 
 abbrev pub kind_of : Option Line → ℕ
 kind_of none = 0
-kind_of (some l) = kindBy l.entry
+kind_of (some l) = kind_by l.entry

@@ -25,10 +25,10 @@ layer (Rom lo hi at) = 0
 layer (Paged lo hi at y) = suc y.0
 layer (Ram lo hi w) = 0
 
-abbrev pub isRam : Entry → Bool
-isRam (Rom lo hi at) = false
-isRam (Paged lo hi at y) = false
-isRam (Ram lo hi w) = true
+abbrev pub is_ram : Entry → Bool
+is_ram (Rom lo hi at) = false
+is_ram (Paged lo hi at y) = false
+is_ram (Ram lo hi w) = true
 
 -- the line of a layer that holds an address
 abbrev pub line_at : List Line → ℕ → ℕ → Option Line

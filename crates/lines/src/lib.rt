@@ -3,7 +3,7 @@
 ghost use Rattle.std.specs.Prelude.{◌+◌, ◌-◌, ◌≤◌, ◌≡◌};
 ghost use Rattle.places.specs.Places.{console};
 ghost use Rattle.lines.specs.Lines.{first, last, holds, layer};
-ghost use Rattle.lines.specs.Kinds.{kindBy};
+ghost use Rattle.lines.specs.Kinds.{kind_by};
 
 use basics::both;
 use places::{BinWord, Console, Page};
@@ -81,7 +81,7 @@ pub fn layer_of(e: Entry) -> usize
 
 // The kind of the words that an entry declares, by the permission that shows them.
 pub fn kind_of(e: Entry) -> u8
-    ensures { result ≡ kindBy e }
+    ensures { result ≡ kind_by e }
 {
     match e {
         Entry::Rom(_, _, _) => 1,

@@ -5,14 +5,14 @@ use Rattle.load.proofs.lay_hunks.Reads as lay-hunks
 use Rattle.load.proofs.load.Reads as load
 use Rattle.load.proofs.refusal_for.Reads as refusal-for
 
-pub one-load : OneAnswer load.Learnt
-one-load κs a y z e f p q = same p.0 q.0
+pub one_load : OneAnswer load.Learnt
+one_load κs a y z e f p q = same p.0 q.0
 
-pub one-load-lent : OneLent load.Learnt (λ κs e. e.1.0.now)
-one-load-lent κs a y z e f p q = same p.1 q.1
+pub one_load_lent : OneLent load.Learnt (λ κs e. e.1.0.now)
+one_load_lent κs a y z e f p q = same p.1 q.1
 
-pub one-refusal-for : OneAnswer refusal-for.Learnt
-one-refusal-for κs a y z e f = same
+pub one_refusal_for : OneAnswer refusal-for.Learnt
+one_refusal_for κs a y z e f = same
 
-pub one-lay-hunks : OneLent lay-hunks.Learnt (λ κs e. e.1.0.now)
-one-lay-hunks κs a y z e f = same
+pub one_lay_hunks : OneLent lay-hunks.Learnt (λ κs e. e.1.0.now)
+one_lay_hunks κs a y z e f = same

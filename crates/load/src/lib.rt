@@ -1,14 +1,14 @@
 // The load of a version 1 image: a pass that checks and touches no RAM, then one that stores (01, "Load order").
 ghost use Rattle.std.specs.Prelude.{◌≡◌, not, ◌+◌, ◌≤◌, length, eqb};
 ghost use Rattle.places.specs.Limits.{lent};
-ghost use Rattle.sums.specs.Crc.{c324Poly, crc324Of};
+ghost use Rattle.sums.specs.Crc.{c324_poly, crc324_of};
 ghost use Rattle.sums.specs.Tables.{tables_of};
-ghost use Rattle.header.specs.Header.{headerSize, flags_of};
-ghost use Rattle.tables.specs.Tables.{jlpOf, cartridgeOf, flashWords, tablesRefusal};
-ghost use Rattle.blocks.specs.Blocks.{payloadIn};
-ghost use Rattle.blocks.specs.Images.{blocksIn};
-ghost use Rattle.load.specs.Load.{refused, refusalBySize, loadingOf, loadRamOf, hunksLaid};
-ghost use Rattle.load.specs.Code.Passes.{judgementOf, tablesAfter, step_of, endedAt, verdictOf, tablesAt, Tabled, endRefusal, finishedOf, blockStored, finishedRamOf};
+ghost use Rattle.header.specs.Header.{header_size, flags_of};
+ghost use Rattle.tables.specs.Tables.{jlp_of, cartridge_of, flash_words, tables_refusal};
+ghost use Rattle.blocks.specs.Blocks.{payload_in};
+ghost use Rattle.blocks.specs.Images.{blocks_in};
+ghost use Rattle.load.specs.Load.{refused, refusal_by_size, loading_of, load_ram_of, hunks_laid};
+ghost use Rattle.load.specs.Code.Passes.{judgement_of, tables_after, step_of, ended_at, verdict_of, tables_at, Tabled, end_refusal, finished_of, block_stored, finished_ram_of};
 
 use basics::Refusal;
 use blocks::{FIRST_BLOCK, FRAME_SIZE, Frame, Judged};
@@ -44,8 +44,8 @@ pub struct Loading {
 
 // CRC32/4 of a block's payload, by its own tables.
 fn payload_sum(c324: &[u32; TABLE_ENTRIES], x: &[u8]) -> u32
-    requires { c324.now ≡ tables_of c324Poly }
-    ensures { result ≡ crc324Of (payloadIn x.now) }
+    requires { c324.now ≡ tables_of c324_poly }
+    ensures { result ≡ crc324_of (payload_in x.now) }
 {
     let a = basics::least(FRAME_SIZE, x.len());
     sums::sum_by(c324, 0, &x[a..])
@@ -53,22 +53,22 @@ fn payload_sum(c324: &[u32; TABLE_ENTRIES], x: &[u8]) -> u32
 
 // The judgement of the block x by itself: a place counts from its first byte.
 fn judge(x: &[u8], c324: &[u32; TABLE_ENTRIES], m: usize, earlier: bool) -> Judged
-    requires { c324.now ≡ tables_of c324Poly }
-    ensures { result ≡ judgementOf m earlier 0 x.now }
+    requires { c324.now ≡ tables_of c324_poly }
+    ensures { result ≡ judgement_of m earlier 0 x.now }
 {
     blocks::judge(x, payload_sum(c324, x), m, earlier)
 }
 
 // The place of the tables block after a block of type t at p.
 fn tables_after(tables: usize, p: usize, t: u8) -> usize
-    ensures { result ≡ tablesAfter tables p t }
+    ensures { result ≡ tables_after tables p t }
 {
     if t == blocks::TABLES_TYPE { p } else { tables }
 }
 
 // One step of the checking pass.
 fn step_at(s: &[u8], c324: &[u32; TABLE_ENTRIES], m: usize, tables: usize, p: usize) -> Step
-    requires { c324.now ≡ tables_of c324Poly }
+    requires { c324.now ≡ tables_of c324_poly }
     ensures { result ≡ step_of s.now m tables p }
 {
     let f = blocks::frame_at(s, p);
@@ -88,7 +88,7 @@ fn step_at(s: &[u8], c324: &[u32; TABLE_ENTRIES], m: usize, tables: usize, p: us
 
 // Behind the blocks: "none" of 8.
 fn ended(size: usize, tables: usize, blocks: usize, words: usize) -> Verdict
-    ensures { result ≡ endedAt size tables blocks words }
+    ensures { result ≡ ended_at size tables blocks words }
 {
     if tables == 0 {
         return Verdict::Refused(basics::refuse(8, size));
@@ -98,8 +98,8 @@ fn ended(size: usize, tables: usize, blocks: usize, words: usize) -> Verdict
 
 // The checking pass over the blocks.
 fn check_blocks(s: &[u8], c324: &[u32; TABLE_ENTRIES], m: usize) -> Verdict
-    requires { c324.now ≡ tables_of c324Poly }
-    ensures { result ≡ verdictOf s.now m }
+    requires { c324.now ≡ tables_of c324_poly }
+    ensures { result ≡ verdict_of s.now m }
 {
     let mut p = FIRST_BLOCK;
     let mut tables = 0;
@@ -126,7 +126,7 @@ fn check_blocks(s: &[u8], c324: &[u32; TABLE_ENTRIES], m: usize) -> Verdict
 
 // The hunk of the block x of type t, if it is one.
 fn store_block(x: &[u8], t: u8, ram: &mut [u16])
-    ensures { ram.new ≡ blockStored x.now t ram.old }
+    ensures { ram.new ≡ block_stored x.now t ram.old }
 {
     if t == blocks::HUNK_TYPE {
         let a = basics::least(FRAME_SIZE, x.len());
@@ -136,7 +136,7 @@ fn store_block(x: &[u8], t: u8, ram: &mut [u16])
 
 // The storing pass alone: each hunk before the stop is laid over the RAM, and one that is not good for the words lent lays nothing.
 pub fn lay_hunks(image: &[u8], ram: &mut [u16])
-    ensures { ram.new ≡ hunksLaid (blocksIn image.now) ram.old }
+    ensures { ram.new ≡ hunks_laid (blocks_in image.now) ram.old }
 {
     let mut p = FIRST_BLOCK;
     loop {
@@ -171,8 +171,8 @@ fn refuse(r: Refusal) -> Loading
 
 // The cartridge of the accelerators that the header's flags give and of the tables block at t.
 fn cartridge_at(s: &[u8], t: usize) -> Cartridge
-    requires { (headerSize ≤ length s.now) × Tabled s.now t }
-    ensures { result ≡ cartridgeOf (jlpOf (flags_of s.now)) (tablesAt s.now t) }
+    requires { (header_size ≤ length s.now) × Tabled s.now t }
+    ensures { result ≡ cartridge_of (jlp_of (flags_of s.now)) (tables_at s.now t) }
 {
     let from = header::FLAGS_AT;
     let to = header::UID_AT;
@@ -184,8 +184,8 @@ fn cartridge_at(s: &[u8], t: usize) -> Cartridge
 
 // What is refused of the header's flags and of these flips, with m words of RAM and f of flash lent.
 fn refusal_with(s: &[u8], flips: &[u16; PARAGRAPHS], m: usize, f: usize) -> Refusal
-    requires { headerSize ≤ length s.now }
-    ensures { result ≡ tablesRefusal (flags_of s.now) flips.now m f }
+    requires { header_size ≤ length s.now }
+    ensures { result ≡ tables_refusal (flags_of s.now) flips.now m f }
 {
     let from = header::FLAGS_AT;
     let to = header::UID_AT;
@@ -194,8 +194,8 @@ fn refusal_with(s: &[u8], flips: &[u16; PARAGRAPHS], m: usize, f: usize) -> Refu
 
 // Behind the checking pass: 10, 11 and 13, then the storing pass and the answer.
 fn finish(s: &[u8], t: usize, blocks: usize, words: usize, ram: &mut [u16], f: usize) -> Loading
-    requires { (headerSize ≤ length s.now) × Tabled s.now t }
-    ensures { (result ≡ finishedOf s.now (lent ram.old) f t blocks words) × (ram.new ≡ finishedRamOf s.now t ram.old f) }
+    requires { (header_size ≤ length s.now) × Tabled s.now t }
+    ensures { (result ≡ finished_of s.now (lent ram.old) f t blocks words) × (ram.new ≡ finished_ram_of s.now t ram.old f) }
 {
     let cartridge = cartridge_at(s, t);
     let r = refusal_with(s, &cartridge.flips, places::lent_words(ram), f);
@@ -216,8 +216,8 @@ fn finish(s: &[u8], t: usize, blocks: usize, words: usize, ram: &mut [u16], f: u
 
 // The words of flash that the header's flags say.
 fn flash_said(s: &[u8]) -> usize
-    requires { headerSize ≤ length s.now }
-    ensures { result ≡ flashWords (flags_of s.now) }
+    requires { header_size ≤ length s.now }
+    ensures { result ≡ flash_words (flags_of s.now) }
 {
     let from = header::FLAGS_AT;
     let to = header::UID_AT;
@@ -226,8 +226,8 @@ fn flash_said(s: &[u8]) -> usize
 
 // 10, 11 and 13, of an image with its tables block at t, m words of RAM lent, and a flash of the size that its flags say.
 fn judge_tables(s: &[u8], t: usize, m: usize) -> Refusal
-    requires { (headerSize ≤ length s.now) × Tabled s.now t }
-    ensures { result ≡ endRefusal s.now t m (flashWords (flags_of s.now)) }
+    requires { (header_size ≤ length s.now) × Tabled s.now t }
+    ensures { result ≡ end_refusal s.now t m (flash_words (flags_of s.now)) }
 {
     let cartridge = cartridge_at(s, t);
     let f = flash_said(s);
@@ -236,7 +236,7 @@ fn judge_tables(s: &[u8], t: usize, m: usize) -> Refusal
 
 // What a load into m words of RAM refuses, asked with no RAM and no flash lent: 13 by its size alone.
 pub fn refusal_for(image: &[u8], m: usize) -> Refusal
-    ensures { result ≡ refusalBySize image.now m }
+    ensures { result ≡ refusal_by_size image.now m }
 {
     let h = header::check(image);
     if h.number != 0 {
@@ -252,8 +252,8 @@ pub fn refusal_for(image: &[u8], m: usize) -> Refusal
 
 // The load of an image into the words of a lent RAM that count, with a lent flash, which is left as found.
 pub fn load(image: &[u8], ram: &mut [u16], flash: &[u16]) -> Loading
-    ensures { (result ≡ loadingOf image.now (lent ram.old) (length flash.now))
-        × (ram.new ≡ loadRamOf image.now ram.old (length flash.now)) }
+    ensures { (result ≡ loading_of image.now (lent ram.old) (length flash.now))
+        × (ram.new ≡ load_ram_of image.now ram.old (length flash.now)) }
 {
     let h = header::check(image);
     if h.number != 0 {

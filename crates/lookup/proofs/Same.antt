@@ -6,8 +6,8 @@ use Prim.Native.Nat.{ℕ}
 use denote.Ref.{Bor}
 use Rattle.basics.specs.Same.{OneAnswer}
 use Rattle.basics.specs.Laws.Same.{same}
-use Rattle.lookup.specs.Lookup.{findOf}
-use Rattle.lookup.specs.Laws.Shown.{one-shown}
+use Rattle.lookup.specs.Lookup.{find_of}
+use Rattle.lookup.specs.Laws.Shown.{one_shown}
 use Rattle.lookup.proofs.seek.Reads as seek
 use Rattle.lookup.proofs.is_twice.Reads as is-twice
 use Rattle.lookup.proofs.refusal_of.Reads as refusal-of
@@ -24,23 +24,23 @@ OneSeen {K} {A} {R} {E} alike promise = (κs : K) (a : A κs) (y z : R κs) (e f
 abbrev pub Alike : Bor (List ℕ) → Bor (List ℕ) → Type 0
 Alike r q = (r.now ≡ q.now) × (r.ref_ptr.0 ≡ q.ref_ptr.0) × (r.ref_ptr.1 ≡ q.ref_ptr.1)
 
-pub one-seek : OneAnswer seek.Learnt
-one-seek κs a y z e f = same
+pub one_seek : OneAnswer seek.Learnt
+one_seek κs a y z e f = same
 
-pub one-is-twice : OneAnswer is-twice.Learnt
-one-is-twice κs a y z e f = same
+pub one_is_twice : OneAnswer is-twice.Learnt
+one_is_twice κs a y z e f = same
 
-pub one-refusal-of : OneAnswer refusal-of.Learnt
-one-refusal-of κs a y z e f = same
+pub one_refusal_of : OneAnswer refusal-of.Learnt
+one_refusal_of κs a y z e f = same
 
-pub one-text-of : OneAnswer text_of.Learnt
-one-text-of κs a y z e f = same
+pub one_text_of : OneAnswer text_of.Learnt
+one_text_of κs a y z e f = same
 
-pub one-find : OneAnswer find.Learnt
-one-find κs a y z e f = same
+pub one_find : OneAnswer find.Learnt
+one_find κs a y z e f = same
 
-pub one-shown-part : OneSeen (λ κs y z. Alike y z) shown.Learnt
-one-shown-part κs a y z e f p q = one-shown y z a.0 a.1.0 a.1.1.0 p q
+pub one_shown_part : OneSeen (λ κs y z. Alike y z) shown.Learnt
+one_shown_part κs a y z e f p q = one_shown y z a.0 a.1.0 a.1.1.0 p q
 
-pub one-lookup : OneSeen (λ κs y z. Alike y z) lookup.Learnt
-one-lookup κs a y z e f p q = one-shown y z a.0 a.1.0 (findOf a.0.now a.1.0.now a.1.1.0 a.1.1.1.0) p q
+pub one_lookup : OneSeen (λ κs y z. Alike y z) lookup.Learnt
+one_lookup κs a y z e f p q = one_shown y z a.0 a.1.0 (find_of a.0.now a.1.0.now a.1.1.0 a.1.1.1.0) p q

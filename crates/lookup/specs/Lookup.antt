@@ -2,15 +2,15 @@
 use Rattle.std.specs.Prelude.{ℕ, ◌+◌, List, [], ◌∷◌, ◌++◌, map, cond, length}
 use Rattle.basics.specs.declared.Refusal.{Refusal}
 use Rattle.basics.specs.Rows.{Row}
-use Rattle.basics.specs.Refusals.{refuse, firstRefusal, passes}
-use Rattle.places.specs.Limits.{lentLimit}
+use Rattle.basics.specs.Refusals.{refuse, first_refusal, passes}
+use Rattle.places.specs.Limits.{lent_limit}
 use Rattle.metadata.specs.declared.Sought.{Sought}
 use Rattle.metadata.specs.declared.Sought.TheVariants.{Left, At}
-use Rattle.metadata.specs.Records.{isCut}
-use Rattle.metadata.specs.Texts.{Span, textsOf, seekIn}
-use Rattle.blocks.specs.Blocks.{frameSize, payloadIn, isMetadata}
-use Rattle.blocks.specs.Images.{firstBlock, blocksIn}
-use Rattle.load.specs.Load.{rowsBySize}
+use Rattle.metadata.specs.Records.{is_cut}
+use Rattle.metadata.specs.Texts.{Span, texts_of, seek_in}
+use Rattle.blocks.specs.Blocks.{frame_size, payload_in, is_metadata}
+use Rattle.blocks.specs.Images.{first_block, blocks_in}
+use Rattle.load.specs.Load.{rows_by_size}
 use Rattle.lookup.specs.declared.Found.{Found}
 use Rattle.lookup.specs.declared.Found.TheVariants.{Nothing, Label, Image, Refused}
 
@@ -19,32 +19,32 @@ abbrev pub moved : ℕ → Span → Span
 moved b x = record { from = b + x.from; to = b + x.to }
 
 -- the texts with the tag of metadata blocks, in their order, the first block being at p
-unfoldable pub textsInBlocks : ℕ → ℕ → List (List ℕ) → List Span
-textsInBlocks tag p [] = []
-textsInBlocks tag p (x ∷ xs) =
-    map (moved (p + frameSize)) (cond (isMetadata x) (textsOf tag (payloadIn x)) []) ++ textsInBlocks tag (p + length x) xs
+unfoldable pub texts_in_blocks : ℕ → ℕ → List (List ℕ) → List Span
+texts_in_blocks tag p [] = []
+texts_in_blocks tag p (x ∷ xs) =
+    map (moved (p + frame_size)) (cond (is_metadata x) (texts_of tag (payload_in x)) []) ++ texts_in_blocks tag (p + length x) xs
 
-abbrev pub imageTexts : ℕ → List ℕ → List Span
-imageTexts tag s = textsInBlocks tag firstBlock (blocksIn s)
+abbrev pub image_texts : ℕ → List ℕ → List Span
+image_texts tag s = texts_in_blocks tag first_block (blocks_in s)
 
 -- the label's, else the image's, else none
-abbrev pub orImage : Sought → Found
-orImage (At a e) = Image a e
-orImage (Left k) = Nothing
+abbrev pub or_image : Sought → Found
+or_image (At a e) = Image a e
+or_image (Left k) = Nothing
 
-abbrev pub orLabel : Sought → Sought → Found
-orLabel (At a e) y = Label a e
-orLabel (Left k) y = orImage y
+abbrev pub or_label : Sought → Sought → Found
+or_label (At a e) y = Label a e
+or_label (Left k) y = or_image y
 
 abbrev pub text_of : List ℕ → List ℕ → ℕ → ℕ → Found
-text_of label image tag n = orLabel (seekIn n (textsOf tag label)) (seekIn n (imageTexts tag image))
+text_of label image tag n = or_label (seek_in n (texts_of tag label)) (seek_in n (image_texts tag image))
 
 -- the refusals: a load's for a RAM of 524,288 words, 13 by its size alone; then 12, place 0, for a label that is cut
-abbrev pub refusalRows : List ℕ → List ℕ → List (Row Refusal)
-refusalRows label image = rowsBySize image lentLimit ++ ((isCut label, refuse 12 0) ∷ [])
+abbrev pub refusal_rows : List ℕ → List ℕ → List (Row Refusal)
+refusal_rows label image = rows_by_size image lent_limit ++ ((is_cut label, refuse 12 0) ∷ [])
 
-unfoldable pub refusalOf : List ℕ → List ℕ → Refusal
-refusalOf label image = firstRefusal (refusalRows label image)
+unfoldable pub refusal_of : List ℕ → List ℕ → Refusal
+refusal_of label image = first_refusal (refusal_rows label image)
 
-unfoldable pub findOf : List ℕ → List ℕ → ℕ → ℕ → Found
-findOf label image tag n = cond (passes (refusalOf label image)) (text_of label image tag n) (Refused (refusalOf label image))
+unfoldable pub find_of : List ℕ → List ℕ → ℕ → ℕ → Found
+find_of label image tag n = cond (passes (refusal_of label image)) (text_of label image tag n) (Refused (refusal_of label image))

@@ -1,10 +1,10 @@
 // The desk's lookup of a text by its tag and its number: the label file's, else the image's, shown from the file it stands in and not
 // copied (02, "W-204").
 ghost use Rattle.std.specs.Prelude.{◌≡◌};
-ghost use Rattle.metadata.specs.Texts.{seekIn, givenTwice};
-ghost use Rattle.lookup.specs.Lookup.{imageTexts, refusalOf, text_of, findOf};
+ghost use Rattle.metadata.specs.Texts.{seek_in, given_twice};
+ghost use Rattle.lookup.specs.Lookup.{image_texts, refusal_of, text_of, find_of};
 ghost use Rattle.lookup.specs.Shown.{PartOf, Shows};
-ghost use Rattle.lookup.specs.Code.Blocks.{blockTexts};
+ghost use Rattle.lookup.specs.Code.Blocks.{block_texts};
 
 use basics::Refusal;
 use blocks::{FIRST_BLOCK, FRAME_SIZE, Frame};
@@ -21,7 +21,7 @@ pub enum Found {
 
 // The n-th text with the tag in the payload of the block x of type t.
 fn seek_block(x: &[u8], t: u8, tag: u8, n: usize) -> Sought
-    ensures { result ≡ seekIn n (blockTexts tag t x.now) }
+    ensures { result ≡ seek_in n (block_texts tag t x.now) }
 {
     if t != blocks::METADATA_TYPE {
         return Sought::Left(n);
@@ -32,7 +32,7 @@ fn seek_block(x: &[u8], t: u8, tag: u8, n: usize) -> Sought
 
 // The n-th text with the tag over an image's blocks in order, where it stands in the image.
 pub fn seek(image: &[u8], tag: u8, n: usize) -> Sought
-    ensures { result ≡ seekIn n (imageTexts tag image.now) }
+    ensures { result ≡ seek_in n (image_texts tag image.now) }
 {
     let mut p = FIRST_BLOCK;
     let mut left = n;
@@ -63,7 +63,7 @@ pub fn seek(image: &[u8], tag: u8, n: usize) -> Sought
 
 // Whether an image gives a single-value tag twice, over all its blocks.
 pub fn is_twice(image: &[u8], tag: u8) -> bool
-    ensures { result ≡ givenTwice tag (imageTexts tag image.now) }
+    ensures { result ≡ given_twice tag (image_texts tag image.now) }
 {
     if !metadata::is_single(tag) {
         return false;
@@ -77,7 +77,7 @@ pub fn is_twice(image: &[u8], tag: u8) -> bool
 
 // A lookup's refusals: a load's for a RAM of 524,288 words, then 12 for a label that is cut.
 pub fn refusal_of(label: &[u8], image: &[u8]) -> Refusal
-    ensures { result ≡ refusalOf label.now image.now }
+    ensures { result ≡ refusal_of label.now image.now }
 {
     let r = load::refusal_for(image, places::LENT_LIMIT);
     if r.number != 0 {
@@ -108,7 +108,7 @@ pub fn text_of(label: &[u8], image: &[u8], tag: u8, n: usize) -> Found
 
 // The same behind the refusals.
 pub fn find(label: &[u8], image: &[u8], tag: u8, n: usize) -> Found
-    ensures { result ≡ findOf label.now image.now tag n }
+    ensures { result ≡ find_of label.now image.now tag n }
 {
     let r = refusal_of(label, image);
     if r.number != 0 {
@@ -144,7 +144,7 @@ pub fn shown<'a>(label: &'a [u8], image: &'a [u8], f: Found) -> &'a [u8]
 
 // The text of a lookup, as a part of the label or of the image.
 pub fn lookup<'a>(label: &'a [u8], image: &'a [u8], tag: u8, n: usize) -> &'a [u8]
-    ensures { Shows result label.entry image.entry (findOf label.now image.now tag n) }
+    ensures { Shows result label.entry image.entry (find_of label.now image.now tag n) }
 {
     let f = find(label, image, tag, n);
     shown(label, image, f)

@@ -2,7 +2,7 @@
 // has some, then `words=`, `jlp=` and `flash=`. Or `result=refused` with number and place, where the load refuses; or `result=stopped` with the file and
 // the reason.
 ghost use Rattle.std.specs.Prelude.{◌≡◌, ◌+◌, ◌<◌, length};
-ghost use Rattle.places.specs.Limits.{chapters, imageLimit};
+ghost use Rattle.places.specs.Limits.{chapters, image_limit};
 
 use basics::Refusal;
 use cart::Cartridge;
@@ -22,7 +22,7 @@ const PAGES_AT: usize = 4;
 const FILE_ROOM: usize = IMAGE_LIMIT + 1;
 
 fn file_room() -> [u8; FILE_ROOM]
-    ensures { imageLimit + 1 ≡ length result }
+    ensures { image_limit + 1 ≡ length result }
 {
     [0; FILE_ROOM]
 }

@@ -8,20 +8,20 @@ use Rattle.metadata.proofs.is_single.Reads as is-single
 use Rattle.metadata.proofs.is_twice.Reads as is-twice
 use Rattle.metadata.proofs.date_of.Reads as date-of
 
-pub one-record-at : OneAnswer record-at.Learnt
-one-record-at κs a y z e f = same
+pub one_record_at : OneAnswer record-at.Learnt
+one_record_at κs a y z e f = same
 
-pub one-is-cut : OneAnswer is_cut.Learnt
-one-is-cut κs a y z e f = same
+pub one_is_cut : OneAnswer is_cut.Learnt
+one_is_cut κs a y z e f = same
 
-pub one-seek : OneAnswer seek.Learnt
-one-seek κs a y z e f = same
+pub one_seek : OneAnswer seek.Learnt
+one_seek κs a y z e f = same
 
-pub one-is-single : OneAnswer is-single.Learnt
-one-is-single κs a y z e f = same
+pub one_is_single : OneAnswer is-single.Learnt
+one_is_single κs a y z e f = same
 
-pub one-is-twice : OneAnswer is-twice.Learnt
-one-is-twice κs a y z e f = same
+pub one_is_twice : OneAnswer is-twice.Learnt
+one_is_twice κs a y z e f = same
 
-pub one-date-of : OneAnswer date-of.Learnt
-one-date-of κs a y z e f = same
+pub one_date_of : OneAnswer date-of.Learnt
+one_date_of κs a y z e f = same

@@ -10,12 +10,12 @@ abbrev pub given_of : ℕ → Given
 given_of b = cond (eqb b 0) Not (Is b)
 
 -- a signed byte: 0x80 to 0xFF are -128 to -1
-abbrev pub hoursOf : ℕ → Hours
-hoursOf b = cond (ltb b 128) (record { negative = false; size = b }) (record { negative = true; size = 256 - b })
+abbrev pub hours_of : ℕ → Hours
+hours_of b = cond (ltb b 128) (record { negative = false; size = b }) (record { negative = true; size = 256 - b })
 
 -- values outside 001's ranges are shown as they stand
-unfoldable pub dateOf : List ℕ → ReleaseDate
-dateOf text =
+unfoldable pub date_of : List ℕ → ReleaseDate
+date_of text =
     record {
       year = 1900 + get_or text 0 0;
       month = given_of (get_or text 1 0);
@@ -23,6 +23,6 @@ dateOf text =
       hour = get_or text 3 0;
       minute = get_or text 4 0;
       second = get_or text 5 0;
-      zone_hours = hoursOf (get_or text 6 0);
+      zone_hours = hours_of (get_or text 6 0);
       zone_minutes = get_or text 7 0;
     }

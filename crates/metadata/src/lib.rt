@@ -1,10 +1,10 @@
 // Program metadata: the sub-records of a payload, the n-th text with a tag, single-value tags given twice, and the release date
 // (001, "Block Type 0x03: Program Metadata").
 ghost use Rattle.std.specs.Prelude.{◌<◌, ◌≤◌, ◌≡◌};
-ghost use Rattle.metadata.specs.Records.{standsAt, isCut};
-ghost use Rattle.metadata.specs.Texts.{textsOf, seekIn, isSingle, givenTwice};
-ghost use Rattle.metadata.specs.Code.Steps.{leftAfter};
-ghost use Rattle.metadata.specs.Dates.{given_of, hoursOf, dateOf};
+ghost use Rattle.metadata.specs.Records.{stands_at, is_cut};
+ghost use Rattle.metadata.specs.Texts.{texts_of, seek_in, is_single, given_twice};
+ghost use Rattle.metadata.specs.Code.Steps.{left_after};
+ghost use Rattle.metadata.specs.Dates.{given_of, hours_of, date_of};
 
 use basics::{byte_at, wide, wide16};
 
@@ -61,7 +61,7 @@ pub struct ReleaseDate {
 
 // What stands at p.
 pub fn record_at(s: &[u8], p: usize) -> Stands
-    ensures { result ≡ standsAt s.now p }
+    ensures { result ≡ stands_at s.now p }
 {
     if s.len() <= p {
         return Stands::End;
@@ -79,7 +79,7 @@ pub fn record_at(s: &[u8], p: usize) -> Stands
 
 // Whether a payload is cut inside a sub-record.
 pub fn is_cut(s: &[u8]) -> bool
-    ensures { result ≡ isCut s.now }
+    ensures { result ≡ is_cut s.now }
 {
     let mut p = 0;
     loop {
@@ -101,14 +101,14 @@ pub fn is_cut(s: &[u8]) -> bool
 // How many texts with the tag are still to be passed behind one with tag t.
 fn left_after(t: u8, tag: u8, left: usize) -> usize
     requires { 0 < left }
-    ensures { (result ≡ leftAfter t tag left) × (result ≤ left) }
+    ensures { (result ≡ left_after t tag left) × (result ≤ left) }
 {
     if t == tag { left - 1 } else { left }
 }
 
 // The n-th text with the tag, from 1.
 pub fn seek(s: &[u8], tag: u8, n: usize) -> Sought
-    ensures { result ≡ seekIn n (textsOf tag s.now) }
+    ensures { result ≡ seek_in n (texts_of tag s.now) }
 {
     if n == 0 {
         return Sought::Left(n);
@@ -141,14 +141,14 @@ pub fn seek(s: &[u8], tag: u8, n: usize) -> Sought
 
 // Whether a tag has a single value.
 pub fn is_single(tag: u8) -> bool
-    ensures { result ≡ isSingle tag }
+    ensures { result ≡ is_single tag }
 {
     basics::either(tag == NAME_TAG, tag == SHORT_NAME_TAG)
 }
 
 // Whether a payload gives a single-value tag twice.
 pub fn is_twice(s: &[u8], tag: u8) -> bool
-    ensures { result ≡ givenTwice tag (textsOf tag s.now) }
+    ensures { result ≡ given_twice tag (texts_of tag s.now) }
 {
     if !is_single(tag) {
         return false;
@@ -170,7 +170,7 @@ fn given_of(b: u8) -> Given
 }
 
 fn hours_of(b: u8) -> Hours
-    ensures { result ≡ hoursOf b }
+    ensures { result ≡ hours_of b }
 {
     if b < 128 {
         return Hours {
@@ -186,7 +186,7 @@ fn hours_of(b: u8) -> Hours
 
 // The date that a text gives; bytes that it lacks are 0, and those past the eighth are not looked at.
 pub fn date_of(text: &[u8]) -> ReleaseDate
-    ensures { result ≡ dateOf text.now }
+    ensures { result ≡ date_of text.now }
 {
     ReleaseDate {
         year: 1900 + wide16(byte_at(text, 0)),

@@ -6,14 +6,14 @@ use Rattle.owners.proofs.claim_paragraphs.Reads as claim-paragraphs
 use Rattle.owners.proofs.claim.Reads as claim
 use Rattle.owners.proofs.least_owner.Reads as least-owner
 
-pub one-no-owners : OneAnswer no-owners.Learnt
-one-no-owners κs a y z e f = same
+pub one_no_owners : OneAnswer no-owners.Learnt
+one_no_owners κs a y z e f = same
 
-pub one-claim-paragraphs : OneAnswer claim-paragraphs.Learnt
-one-claim-paragraphs κs a y z e f = same
+pub one_claim_paragraphs : OneAnswer claim-paragraphs.Learnt
+one_claim_paragraphs κs a y z e f = same
 
-pub one-claim : OneAnswer claim.Learnt
-one-claim κs a y z e f = same
+pub one_claim : OneAnswer claim.Learnt
+one_claim κs a y z e f = same
 
-pub one-least-owner : OneAnswer least-owner.Learnt
-one-least-owner κs a y z e f = same
+pub one_least_owner : OneAnswer least-owner.Learnt
+one_least_owner κs a y z e f = same

@@ -2,8 +2,8 @@
 // places"). A line claims its places; of those that a later one claims the least owner tells with whom it shares.
 ghost use Rattle.std.specs.Prelude.{◌≡◌, []};
 ghost use Rattle.basics.specs.Tables.{table};
-ghost use Rattle.places.specs.Limits.{paragraphs, flipEntries};
-ghost use Rattle.owners.specs.Owners.{claimsParagraph, claimsPage, only, or_else, ownersOf, claimedBy, claimedBoth, lesser, leastOf, owned_by, leastOwner};
+ghost use Rattle.places.specs.Limits.{paragraphs, flip_entries};
+ghost use Rattle.owners.specs.Owners.{claims_paragraph, claims_page, only, or_else, owners_of, claimed_by, claimed_both, lesser, least_of, owned_by, least_owner};
 
 use basics::both;
 use lines::{Entry, Line};
@@ -18,7 +18,7 @@ pub struct Owners {
 
 // Before any line.
 pub fn no_owners() -> Owners
-    ensures { result ≡ ownersOf [] }
+    ensures { result ≡ owners_of [] }
 {
     let paragraphs = [0u32; PARAGRAPHS];
     let pages = [0u32; FLIP_ENTRIES];
@@ -27,14 +27,14 @@ pub fn no_owners() -> Owners
 
 // Whether an entry claims a paragraph; whether it claims page y of chapter x, n = 16x + y.
 fn claims_paragraph(p: u8, e: Entry) -> bool
-    ensures { result ≡ claimsParagraph p e }
+    ensures { result ≡ claims_paragraph p e }
 {
     let at = Console((PARAGRAPH_SIZE * p as usize) as u16);
     both(lines::layer_of(e) == 0, lines::holds(e, at))
 }
 
 fn claims_page(n: u8, e: Entry) -> bool
-    ensures { result ≡ claimsPage n e }
+    ensures { result ≡ claims_page n e }
 {
     let i = n as usize;
     let from = lines::first_of(e);
@@ -71,7 +71,7 @@ fn lesser(m: u32, n: u32) -> u32
 
 // The paragraphs, and the pages, after an entry has claimed its own under a number.
 pub fn claim_paragraphs(owners: &[u32; PARAGRAPHS], e: Entry, number: u32) -> [u32; PARAGRAPHS]
-    ensures { result ≡ table paragraphs (claimedBy claimsParagraph owners.now e number) }
+    ensures { result ≡ table paragraphs (claimed_by claims_paragraph owners.now e number) }
 {
     let mut claimed = [0u32; PARAGRAPHS];
     let mut p = 0;
@@ -83,7 +83,7 @@ pub fn claim_paragraphs(owners: &[u32; PARAGRAPHS], e: Entry, number: u32) -> [u
 }
 
 fn claim_pages(owners: &[u32; FLIP_ENTRIES], e: Entry, number: u32) -> [u32; FLIP_ENTRIES]
-    ensures { result ≡ table flipEntries (claimedBy claimsPage owners.now e number) }
+    ensures { result ≡ table flip_entries (claimed_by claims_page owners.now e number) }
 {
     let mut claimed = [0u32; FLIP_ENTRIES];
     let mut n = 0;
@@ -96,7 +96,7 @@ fn claim_pages(owners: &[u32; FLIP_ENTRIES], e: Entry, number: u32) -> [u32; FLI
 
 // The owners after one more line.
 pub fn claim(owners: Owners, l: Line) -> Owners
-    ensures { result ≡ claimedBoth owners l }
+    ensures { result ≡ claimed_both owners l }
 {
     let e = l.entry;
     let paragraphs = claim_paragraphs(&owners.paragraphs, e, l.source);
@@ -106,7 +106,7 @@ pub fn claim(owners: Owners, l: Line) -> Owners
 
 // The least owner of the paragraphs, and of the pages, that an entry claims; and of all of them.
 fn least_paragraph(owners: &[u32; PARAGRAPHS], e: Entry) -> u32
-    ensures { result ≡ leastOf paragraphs (owned_by claimsParagraph owners.now e) }
+    ensures { result ≡ least_of paragraphs (owned_by claims_paragraph owners.now e) }
 {
     let mut r = 0;
     let mut p = 0;
@@ -118,7 +118,7 @@ fn least_paragraph(owners: &[u32; PARAGRAPHS], e: Entry) -> u32
 }
 
 fn least_page(owners: &[u32; FLIP_ENTRIES], e: Entry) -> u32
-    ensures { result ≡ leastOf flipEntries (owned_by claimsPage owners.now e) }
+    ensures { result ≡ least_of flip_entries (owned_by claims_page owners.now e) }
 {
     let mut r = 0;
     let mut n = 0;
@@ -130,7 +130,7 @@ fn least_page(owners: &[u32; FLIP_ENTRIES], e: Entry) -> u32
 }
 
 pub fn least_owner(owners: Owners, e: Entry) -> u32
-    ensures { result ≡ leastOwner owners e }
+    ensures { result ≡ least_owner owners e }
 {
     lesser(
         least_paragraph(&owners.paragraphs, e),

@@ -3,5 +3,5 @@ use Rattle.basics.specs.Same.{OneAnswer}
 use Rattle.basics.specs.Laws.Same.{same}
 use Rattle.places.proofs.lent_words.Reads as lent-words
 
-pub one-lent-words : OneAnswer lent-words.Learnt
-one-lent-words κs a y z e f p q = same p.0 q.0
+pub one_lent_words : OneAnswer lent-words.Learnt
+one_lent_words κs a y z e f p q = same p.0 q.0

@@ -11,8 +11,8 @@ console a = record { 0 = a }
 abbrev pub locutus : ℕ → Locutus
 locutus l = record { 0 = l }
 
-abbrev pub binWord : ℕ → BinWord
-binWord w = record { 0 = w }
+abbrev pub bin_word : ℕ → BinWord
+bin_word w = record { 0 = w }
 
 abbrev pub page : ℕ → Page
 page y = record { 0 = y }

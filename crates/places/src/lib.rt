@@ -1,7 +1,7 @@
 // The three numberings of 01 ("What the cartridge desk gets"), and every number of 01. No function here turns one numbering
 // into another, and none adds two of them: only the cartridge's mapping and the builder's layout convert.
 ghost use Rattle.std.specs.Prelude.{◌≡◌, ◌≤◌, length};
-ghost use Rattle.places.specs.Limits.{lent, lentLimit};
+ghost use Rattle.places.specs.Limits.{lent, lent_limit};
 
 // An address as the console puts it on the bus.
 #[derive(Drop)]

@@ -2,11 +2,11 @@
 -- each page (01, What a CFG may say).
 use Rattle.std.specs.Prelude.{ℕ, ◌+◌, ◌-◌, Bool, not, ◌&&◌, ◌||◌, eqb}
 use Rattle.basics.specs.Counts.{count}
-use Rattle.places.specs.Limits.{paragraphs, flipEntries}
-use Rattle.plan.specs.Plan.{Plan, kinds, hasPage}
+use Rattle.places.specs.Limits.{paragraphs, flip_entries}
+use Rattle.plan.specs.Plan.{Plan, kinds, has_page}
 
 unfoldable pub starts : (ℕ → ℕ) → ℕ → Bool
 starts kind p = not (eqb (kind p) 0) && (eqb p 0 || not (eqb (kind (p - 1)) (kind p)))
 
 unfoldable pub fewest : Plan → ℕ
-fewest q = count (starts (kinds q)) paragraphs + count (hasPage q) flipEntries
+fewest q = count (starts (kinds q)) paragraphs + count (has_page q) flip_entries

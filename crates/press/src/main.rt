@@ -2,8 +2,8 @@
 // the desk reads: `result=built` with the image's length and the words of RAM that it needs, `result=refused` with number and place,
 // or `result=stopped` with the file and the reason.
 ghost use Rattle.std.specs.Prelude.{◌≡◌, length, ◌+◌};
-ghost use Rattle.places.specs.Limits.{binLimit, cfgLimit, imageLimit};
-ghost use Rattle.blocks.specs.Blocks.{payloadLimit};
+ghost use Rattle.places.specs.Limits.{bin_limit, cfg_limit, image_limit};
+ghost use Rattle.blocks.specs.Blocks.{payload_limit};
 
 use blocks::PAYLOAD_LIMIT;
 use build::Building;
@@ -19,25 +19,25 @@ const CFG_ROOM: usize = CFG_LIMIT + 1;
 const LABEL_ROOM: usize = PAYLOAD_LIMIT + 1;
 
 fn bin_room() -> [u8; BIN_ROOM]
-    ensures { binLimit + 1 ≡ length result }
+    ensures { bin_limit + 1 ≡ length result }
 {
     [0; BIN_ROOM]
 }
 
 fn cfg_room() -> [u8; CFG_ROOM]
-    ensures { cfgLimit + 1 ≡ length result }
+    ensures { cfg_limit + 1 ≡ length result }
 {
     [0; CFG_ROOM]
 }
 
 fn label_room() -> [u8; LABEL_ROOM]
-    ensures { payloadLimit + 1 ≡ length result }
+    ensures { payload_limit + 1 ≡ length result }
 {
     [0; LABEL_ROOM]
 }
 
 fn image_room() -> [u8; IMAGE_LIMIT]
-    ensures { imageLimit ≡ length result }
+    ensures { image_limit ≡ length result }
 {
     [0; IMAGE_LIMIT]
 }

@@ -3,5 +3,5 @@ use Rattle.basics.specs.Same.{OneAnswer}
 use Rattle.basics.specs.Laws.Same.{same}
 use Rattle.print.proofs.text_of.Reads as text_of
 
-pub one-text-of : OneAnswer text_of.Learnt
-one-text-of κs a y z e f = same
+pub one_text_of : OneAnswer text_of.Learnt
+one_text_of κs a y z e f = same

@@ -5,20 +5,20 @@ use Rattle.text.specs.Bytes.{lf, text}
 use Rattle.lines.specs.declared.Entry.{Entry}
 use Rattle.lines.specs.declared.Entry.TheVariants.{Paged, Ram, Rom}
 use Rattle.lines.specs.declared.Line.{Line}
-use Rattle.grammar.specs.Print.{entryText}
+use Rattle.grammar.specs.Print.{entry_text}
 
-abbrev pub lineText : List ℕ → List ℕ
-lineText x = x ++ (lf ∷ [])
+abbrev pub line_text : List ℕ → List ℕ
+line_text x = x ++ (lf ∷ [])
 
-abbrev pub entryLine : Entry → List ℕ
-entryLine e = lineText (entryText e)
+abbrev pub entry_line : Entry → List ℕ
+entry_line e = line_text (entry_text e)
 
-abbrev pub sectionText : List ℕ → List Entry → List ℕ
-sectionText name [] = []
-sectionText name (e ∷ es) = lineText name ++ joined entryLine (e ∷ es)
+abbrev pub section_text : List ℕ → List Entry → List ℕ
+section_text name [] = []
+section_text name (e ∷ es) = line_text name ++ joined entry_line (e ∷ es)
 
-unfoldable pub cfgText : List Entry → List Entry → List ℕ
-cfgText mapping memattr = sectionText (text "[mapping]") mapping ++ sectionText (text "[memattr]") memattr
+unfoldable pub cfg_text : List Entry → List Entry → List ℕ
+cfg_text mapping memattr = section_text (text "[mapping]") mapping ++ section_text (text "[memattr]") memattr
 
 -- entries that a section's lines can say: offsets have five digits, addresses four, a page one
 abbrev pub InMapping : Entry → Type 0
@@ -37,9 +37,9 @@ numbered n [] = []
 numbered n (e ∷ es) = record { source = n; entry = e } ∷ numbered (n + 1) es
 
 -- the line that names [memattr], and the lines of all entries
-abbrev pub memattrAt : List Entry → ℕ
-memattrAt [] = 1
-memattrAt (e ∷ es) = 2 + length (e ∷ es)
+abbrev pub memattr_at : List Entry → ℕ
+memattr_at [] = 1
+memattr_at (e ∷ es) = 2 + length (e ∷ es)
 
-abbrev pub linesIn : List Entry → List Entry → List Line
-linesIn mapping memattr = numbered 2 mapping ++ numbered (1 + memattrAt mapping) memattr
+abbrev pub lines_in : List Entry → List Entry → List Line
+lines_in mapping memattr = numbered 2 mapping ++ numbered (1 + memattr_at mapping) memattr

@@ -2,9 +2,9 @@
 ghost use Rattle.std.specs.Prelude.{◌≡◌, ◌%◌};
 ghost use Rattle.lines.specs.declared.Width.TheVariants.{Sixteen, Eight};
 ghost use Rattle.grammar.specs.Grammar.{rom, paged, ram};
-ghost use Rattle.grammar.specs.Print.{entryText};
-ghost use Rattle.print.specs.Cfg.{entryLine};
-ghost use Rattle.print.specs.Code.Texts.{digitsOf, filled, padded, ramFront, text_of};
+ghost use Rattle.grammar.specs.Print.{entry_text};
+ghost use Rattle.print.specs.Cfg.{entry_line};
+ghost use Rattle.print.specs.Code.Texts.{digits_of, filled, padded, ram_front, text_of};
 
 use lines::{Entry, Width};
 
@@ -29,7 +29,7 @@ pub struct Digits {
 }
 
 fn hex_of(n: u32) -> Digits
-    ensures { result ≡ digitsOf n }
+    ensures { result ≡ digits_of n }
 {
     Digits {
         a: text::upper_digit(n / 65536),
@@ -42,7 +42,7 @@ fn hex_of(n: u32) -> Digits
 
 // `$lo - $hi = $addr`, and zeros behind it.
 fn rom_front(lo: u32, hi: u32, at: u32) -> [u8; TEXT_SIZE]
-    ensures { result ≡ filled (entryText (rom lo hi at)) }
+    ensures { result ≡ filled (entry_text (rom lo hi at)) }
 {
     let l = hex_of(lo);
     let h = hex_of(hi);
@@ -54,7 +54,7 @@ fn rom_front(lo: u32, hi: u32, at: u32) -> [u8; TEXT_SIZE]
 }
 
 fn rom_text(lo: u32, hi: u32, at: u32) -> Text
-    ensures { result ≡ padded (entryLine (rom lo hi at)) }
+    ensures { result ≡ padded (entry_line (rom lo hi at)) }
 {
     let mut bytes = rom_front(lo, hi, at);
     bytes[23] = b'\n';
@@ -66,7 +66,7 @@ fn rom_text(lo: u32, hi: u32, at: u32) -> Text
 
 // `$lo - $hi = $addr PAGE d`
 fn paged_text(lo: u32, hi: u32, at: u32, y: u32) -> Text
-    ensures { result ≡ padded (entryLine (paged lo hi at (y % 16))) }
+    ensures { result ≡ padded (entry_line (paged lo hi at (y % 16))) }
 {
     let mut bytes = rom_front(lo, hi, at);
     bytes[23] = b' ';
@@ -85,7 +85,7 @@ fn paged_text(lo: u32, hi: u32, at: u32, y: u32) -> Text
 
 // `$lo - $hi = RAM ` and zeros behind it.
 fn ram_front(lo: u32, hi: u32) -> [u8; TEXT_SIZE]
-    ensures { result ≡ filled (ramFront lo hi) }
+    ensures { result ≡ filled (ram_front lo hi) }
 {
     let l = hex_of(lo);
     let h = hex_of(hi);
@@ -97,7 +97,7 @@ fn ram_front(lo: u32, hi: u32) -> [u8; TEXT_SIZE]
 
 // `$lo - $hi = RAM 16`
 fn ram_16_text(lo: u32, hi: u32) -> Text
-    ensures { result ≡ padded (entryLine (ram lo hi Sixteen)) }
+    ensures { result ≡ padded (entry_line (ram lo hi Sixteen)) }
 {
     let mut bytes = ram_front(lo, hi);
     bytes[20] = b'1';
@@ -111,7 +111,7 @@ fn ram_16_text(lo: u32, hi: u32) -> Text
 
 // `$lo - $hi = RAM 8`
 fn ram_8_text(lo: u32, hi: u32) -> Text
-    ensures { result ≡ padded (entryLine (ram lo hi Eight)) }
+    ensures { result ≡ padded (entry_line (ram lo hi Eight)) }
 {
     let mut bytes = ram_front(lo, hi);
     bytes[20] = b'8';

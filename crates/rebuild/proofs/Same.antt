@@ -3,5 +3,5 @@ use Rattle.basics.specs.Same.{OneAnswer}
 use Rattle.basics.specs.Laws.Same.{same}
 use Rattle.rebuild.proofs.retrace_image.Reads as retrace-image
 
-pub one-retrace-image : OneAnswer retrace-image.Learnt
-one-retrace-image κs a y z e f = same
+pub one_retrace_image : OneAnswer retrace-image.Learnt
+one_retrace_image κs a y z e f = same

@@ -1,13 +1,13 @@
 // What is compared: tables entry by entry, named words with the paragraphs that a drawing covers, RAM with zeros.
 ghost use Rattle.std.specs.Prelude.{◌<◌, ◌≡◌, ◌||◌, cond, not};
 ghost use Rattle.basics.specs.Tables.{table};
-ghost use Rattle.places.specs.Limits.{flipEntries, locutusParagraphs, paragraphs};
-ghost use Rattle.plan.specs.Image.{ramCoveredOf};
-ghost use Rattle.canon.specs.Made.{blankIn};
-ghost use Rattle.ledger.specs.Held.{planIn, words_in};
-ghost use Rattle.retrace.specs.Code.Named.{named_in, wordNamed};
-ghost use Rattle.rebuild.specs.Fits.{agree, ramFits};
-ghost use Rattle.rebuild.specs.Code.Retraced.{marksFit, unnamedIn};
+ghost use Rattle.places.specs.Limits.{flip_entries, locutus_paragraphs, paragraphs};
+ghost use Rattle.plan.specs.Image.{ram_covered_of};
+ghost use Rattle.canon.specs.Made.{blank_in};
+ghost use Rattle.ledger.specs.Held.{plan_in, words_in};
+ghost use Rattle.retrace.specs.Code.Named.{named_in, word_named};
+ghost use Rattle.rebuild.specs.Fits.{agree, ram_fits};
+ghost use Rattle.rebuild.specs.Code.Retraced.{marks_fit, unnamed_in};
 
 use basics::both;
 use ledger::{holds_ram, word_of};
@@ -40,8 +40,8 @@ pub(crate) fn agree_bytes(a: &[u8; PARAGRAPHS], b: &[u8; PARAGRAPHS]) -> bool
 
 // No word of paragraph p is named: two RAMs hold none alike.
 fn is_unnamed(zeros: &[u16], ones: &[u16], p: usize) -> bool
-    requires { p < locutusParagraphs }
-    ensures { result ≡ unnamedIn zeros.now ones.now p }
+    requires { p < locutus_paragraphs }
+    ensures { result ≡ unnamed_in zeros.now ones.now p }
 {
     let mut r = true;
     let mut i = 0;
@@ -55,8 +55,8 @@ fn is_unnamed(zeros: &[u16], ones: &[u16], p: usize) -> bool
 
 // A paragraph that is drawn is named, whole; of any other no word is.
 fn paragraph_fits(zeros: &[u16], ones: &[u16], named: bool, drawn: bool, p: usize) -> bool
-    requires { p < locutusParagraphs }
-    ensures { result ≡ cond drawn named (unnamedIn zeros.now ones.now p) }
+    requires { p < locutus_paragraphs }
+    ensures { result ≡ cond drawn named (unnamed_in zeros.now ones.now p) }
 {
     if drawn {
         return named;
@@ -71,8 +71,8 @@ pub(crate) fn names_fit(
     named: &[bool; LOCUTUS_PARAGRAPHS],
     drawn: &[bool; LOCUTUS_PARAGRAPHS],
 ) -> bool
-    requires { named.now ≡ table locutusParagraphs (named_in zeros.now ones.now) }
-    ensures { result ≡ marksFit drawn.now (wordNamed zeros.now ones.now) }
+    requires { named.now ≡ table locutus_paragraphs (named_in zeros.now ones.now) }
+    ensures { result ≡ marks_fit drawn.now (word_named zeros.now ones.now) }
 {
     let mut r = true;
     let mut p = 0;
@@ -85,8 +85,8 @@ pub(crate) fn names_fit(
 
 // The words of paragraph p are zeros.
 fn is_blank(ram: &[u16], p: usize) -> bool
-    requires { p < locutusParagraphs }
-    ensures { result ≡ blankIn (words_in ram.now) p }
+    requires { p < locutus_paragraphs }
+    ensures { result ≡ blank_in (words_in ram.now) p }
 {
     let mut r = true;
     let mut i = 0;
@@ -104,8 +104,8 @@ fn ram_fits_at(
     ram: &[u16],
     p: usize,
 ) -> bool
-    requires { p < locutusParagraphs }
-    ensures { result ≡ (not (ramCoveredOf (planIn kinds.now pages.now) p) || blankIn (words_in ram.now) p) }
+    requires { p < locutus_paragraphs }
+    ensures { result ≡ (not (ram_covered_of (plan_in kinds.now pages.now) p) || blank_in (words_in ram.now) p) }
 {
     if !holds_ram(kinds, pages, p) {
         return true;
@@ -115,7 +115,7 @@ fn ram_fits_at(
 
 // The plan's RAM is all zeros.
 pub(crate) fn ram_fits(kinds: &[u8; PARAGRAPHS], pages: &[bool; FLIP_ENTRIES], ram: &[u16]) -> bool
-    ensures { result ≡ ramFits (planIn kinds.now pages.now) (words_in ram.now) }
+    ensures { result ≡ ram_fits (plan_in kinds.now pages.now) (words_in ram.now) }
 {
     let mut r = true;
     let mut p = 0;

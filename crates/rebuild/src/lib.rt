@@ -4,12 +4,12 @@ mod compare;
 
 ghost use Rattle.std.specs.Prelude.{◌*◌, ◌≡◌, leb, length};
 ghost use Rattle.basics.specs.Tables.{table};
-ghost use Rattle.places.specs.Limits.{flipEntries, lentLimit, locutusParagraphs, pageSize, paragraphs};
+ghost use Rattle.places.specs.Limits.{flip_entries, lent_limit, locutus_paragraphs, page_size, paragraphs};
 ghost use Rattle.tables.specs.Tables.{tables};
-ghost use Rattle.retrace.specs.Code.Named.{named_in, wordNamed};
-ghost use Rattle.ledger.specs.Code.Lists.{listingOf};
-ghost use Rattle.ledger.specs.Held.{planIn, words_in};
-ghost use Rattle.rebuild.specs.Code.Retraced.{drawingFits, listingFits, retracedOf};
+ghost use Rattle.retrace.specs.Code.Named.{named_in, word_named};
+ghost use Rattle.ledger.specs.Code.Lists.{listing_of};
+ghost use Rattle.ledger.specs.Held.{plan_in, words_in};
+ghost use Rattle.rebuild.specs.Code.Retraced.{drawing_fits, listing_fits, retraced_of};
 
 use basics::both;
 use compare::{agree_bytes, agree_words, names_fit, ram_fits};
@@ -28,7 +28,7 @@ pub struct Retraced {
 
 // So many pages as Locutus has.
 fn pages_fit(pages: u16) -> bool
-    ensures { result ≡ leb (pageSize * pages) lentLimit }
+    ensures { result ≡ leb (page_size * pages) lent_limit }
 {
     PAGE_SIZE * pages as usize <= LENT_LIMIT
 }
@@ -43,8 +43,8 @@ fn drawing_fits(
     ones: &[u16],
     named: &[bool; LOCUTUS_PARAGRAPHS],
 ) -> bool
-    requires { named.now ≡ table locutusParagraphs (named_in zeros.now ones.now) }
-    ensures { result ≡ drawingFits d (tables mapping.now permissions.now flips.now) (wordNamed zeros.now ones.now) }
+    requires { named.now ≡ table locutus_paragraphs (named_in zeros.now ones.now) }
+    ensures { result ≡ drawing_fits d (tables mapping.now permissions.now flips.now) (word_named zeros.now ones.now) }
 {
     let m = d.mapping;
     let p = d.permissions;
@@ -71,8 +71,8 @@ fn listing_fits(
     ones: &[u16],
     named: &[bool; LOCUTUS_PARAGRAPHS],
 ) -> bool
-    requires { named.now ≡ table locutusParagraphs (named_in zeros.now ones.now) }
-    ensures { result ≡ listingFits l (planIn s.kinds s.pages) (tables mapping.now permissions.now flips.now) (wordNamed zeros.now ones.now) (words_in zeros.now) }
+    requires { named.now ≡ table locutus_paragraphs (named_in zeros.now ones.now) }
+    ensures { result ≡ listing_fits l (plan_in s.kinds s.pages) (tables mapping.now permissions.now flips.now) (word_named zeros.now ones.now) (words_in zeros.now) }
 {
     let n = l.count;
     if n == 0 {
@@ -93,7 +93,7 @@ fn listing_fits(
 
 // The canonical lines of a plan.
 fn listing_of(s: Sketch) -> Listing
-    ensures { result ≡ listingOf (planIn s.kinds s.pages) }
+    ensures { result ≡ listing_of (plan_in s.kinds s.pages) }
 {
     let kinds = s.kinds;
     let pages = s.pages;
@@ -107,8 +107,8 @@ fn retrace_tables(
     zeros: &[u16],
     ones: &[u16],
 ) -> Retraced
-    requires { (length permissions.now ≡ paragraphs) × (length flips.now ≡ flipEntries) }
-    ensures { result ≡ retracedOf (tables mapping.now permissions.now flips.now) zeros.now ones.now }
+    requires { (length permissions.now ≡ paragraphs) × (length flips.now ≡ flip_entries) }
+    ensures { result ≡ retraced_of (tables mapping.now permissions.now flips.now) zeros.now ones.now }
 {
     let named = marks_of(zeros, ones);
     let s = plan_behind(permissions, flips, &named);
@@ -129,7 +129,7 @@ pub fn retrace_image(
     zeros: &[u16],
     ones: &[u16],
 ) -> Retraced
-    ensures { result ≡ retracedOf (tables mapping permissions flips) zeros.now ones.now }
+    ensures { result ≡ retraced_of (tables mapping permissions flips) zeros.now ones.now }
 {
     retrace_tables(&mapping, &permissions, &flips, zeros, ones)
 }

@@ -10,49 +10,49 @@ use lib.ListN.{length, take, drop, set, length-append}
 use lib.Seq.{length-take-le, set_out}
 use lib.Dec.{ltb}
 use Rattle.basics.specs.declared.Refusal.{Refusal}
-use Rattle.basics.specs.Lists.{part, flat, putFront}
+use Rattle.basics.specs.Lists.{part, flat, put_front}
 use Rattle.basics.specs.Rows.{Silent}
-use Rattle.basics.specs.Refusals.{refuse, noRefusal, firstRefusal, passes}
+use Rattle.basics.specs.Refusals.{refuse, no_refusal, first_refusal, passes}
 use Rattle.basics.specs.Laws.Tests.{cases}
-use Rattle.basics.specs.Laws.Refusals.{refused-front, silent-behind}
-use Rattle.basics.specs.Laws.Wrote.{Wrote, wrote_none, wrote-set, wrote-part}
-use Rattle.basics.specs.Laws.Puts.{put-short, put-wrote, wrote-put}
-use Rattle.places.specs.Limits.{imageLimit, cardLimit}
-use Rattle.header.specs.Header.{headerSize, headerRows, headerRefusal}
-use Rattle.header.specs.Laws.Refusals.{header-accepted, accepted-length}
-use Rattle.blocks.specs.Blocks.{frameSize}
-use Rattle.blocks.specs.Images.{firstBlock, blocksIn}
+use Rattle.basics.specs.Laws.Refusals.{refused_front, silent_behind}
+use Rattle.basics.specs.Laws.Wrote.{Wrote, wrote_none, wrote_set, wrote_part}
+use Rattle.basics.specs.Laws.Puts.{put_short, put_wrote, wrote_put}
+use Rattle.places.specs.Limits.{image_limit, card_limit}
+use Rattle.header.specs.Header.{header_size, header_rows, header_refusal}
+use Rattle.header.specs.Laws.Refusals.{header_accepted, accepted_length}
+use Rattle.blocks.specs.Blocks.{frame_size}
+use Rattle.blocks.specs.Images.{first_block, blocks_in}
 use Rattle.recovery.specs.declared.Found.{Found}
 use Rattle.recovery.specs.declared.Verdict.{Verdict}
 use Rattle.recovery.specs.declared.Verdict.TheVariants.{Refused, Goes}
 use Rattle.recovery.specs.declared.Salvaging.{Salvaging}
-use Rattle.recovery.specs.Salvage.{keptIn, closing, closed, salvageOf, blocksRows, imageRefusal, refusalOf, refused, fitted, salvagingOf, written_of}
-use Rattle.recovery.specs.Card.{answer_of, answeredOf}
-use Rattle.recovery.specs.Laws.Closed.{closed_is, length-closed}
-use Rattle.recovery.specs.Laws.Salvage.{salvage-is}
-use Rattle.recovery.specs.Laws.Refusals.{image-first, image-passed}
-use Rattle.recovery.specs.Code.Passes.{closedSize, endPut, foundOf, surveyOf, Noted}
+use Rattle.recovery.specs.Salvage.{kept_in, closing, closed, salvage_of, blocks_rows, image_refusal, refusal_of, refused, fitted, salvaging_of, written_of}
+use Rattle.recovery.specs.Card.{answer_of, answered_of}
+use Rattle.recovery.specs.Laws.Closed.{closed_is, length_closed}
+use Rattle.recovery.specs.Laws.Salvage.{salvage_is}
+use Rattle.recovery.specs.Laws.Refusals.{image_first, image_passed}
+use Rattle.recovery.specs.Code.Passes.{closed_size, end_put, found_of, survey_of, Noted}
 
 -- ---- the buffer
 
 module _ (n : ℕ) where
-  pub size-one : n < imageLimit → n + 1 ≡ closedSize n
+  pub size-one : n < image_limit → n + 1 ≡ closed_size n
   size-one h = rw (lt-ltb _ _ h)
 
-  pub size_none : imageLimit ≤ n → n ≡ closedSize n
+  pub size_none : image_limit ≤ n → n ≡ closed_size n
   size_none h = rw (le-ltb _ _ h) (omega arith)
 
 module _ (n : ℕ) (out : List ℕ) where
-  pub end-full : imageLimit ≤ n → out ≡ endPut n out
-  unfolding endPut
+  pub end-full : image_limit ≤ n → out ≡ end_put n out
+  unfolding end_put
   end-full h = rw (le-ltb _ _ h)
 
-  pub end-here : n < imageLimit → set out n 0xFF ≡ endPut n out
-  unfolding endPut
+  pub end-here : n < image_limit → set out n 0xFF ≡ end_put n out
+  unfolding end_put
   end-here h = rw (lt-ltb _ _ h)
 
-  pub end-past : n < imageLimit → length out ≤ n → out ≡ endPut n out
-  unfolding endPut
+  pub end-past : n < image_limit → length out ≤ n → out ≡ end_put n out
+  unfolding end_put
   end-past h k = rw (lt-ltb _ _ h) (sym (set_out out n 0xFF k))
 
 pub ruleset ends = (end-full, end-here, end-past)
@@ -60,171 +60,171 @@ pub ruleset ends = (end-full, end-here, end-past)
 pub note-past : (l : List ℕ) (n p : ℕ) → length l ≤ n → l ≡ set l n p
 note-past l n p h = sym (set_out l n p h)
 
-module _ (s out : List ℕ) (long : ℕ) (enough : headerSize ≤ length s) (el : long ≡ firstBlock + length (flat (keptIn s))) where
-  header-long : length (take headerSize s) ≡ 32
-  header-long = length-take-le headerSize s enough
+module _ (s out : List ℕ) (long : ℕ) (enough : header_size ≤ length s) (el : long ≡ first_block + length (flat (kept_in s))) where
+  header_long : length (take header_size s) ≡ 32
+  header_long = length-take-le header_size s enough
 
-  parts : take headerSize s ++ (flat (keptIn s) ++ closing long) ≡ salvageOf s
-  parts = rw el (sym (salvage-is s ∙ closed_is (take headerSize s) (keptIn s) header-long))
+  parts : take header_size s ++ (flat (kept_in s) ++ closing long) ≡ salvage_of s
+  parts = rw el (sym (salvage_is s ∙ closed_is (take header_size s) (kept_in s) header_long))
 
-  module _ (room : closedSize long ≤ length out) (y₁ y₂ : List ℕ) (e₁ : y₁ ≡ putFront (part s 0 32) (take (32 - 0) (drop 0 out))) (e₂ : y₂ ≡ flat (keptIn s)) where
+  module _ (room : closed_size long ≤ length out) (y₁ y₂ : List ℕ) (e₁ : y₁ ≡ put_front (part s 0 32) (take (32 - 0) (drop 0 out))) (e₂ : y₂ ≡ flat (kept_in s)) where
     abbrev after : List ℕ
     after = put_mid 32 (long - 32) (put_mid 0 (32 - 0) out y₁) y₂
 
-    two-parts : Wrote out after (take headerSize s ++ flat (keptIn s))
+    two-parts : Wrote out after (take header_size s ++ flat (kept_in s))
     two-parts =
-        let w : Wrote out (put_mid 0 (32 - 0) out y₁) (take headerSize s) =
-        wrote-put out out [] 0 (32 - 0) y₁ (take headerSize s) (wrote_none out) refl (sym header-long) (omega arith) e₁ in
-        wrote-part out _ (take headerSize s) 32 (long - 32) y₂ (flat (keptIn s)) w (sym header-long) (omega arith) (omega arith) e₂
+        let w : Wrote out (put_mid 0 (32 - 0) out y₁) (take header_size s) =
+        wrote_put out out [] 0 (32 - 0) y₁ (take header_size s) (wrote_none out) refl (sym header_long) (omega arith) e₁ in
+        wrote_part out _ (take header_size s) 32 (long - 32) y₂ (flat (kept_in s)) w (sym header_long) (omega arith) (omega arith) e₂
 
-    pub image-put : (last : List ℕ) → last ≡ endPut long after → last ≡ putFront (salvageOf s) out
-    unfolding endPut
+    pub image-put : (last : List ℕ) → last ≡ end_put long after → last ≡ put_front (salvage_of s) out
+    unfolding end_put
     image-put last ep =
-        let x : List ℕ = take headerSize s ++ flat (keptIn s) in
+        let x : List ℕ = take header_size s ++ flat (kept_in s) in
         ep
-        ∙ cases (ltb long imageLimit)
+        ∙ cases (ltb long image_limit)
         (λ c.
-        let h : long < imageLimit = ltb-true _ _ c in
-        let e : x ++ (0xFF ∷ []) ≡ salvageOf s = append_assoc (take headerSize s) (flat (keptIn s)) (0xFF ∷ []) ∙ (rw c at parts) in
-        let k : closedSize long ≡ long + 1 = sym (size-one long h) in
-        let l : long ≡ length x = sym (length-append (take headerSize s) (flat (keptIn s)) ∙ omega (arith, header-long)) in
-        rw c (put-wrote out _ (salvageOf s) (rw (← e) (wrote-set out after x long 0xFF 0xFF two-parts l (omega arith) refl))))
+        let h : long < image_limit = ltb-true _ _ c in
+        let e : x ++ (0xFF ∷ []) ≡ salvage_of s = append_assoc (take header_size s) (flat (kept_in s)) (0xFF ∷ []) ∙ (rw c at parts) in
+        let k : closed_size long ≡ long + 1 = sym (size-one long h) in
+        let l : long ≡ length x = sym (length-append (take header_size s) (flat (kept_in s)) ∙ omega (arith, header_long)) in
+        rw c (put_wrote out _ (salvage_of s) (rw (← e) (wrote_set out after x long 0xFF 0xFF two-parts l (omega arith) refl))))
         (λ c.
-        let e : x ≡ salvageOf s = ap (◌++◌ (take headerSize s)) (sym (append-nil (flat (keptIn s)))) ∙ (rw c at parts) in
-        rw c (put-wrote out after (salvageOf s) (rw (← e) two-parts)))
+        let e : x ≡ salvage_of s = ap (◌++◌ (take header_size s)) (sym (append-nil (flat (kept_in s)))) ∙ (rw c at parts) in
+        rw c (put_wrote out after (salvage_of s) (rw (← e) two-parts)))
 
 -- ---- the answer
 
-module _ (s : List ℕ) (enough : headerSize ≤ length s) (found : Found) (ef : found ≡ foundOf s) (n : ℕ) (en : n ≡ closedSize found.long) where
-  size_is : n ≡ length (salvageOf s)
+module _ (s : List ℕ) (enough : header_size ≤ length s) (found : Found) (ef : found ≡ found_of s) (n : ℕ) (en : n ≡ closed_size found.long) where
+  size_is : n ≡ length (salvage_of s)
   size_is =
-      en ∙ rw ef (sym (ap length (salvage-is s) ∙ length-closed (take headerSize s) (keptIn s) (length-take-le headerSize s enough)))
+      en ∙ rw ef (sym (ap length (salvage_is s) ∙ length_closed (take header_size s) (kept_in s) (length-take-le header_size s enough)))
 
   pub finish-short : (out : List ℕ) → length out < n → (r : Refusal) → r ≡ refuse 29 0 → (w : Salvaging) → w ≡ refused r n → w ≡ fitted (length out) s
   unfolding fitted
   finish-short out h r er w ew =
-      let k : length out < length (salvageOf s) = omega (arith, size_is) in
+      let k : length out < length (salvage_of s) = omega (arith, size_is) in
       ew ∙ rw (lt-ltb _ _ k, er, size_is)
 
-  pub finish-kept : (out : List ℕ) → length out < n → out ≡ putFront (salvageOf s) out
-  finish-kept out h = put-short (salvageOf s) out (omega (arith, size_is))
+  pub finish-kept : (out : List ℕ) → length out < n → out ≡ put_front (salvage_of s) out
+  finish-kept out h = put_short (salvage_of s) out (omega (arith, size_is))
 
-  pub finish-room : (out : List ℕ) → n ≤ length out → closedSize found.long ≤ length out
+  pub finish-room : (out : List ℕ) → n ≤ length out → closed_size found.long ≤ length out
   finish-room out h = omega (arith, en)
 
-  pub finish-long : found.long ≡ firstBlock + length (flat (keptIn s))
+  pub finish-long : found.long ≡ first_block + length (flat (kept_in s))
   finish-long = rw ef
 
-  pub finish-good : (out : List ℕ) → n ≤ length out → (r : Refusal) → r ≡ noRefusal
+  pub finish-good : (out : List ℕ) → n ≤ length out → (r : Refusal) → r ≡ no_refusal
       → record { refusal = r; length = n; kept = found.kept; dropped = found.dropped; stopped = found.stopped } ≡ fitted (length out) s
   unfolding fitted
   finish-good out h r er =
-      let k : length (salvageOf s) ≤ length out = omega (arith, size_is) in
+      let k : length (salvage_of s) ≤ length out = omega (arith, size_is) in
       rw (le-ltb _ _ k, er, size_is, ef)
 
 -- ---- the salvage
 
-refused-by : (out s : List ℕ) (r : Refusal) → (r.number ≡ 0 → ⊥) → imageRefusal s ≡ r → refused r 0 ≡ salvagingOf out s
-unfolding salvagingOf
-refused-by out s r n e = rw (e, ne_eqb _ _ n)
+refused_by : (out s : List ℕ) (r : Refusal) → (r.number ≡ 0 → ⊥) → image_refusal s ≡ r → refused r 0 ≡ salvaging_of out s
+unfolding salvaging_of
+refused_by out s r n e = rw (e, ne_eqb _ _ n)
 
-kept_by : (out s : List ℕ) (r : Refusal) → (r.number ≡ 0 → ⊥) → imageRefusal s ≡ r → out ≡ written_of out s
+kept_by : (out s : List ℕ) (r : Refusal) → (r.number ≡ 0 → ⊥) → image_refusal s ≡ r → out ≡ written_of out s
 unfolding written_of
 kept_by out s r n e =
-    let k : refusalOf out s ≡ r = image-first out s (λ z. n (ap (λ (q : Refusal). q.number) (sym e) ∙ z)) ∙ e in
+    let k : refusal_of out s ≡ r = image_first out s (λ z. n (ap (λ (q : Refusal). q.number) (sym e) ∙ z)) ∙ e in
     rw (k, ne_eqb _ _ n)
 
 -- 29 leaves the buffer, as a buffer with no room is left
-fitted-by : (out s : List ℕ) → (imageRefusal s).number ≡ 0 → putFront (salvageOf s) out ≡ written_of out s
+fitted-by : (out s : List ℕ) → (image_refusal s).number ≡ 0 → put_front (salvage_of s) out ≡ written_of out s
 unfolding written_of
 fitted-by out s e =
-    let k = image-passed out s e in
-    cases (ltb (length out) (length (salvageOf s)))
-    (λ l. let j : refusalOf out s ≡ refuse 29 0 = k ∙ rw l in rw j (sym (put-short (salvageOf s) out (ltb-true _ _ l))))
-    (λ l. let j : refusalOf out s ≡ noRefusal = k ∙ rw l in rw j)
+    let k = image_passed out s e in
+    cases (ltb (length out) (length (salvage_of s)))
+    (λ l. let j : refusal_of out s ≡ refuse 29 0 = k ∙ rw l in rw j (sym (put_short (salvage_of s) out (ltb-true _ _ l))))
+    (λ l. let j : refusal_of out s ≡ no_refusal = k ∙ rw l in rw j)
 
-module _ (out s : List ℕ) (h : Refusal) (eh : h ≡ headerRefusal s) where
+module _ (out s : List ℕ) (h : Refusal) (eh : h ≡ header_refusal s) where
   -- 1 to 4
   module _ (n : h.number ≡ 0 → ⊥) where
-    head-is : imageRefusal s ≡ h
-    unfolding imageRefusal
-    head-is = refused-front (headerRows s) _ (rw eh at n) ∙ sym eh
+    head-is : image_refusal s ≡ h
+    unfolding image_refusal
+    head-is = refused_front (header_rows s) _ (rw eh at n) ∙ sym eh
 
-    pub head-answers : (w : Salvaging) → w ≡ refused h 0 → w ≡ salvagingOf out s
-    head-answers w ew = ew ∙ refused-by out s h n head-is
+    pub head_answers : (w : Salvaging) → w ≡ refused h 0 → w ≡ salvaging_of out s
+    head_answers w ew = ew ∙ refused_by out s h n head-is
 
-    pub head-keeps : out ≡ written_of out s
-    head-keeps = kept_by out s h n head-is
+    pub head_keeps : out ≡ written_of out s
+    head_keeps = kept_by out s h n head-is
 
   module _ (zero : h.number ≡ 0) where
-    pub head-enough : headerSize ≤ length s
-    head-enough = (accepted-length s (rw eh at zero)).0
+    pub head-enough : header_size ≤ length s
+    head-enough = (accepted_length s (rw eh at zero)).0
 
-    pub head-room : (notes : List Bool) → length notes ≡ 262144 → length s ≤ frameSize * length notes
-    head-room notes l = omega (arith, (accepted-length s (rw eh at zero)).1)
+    pub head-room : (notes : List Bool) → length notes ≡ 262144 → length s ≤ frame_size * length notes
+    head-room notes l = omega (arith, (accepted_length s (rw eh at zero)).1)
 
-    behind-head : imageRefusal s ≡ firstRefusal (blocksRows s)
-    unfolding imageRefusal
-    behind-head = silent-behind (headerRows s) _ ((header-accepted s).0 (rw eh at zero))
+    behind-head : image_refusal s ≡ first_refusal (blocks_rows s)
+    unfolding image_refusal
+    behind-head = silent_behind (header_rows s) _ ((header_accepted s).0 (rw eh at zero))
 
-    module _ (v : Verdict) (ev : v ≡ surveyOf s) where
+    module _ (v : Verdict) (ev : v ≡ survey_of s) where
       -- of the blocks
-      denied : (r : Refusal) → v ≡ Refused r → (imageRefusal s ≡ r) × (r.number ≡ 0 → ⊥)
-      unfolding surveyOf
+      denied : (r : Refusal) → v ≡ Refused r → (image_refusal s ≡ r) × (r.number ≡ 0 → ⊥)
+      unfolding survey_of
       denied r e =
-          cases (passes (firstRefusal (blocksRows s)))
-          (λ p. let x : Goes (foundOf s) ≡ Refused r = rw p at (sym ev ∙ e) in let z : ◌≡◌ {A = ℕ} 0 1 = cc in absurd (omega arith))
+          cases (passes (first_refusal (blocks_rows s)))
+          (λ p. let x : Goes (found_of s) ≡ Refused r = rw p at (sym ev ∙ e) in let z : ◌≡◌ {A = ℕ} 0 1 = cc in absurd (omega arith))
           (λ p.
-          let x : Refused (firstRefusal (blocksRows s)) ≡ Refused r = rw p at (sym ev ∙ e) in
-          let y : firstRefusal (blocksRows s) ≡ r = cc in
+          let x : Refused (first_refusal (blocks_rows s)) ≡ Refused r = rw p at (sym ev ∙ e) in
+          let y : first_refusal (blocks_rows s) ≡ r = cc in
           (behind-head ∙ y, λ z. eqb-false _ _ p (ap (λ (q : Refusal). q.number) y ∙ z)))
 
-      pub denied-answers : (r : Refusal) → v ≡ Refused r → (w : Salvaging) → w ≡ refused r 0 → w ≡ salvagingOf out s
-      denied-answers r e w ew = ew ∙ refused-by out s r (denied r e).1 (denied r e).0
+      pub denied-answers : (r : Refusal) → v ≡ Refused r → (w : Salvaging) → w ≡ refused r 0 → w ≡ salvaging_of out s
+      denied-answers r e w ew = ew ∙ refused_by out s r (denied r e).1 (denied r e).0
 
       pub denied-keeps : (r : Refusal) → v ≡ Refused r → out ≡ written_of out s
       denied-keeps r e = kept_by out s r (denied r e).1 (denied r e).0
 
       -- none
-      went : (found : Found) → v ≡ Goes found → ((imageRefusal s).number ≡ 0) × (found ≡ foundOf s)
-      unfolding surveyOf
+      went : (found : Found) → v ≡ Goes found → ((image_refusal s).number ≡ 0) × (found ≡ found_of s)
+      unfolding survey_of
       went found e =
-          cases (passes (firstRefusal (blocksRows s)))
+          cases (passes (first_refusal (blocks_rows s)))
           (λ p.
-          let x : Goes (foundOf s) ≡ Goes found = rw p at (sym ev ∙ e) in
-          let y : found ≡ foundOf s = cc in
+          let x : Goes (found_of s) ≡ Goes found = rw p at (sym ev ∙ e) in
+          let y : found ≡ found_of s = cc in
           (ap (λ (q : Refusal). q.number) behind-head ∙ eqb-true _ _ p, y))
-          (λ p. let x : Refused (firstRefusal (blocksRows s)) ≡ Goes found = rw p at (sym ev ∙ e) in let z : ◌≡◌ {A = ℕ} 0 1 = cc in absurd (omega arith))
+          (λ p. let x : Refused (first_refusal (blocks_rows s)) ≡ Goes found = rw p at (sym ev ∙ e) in let z : ◌≡◌ {A = ℕ} 0 1 = cc in absurd (omega arith))
 
-      pub went-found : (found : Found) → v ≡ Goes found → found ≡ foundOf s
+      pub went-found : (found : Found) → v ≡ Goes found → found ≡ found_of s
       went-found found e = (went found e).1
 
-      pub went-noted : (notes : List Bool) → ((f : Found) → v ≡ Goes f → Noted (blocksIn s) notes) → (found : Found) → v ≡ Goes found → Noted (blocksIn s) notes
+      pub went-noted : (notes : List Bool) → ((f : Found) → v ≡ Goes f → Noted (blocks_in s) notes) → (found : Found) → v ≡ Goes found → Noted (blocks_in s) notes
       went-noted notes n found e = n found e
 
-      pub went-answers : (found : Found) → v ≡ Goes found → (w : Salvaging) → w ≡ fitted (length out) s → w ≡ salvagingOf out s
-      unfolding salvagingOf
+      pub went-answers : (found : Found) → v ≡ Goes found → (w : Salvaging) → w ≡ fitted (length out) s → w ≡ salvaging_of out s
+      unfolding salvaging_of
       went-answers found e w ew = ew ∙ rw (eq-eqb _ _ (went found e).0)
 
-      pub went-written : (found : Found) → v ≡ Goes found → (after : List ℕ) → after ≡ putFront (salvageOf s) out → after ≡ written_of out s
+      pub went-written : (found : Found) → v ≡ Goes found → (after : List ℕ) → after ≡ put_front (salvage_of s) out → after ≡ written_of out s
       unfolding written_of
       went-written found e after ea = ea ∙ fitted-by out s (went found e).0
 
 -- ---- the program's
 
 module _ (out s : List ℕ) where
-  pub long-answers : cardLimit < length s → (r : Refusal) → r ≡ refuse 30 0 → (w : Salvaging) → w ≡ refused r 0 → w ≡ answer_of out s
+  pub long-answers : card_limit < length s → (r : Refusal) → r ≡ refuse 30 0 → (w : Salvaging) → w ≡ refused r 0 → w ≡ answer_of out s
   unfolding answer_of
   long-answers h r er w ew = ew ∙ rw (lt-ltb _ _ h, er)
 
-  pub long-keeps : cardLimit < length s → out ≡ answeredOf out s
-  unfolding answeredOf
+  pub long-keeps : card_limit < length s → out ≡ answered_of out s
+  unfolding answered_of
   long-keeps h = rw (lt-ltb _ _ h)
 
-  pub short-answers : length s ≤ cardLimit → (w : Salvaging) → w ≡ salvagingOf out s → w ≡ answer_of out s
+  pub short-answers : length s ≤ card_limit → (w : Salvaging) → w ≡ salvaging_of out s → w ≡ answer_of out s
   unfolding answer_of
   short-answers h w ew = ew ∙ rw (le-ltb _ _ h)
 
-  pub short-written : length s ≤ cardLimit → (after : List ℕ) → after ≡ written_of out s → after ≡ answeredOf out s
-  unfolding answeredOf
+  pub short-written : length s ≤ card_limit → (after : List ℕ) → after ≡ written_of out s → after ≡ answered_of out s
+  unfolding answered_of
   short-written h after ea = ea ∙ rw (le-ltb _ _ h)

@@ -5,20 +5,20 @@ use Rattle.recovery.proofs.salvage.Reads as salvage
 use Rattle.recovery.proofs.answer.Reads as answer
 use Rattle.recovery.proofs.drops.Reads as drops
 
-pub one-salvage : OneAnswer salvage.Learnt
-one-salvage κs a y z e f p q = same p.0 q.0
+pub one_salvage : OneAnswer salvage.Learnt
+one_salvage κs a y z e f p q = same p.0 q.0
 
-pub one-salvage-lent : OneLent salvage.Learnt (λ κs e. e.1.0.now)
-one-salvage-lent κs a y z e f p q = same p.1 q.1
+pub one_salvage_lent : OneLent salvage.Learnt (λ κs e. e.1.0.now)
+one_salvage_lent κs a y z e f p q = same p.1 q.1
 
 pub one_answer : OneAnswer answer.Learnt
 one_answer κs a y z e f p q = same p.0 q.0
 
-pub one-answer-lent : OneLent answer.Learnt (λ κs e. e.1.0.now)
-one-answer-lent κs a y z e f p q = same p.1 q.1
+pub one_answer_lent : OneLent answer.Learnt (λ κs e. e.1.0.now)
+one_answer_lent κs a y z e f p q = same p.1 q.1
 
-pub one-drops : OneAnswer drops.Learnt
-one-drops κs a y z e f p q = same p.0 q.0
+pub one_drops : OneAnswer drops.Learnt
+one_drops κs a y z e f p q = same p.0 q.0
 
-pub one-drops-lent : OneLent drops.Learnt (λ κs e. e.1.0.now)
-one-drops-lent κs a y z e f p q = same p.1 q.1
+pub one_drops_lent : OneLent drops.Learnt (λ κs e. e.1.0.now)
+one_drops_lent κs a y z e f p q = same p.1 q.1

@@ -3,15 +3,15 @@ use Rattle.std.specs.Prelude.{ℕ, List, ◌∷◌, cond, length, ltb}
 use Rattle.basics.specs.declared.Refusal.{Refusal}
 use Rattle.basics.specs.Rows.{Row}
 use Rattle.basics.specs.Refusals.{refuse}
-use Rattle.places.specs.Limits.{cardLimit}
+use Rattle.places.specs.Limits.{card_limit}
 use Rattle.recovery.specs.declared.Salvaging.{Salvaging}
-use Rattle.recovery.specs.Salvage.{refusalRows, refused, salvagingOf, written_of}
+use Rattle.recovery.specs.Salvage.{refusal_rows, refused, salvaging_of, written_of}
 
-abbrev pub cardRows : List ℕ → List ℕ → List (Row Refusal)
-cardRows out s = (ltb cardLimit (length s), refuse 30 0) ∷ refusalRows out s
+abbrev pub card_rows : List ℕ → List ℕ → List (Row Refusal)
+card_rows out s = (ltb card_limit (length s), refuse 30 0) ∷ refusal_rows out s
 
 unfoldable pub answer_of : List ℕ → List ℕ → Salvaging
-answer_of out s = cond (ltb cardLimit (length s)) (refused (refuse 30 0) 0) (salvagingOf out s)
+answer_of out s = cond (ltb card_limit (length s)) (refused (refuse 30 0) 0) (salvaging_of out s)
 
-unfoldable pub answeredOf : List ℕ → List ℕ → List ℕ
-answeredOf out s = cond (ltb cardLimit (length s)) out (written_of out s)
+unfoldable pub answered_of : List ℕ → List ℕ → List ℕ
+answered_of out s = cond (ltb card_limit (length s)) out (written_of out s)

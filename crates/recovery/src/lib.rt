@@ -1,19 +1,19 @@
 // Salvage of a damaged image: the walk of a load with other consequences (02, W-208). A pass that surveys, judges each block once, notes what is
 // left out and writes nothing, then one that copies by the notes.
 ghost use Rattle.std.specs.Prelude.{◌≡◌, ◌+◌, ◌*◌, ◌≤◌, length, set};
-ghost use Rattle.basics.specs.Lists.{flat, putFront};
-ghost use Rattle.places.specs.Limits.{lentLimit};
-ghost use Rattle.sums.specs.Crc.{c324Poly};
+ghost use Rattle.basics.specs.Lists.{flat, put_front};
+ghost use Rattle.places.specs.Limits.{lent_limit};
+ghost use Rattle.sums.specs.Crc.{c324_poly};
 ghost use Rattle.sums.specs.Tables.{tables_of};
-ghost use Rattle.header.specs.Header.{headerSize};
-ghost use Rattle.blocks.specs.Blocks.{frameSize, payloadIn};
-ghost use Rattle.blocks.specs.Images.{firstBlock, blocksIn};
-ghost use Rattle.load.specs.Code.Passes.{judgementOf};
-ghost use Rattle.recovery.specs.Salvage.{leftOut, keptIn, dropsIn, salvageOf, refused, fitted, salvagingOf, written_of, listedIn};
-ghost use Rattle.recovery.specs.Card.{answer_of, answeredOf};
+ghost use Rattle.header.specs.Header.{header_size};
+ghost use Rattle.blocks.specs.Blocks.{frame_size, payload_in};
+ghost use Rattle.blocks.specs.Images.{first_block, blocks_in};
+ghost use Rattle.load.specs.Code.Passes.{judgement_of};
+ghost use Rattle.recovery.specs.Salvage.{left_out, kept_in, drops_in, salvage_of, refused, fitted, salvaging_of, written_of, listed_in};
+ghost use Rattle.recovery.specs.Card.{answer_of, answered_of};
 ghost use Rattle.recovery.specs.declared.Found.{Found};
 ghost use Rattle.recovery.specs.declared.Verdict.TheVariants.{Goes};
-ghost use Rattle.recovery.specs.Code.Passes.{step_of, lateOf, lateAfter, endedBy, foundOf, surveyOf, Noted, closedSize, endPut};
+ghost use Rattle.recovery.specs.Code.Passes.{step_of, late_of, late_after, ended_by, found_of, survey_of, Noted, closed_size, end_put};
 
 use basics::Refusal;
 use blocks::{END_MARK, FIRST_BLOCK, FRAME_SIZE, Frame, HUNK_TYPE, Judged, TABLES_TYPE};
@@ -69,8 +69,8 @@ pub enum Verdict {
 
 // The load's judgement of the block x by itself, for the largest RAM: a place counts from its first byte.
 fn judge(x: &[u8], c324: &[u32; TABLE_ENTRIES], earlier: bool) -> Judged
-    requires { c324.now ≡ tables_of c324Poly }
-    ensures { result ≡ judgementOf lentLimit earlier 0 x.now }
+    requires { c324.now ≡ tables_of c324_poly }
+    ensures { result ≡ judgement_of lent_limit earlier 0 x.now }
 {
     let a = basics::least(FRAME_SIZE, x.len());
     let sum = sums::sum_by(c324, 0, &x[a..]);
@@ -79,8 +79,8 @@ fn judge(x: &[u8], c324: &[u32; TABLE_ENTRIES], earlier: bool) -> Judged
 
 // Whether a block is left out: a hunk that a load refuses.
 fn is_left_out(x: &[u8], c324: &[u32; TABLE_ENTRIES]) -> bool
-    requires { c324.now ≡ tables_of c324Poly }
-    ensures { result ≡ leftOut x.now }
+    requires { c324.now ≡ tables_of c324_poly }
+    ensures { result ≡ left_out x.now }
 {
     if basics::byte_at(x, 0) != HUNK_TYPE {
         return false;
@@ -92,7 +92,7 @@ fn is_left_out(x: &[u8], c324: &[u32; TABLE_ENTRIES]) -> bool
 
 // One step of the surveying pass.
 fn step_at(s: &[u8], c324: &[u32; TABLE_ENTRIES], earlier: bool, p: usize) -> Step
-    requires { c324.now ≡ tables_of c324Poly }
+    requires { c324.now ≡ tables_of c324_poly }
     ensures { result ≡ step_of s.now earlier p }
 {
     let f = blocks::frame_at(s, p);
@@ -115,7 +115,7 @@ fn step_at(s: &[u8], c324: &[u32; TABLE_ENTRIES], earlier: bool, p: usize) -> St
 
 // What a load refuses of these flags and of the tables block x.
 fn late_of(flags: &[u8], x: &[u8]) -> Refusal
-    ensures { result ≡ lateOf flags.now (payloadIn x.now) }
+    ensures { result ≡ late_of flags.now (payload_in x.now) }
 {
     let a = basics::least(FRAME_SIZE, x.len());
     let cartridge = tables::cartridge_of(tables::jlp_of(flags), &x[a..]);
@@ -125,7 +125,7 @@ fn late_of(flags: &[u8], x: &[u8]) -> Refusal
 
 // The same after a block of type t.
 fn late_after(late: Refusal, flags: &[u8], x: &[u8], t: u8) -> Refusal
-    ensures { result ≡ lateAfter late flags.now x.now t }
+    ensures { result ≡ late_after late flags.now x.now t }
 {
     if t == TABLES_TYPE {
         return late_of(flags, x);
@@ -135,7 +135,7 @@ fn late_after(late: Refusal, flags: &[u8], x: &[u8], t: u8) -> Refusal
 
 // Behind the blocks: "none" of 8, then what was refused of the tables.
 fn ended(size: usize, tabled: bool, late: Refusal, found: Found) -> Verdict
-    ensures { result ≡ endedBy size tabled late found }
+    ensures { result ≡ ended_by size tabled late found }
 {
     if !tabled {
         return Verdict::Refused(basics::refuse(8, size));
@@ -159,8 +159,8 @@ fn finding(kept: usize, dropped: usize, long: usize, stopped: Stopped) -> Found
 
 // The surveying pass over the blocks. Each is noted: left out or not.
 fn survey(s: &[u8], c324: &[u32; TABLE_ENTRIES], notes: &mut [bool]) -> Verdict
-    requires { (c324.now ≡ tables_of c324Poly) × (headerSize ≤ length s.now) × (length s.now ≤ frameSize * length notes.old) }
-    ensures { (result ≡ surveyOf s.now) × ((found : Found) → result ≡ Goes found → Noted (blocksIn s.now) notes.new) }
+    requires { (c324.now ≡ tables_of c324_poly) × (header_size ≤ length s.now) × (length s.now ≤ frame_size * length notes.old) }
+    ensures { (result ≡ survey_of s.now) × ((found : Found) → result ≡ Goes found → Noted (blocks_in s.now) notes.new) }
 {
     let from = header::FLAGS_AT;
     let to = header::UID_AT;
@@ -199,8 +199,8 @@ fn survey(s: &[u8], c324: &[u32; TABLE_ENTRIES], notes: &mut [bool]) -> Verdict
 
 // The kept blocks, byte for byte, into a part of just their size.
 fn copy_blocks(s: &[u8], notes: &[bool], out: &mut [u8])
-    requires { (Noted (blocksIn s.now) notes.now) × (length out.old ≡ length (flat (keptIn s.now))) }
-    ensures { out.new ≡ flat (keptIn s.now) }
+    requires { (Noted (blocks_in s.now) notes.now) × (length out.old ≡ length (flat (kept_in s.now))) }
+    ensures { out.new ≡ flat (kept_in s.now) }
 {
     let mut p = FIRST_BLOCK;
     let mut n = 0;
@@ -230,14 +230,14 @@ fn copy_blocks(s: &[u8], notes: &[bool], out: &mut [u8])
 
 // So many bytes, closed.
 fn closed_size(n: usize) -> usize
-    ensures { result ≡ closedSize n }
+    ensures { result ≡ closed_size n }
 {
     if n < IMAGE_LIMIT { n + 1 } else { n }
 }
 
 // 0xFF behind so many bytes, unless it would pass the image limit.
 fn put_end(out: &mut [u8], n: usize)
-    ensures { out.new ≡ endPut n out.old }
+    ensures { out.new ≡ end_put n out.old }
 {
     if IMAGE_LIMIT <= n {
         return;
@@ -249,8 +249,8 @@ fn put_end(out: &mut [u8], n: usize)
 
 // The image, into the front of a buffer that holds it: the header and the kept blocks, which have so many bytes, each in a part of its own.
 fn put_image(s: &[u8], notes: &[bool], long: usize, out: &mut [u8])
-    requires { (Noted (blocksIn s.now) notes.now) × (headerSize ≤ length s.now) × (long ≡ firstBlock + length (flat (keptIn s.now))) × (closedSize long ≤ length out.old) }
-    ensures { out.new ≡ putFront (salvageOf s.now) out.old }
+    requires { (Noted (blocks_in s.now) notes.now) × (header_size ≤ length s.now) × (long ≡ first_block + length (flat (kept_in s.now))) × (closed_size long ≤ length out.old) }
+    ensures { out.new ≡ put_front (salvage_of s.now) out.old }
 {
     basics::put_bytes(&mut out[0..HEADER_SIZE], &s[0..HEADER_SIZE]);
     copy_blocks(s, notes, &mut out[HEADER_SIZE..long]);
@@ -272,8 +272,8 @@ fn refuse(refusal: Refusal, length: usize) -> Salvaging
 
 // Behind the survey: 29, then the copying pass and the answer.
 fn finish(s: &[u8], notes: &[bool], found: Found, out: &mut [u8]) -> Salvaging
-    requires { (Noted (blocksIn s.now) notes.now) × (headerSize ≤ length s.now) × (found ≡ foundOf s.now) }
-    ensures { (result ≡ fitted (length out.old) s.now) × (out.new ≡ putFront (salvageOf s.now) out.old) }
+    requires { (Noted (blocks_in s.now) notes.now) × (header_size ≤ length s.now) × (found ≡ found_of s.now) }
+    ensures { (result ≡ fitted (length out.old) s.now) × (out.new ≡ put_front (salvage_of s.now) out.old) }
 {
     let long = found.long;
     let length = closed_size(long);
@@ -293,7 +293,7 @@ fn finish(s: &[u8], notes: &[bool], found: Found, out: &mut [u8]) -> Salvaging
 
 // The salvage of an image into a lent buffer, which no refusal changes.
 pub fn salvage(image: &[u8], out: &mut [u8]) -> Salvaging
-    ensures { (result ≡ salvagingOf out.old image.now) × (out.new ≡ written_of out.old image.now) }
+    ensures { (result ≡ salvaging_of out.old image.now) × (out.new ≡ written_of out.old image.now) }
 {
     let h = header::check(image);
     if h.number != 0 {
@@ -310,7 +310,7 @@ pub fn salvage(image: &[u8], out: &mut [u8]) -> Salvaging
 
 // The program's answer: the card's 30 before all others.
 pub fn answer(image: &[u8], out: &mut [u8]) -> Salvaging
-    ensures { (result ≡ answer_of out.old image.now) × (out.new ≡ answeredOf out.old image.now) }
+    ensures { (result ≡ answer_of out.old image.now) × (out.new ≡ answered_of out.old image.now) }
 {
     if places::CARD_LIMIT < image.len() {
         return refuse(basics::refuse(30, 0), 0);
@@ -329,8 +329,8 @@ fn note(places: &mut [usize], n: usize, p: usize)
 
 // The pass that lists.
 fn list_drops(s: &[u8], c324: &[u32; TABLE_ENTRIES], places: &mut [usize]) -> usize
-    requires { c324.now ≡ tables_of c324Poly }
-    ensures { (result ≡ length (dropsIn s.now)) × (places.new ≡ listedIn s.now places.old) }
+    requires { c324.now ≡ tables_of c324_poly }
+    ensures { (result ≡ length (drops_in s.now)) × (places.new ≡ listed_in s.now places.old) }
 {
     let mut p = FIRST_BLOCK;
     let mut n = 0;
@@ -357,7 +357,7 @@ fn list_drops(s: &[u8], c324: &[u32; TABLE_ENTRIES], places: &mut [usize]) -> us
 // The places of the blocks of an image that are left out, as many as the lent array has room for; and how many they are. One place for each
 // eight bytes of the image is room for all.
 pub fn drops(image: &[u8], places: &mut [usize]) -> usize
-    ensures { (result ≡ length (dropsIn image.now)) × (places.new ≡ listedIn image.now places.old) }
+    ensures { (result ≡ length (drops_in image.now)) × (places.new ≡ listed_in image.now places.old) }
 {
     let c324 = sums::tables(sums::C324);
     list_drops(image, &c324, places)

@@ -6,161 +6,161 @@ use mathlib.Core.Path.{◌≡◌, refl, sym, ap, ◌∙◌}
 use native.Mathlib.Omega.{arith}
 use lib.ListN.{get_or, set}
 use borrow.Author.Tests.{ne_eqb}
-use Rattle.basics.specs.Laws.Tests.{cases, and-false, true-is-not-false, not-true, not-false}
+use Rattle.basics.specs.Laws.Tests.{cases, and_false, true_is_not_false, not-true, not-false}
 use Rattle.places.specs.declared.Console.{Console}
 use Rattle.flash.specs.declared.Saves.{Saves}
 use Rattle.flash.specs.Registers.{remembered}
 use Rattle.jlp.specs.declared.Jlp.{Jlp}
 use Rattle.jlp.specs.declared.Results.{Results}
 use Rattle.jlp.specs.Arith.{results}
-use Rattle.jlp.specs.Window.{inWindow, inRam, isOperand, onAt, off_at, operandsStart, operandsEnd}
-use Rattle.jlp.specs.Laws.Window.{between-low, between-high}
-use Rattle.jlp.specs.Accelerators.{operandCount, withOn, turnsOn, turnsOff, takes, latches, functionOf, operated, crcAfter, withCrcAndSaves, writtenOn, writtenJlp}
-use Rattle.jlp.specs.Laws.Accelerators.{on-in-window, off-takes, on-takes}
-use Rattle.registers.specs.Words.{words_of, jlpFrom, operates, behindOperand}
+use Rattle.jlp.specs.Window.{in_window, in_ram, is_operand, on_at, off_at, operands_start, operands_end}
+use Rattle.jlp.specs.Laws.Window.{between_low, between_high}
+use Rattle.jlp.specs.Accelerators.{operand_count, with_on, turns_on, turns_off, takes, latches, function_of, operated, crc_after, with_crc_and_saves, written_on, written_jlp}
+use Rattle.jlp.specs.Laws.Accelerators.{on_in_window, off_takes, on_takes}
+use Rattle.registers.specs.Words.{words_of, jlp_from, operates, behind_operand}
 use Rattle.registers.specs.Code.Tidy.{Tidy}
-use Rattle.registers.specs.Laws.Words.{turned, noted, operand_at, laid_out, from-tidied, tidy-now, behind-operand, behind-other}
+use Rattle.registers.specs.Laws.Words.{turned, noted, operand_at, laid_out, from_tidied, tidy_now, behind_operand_lem, behind_other}
 
 -- a write is not in the window, or comes while on, or while off
 module _ (w : List ℕ) (at : Console) (v : ℕ) where
-  pub takes-outside : (i : Bool) → i ≡ inWindow at → not i ≡ true → false ≡ takes (jlpFrom w) at v
+  pub takes_outside : (i : Bool) → i ≡ in_window at → not i ≡ true → false ≡ takes (jlp_from w) at v
   unfolding takes
-  takes-outside i e n =
-      let out : inWindow at ≡ false = sym e ∙ not-true i n in
-      let off : turnsOn (jlpFrom w).field at v ≡ false =
-      cases (turnsOn (jlpFrom w).field at v) (λ t. true-is-not-false (on-in-window (jlpFrom w).field at v t) out) (λ t. t) in
-      rw (off, out) (sym (and-false (jlpFrom w).on false refl))
+  takes_outside i e n =
+      let out : in_window at ≡ false = sym e ∙ not-true i n in
+      let off : turns_on (jlp_from w).field at v ≡ false =
+      cases (turns_on (jlp_from w).field at v) (λ t. true_is_not_false (on_in_window (jlp_from w).field at v t) out) (λ t. t) in
+      rw (off, out) (sym (and_false (jlp_from w).on false refl))
 
-  pub takes-on : (i o : Bool) → i ≡ inWindow at → not i ≡ false → o ≡ (jlpFrom w).on → o ≡ true → true ≡ takes (jlpFrom w) at v
-  takes-on i o e n f t = sym (on-takes (jlpFrom w) at v (sym f ∙ t) (sym e ∙ not-false i n))
+  pub takes_on : (i o : Bool) → i ≡ in_window at → not i ≡ false → o ≡ (jlp_from w).on → o ≡ true → true ≡ takes (jlp_from w) at v
+  takes_on i o e n f t = sym (on_takes (jlp_from w) at v (sym f ∙ t) (sym e ∙ not-false i n))
 
-  pub takes-off : (o : Bool) (k : ℕ) (r : Bool) → o ≡ (jlpFrom w).on → o ≡ false → k ≡ (jlpFrom w).field → r ≡ turnsOn k at v → r ≡ takes (jlpFrom w) at v
-  takes-off o k r f t g h = h ∙ ap (λ (x : ℕ). turnsOn x at v) g ∙ sym (off-takes (jlpFrom w) at v (sym f ∙ t))
+  pub takes_off : (o : Bool) (k : ℕ) (r : Bool) → o ≡ (jlp_from w).on → o ≡ false → k ≡ (jlp_from w).field → r ≡ turns_on k at v → r ≡ takes (jlp_from w) at v
+  takes_off o k r f t g h = h ∙ ap (λ (x : ℕ). turns_on x at v) g ∙ sym (off_takes (jlp_from w) at v (sym f ∙ t))
 
-pub ruleset taken = (takes-outside, takes-on, takes-off)
+pub ruleset taken = (takes_outside, takes_on, takes_off)
 
-pub latches-ram : (w : List ℕ) (at : Console) (v : ℕ) (b : Bool) → b ≡ inRam at → b ≡ true → false ≡ latches (jlpFrom w) at v
+pub latches_ram : (w : List ℕ) (at : Console) (v : ℕ) (b : Bool) → b ≡ in_ram at → b ≡ true → false ≡ latches (jlp_from w) at v
 unfolding latches
-latches-ram w at v b e t = rw (← e, t)
+latches_ram w at v b e t = rw (← e, t)
 
-pub latches-taken : (w : List ℕ) (at : Console) (v : ℕ) (b r : Bool) → b ≡ inRam at → b ≡ false → r ≡ takes (jlpFrom w) at v → r ≡ latches (jlpFrom w) at v
+pub latches_taken : (w : List ℕ) (at : Console) (v : ℕ) (b r : Bool) → b ≡ in_ram at → b ≡ false → r ≡ takes (jlp_from w) at v → r ≡ latches (jlp_from w) at v
 unfolding latches
-latches-taken w at v b r e f g = rw (← e, f) g
+latches_taken w at v b r e f g = rw (← e, f) g
 
 -- an operand's number
-pub operand-from : (at : Console) (b : Bool) → b ≡ isOperand at → b ≡ true → operandsStart ≤ at.0
-operand-from at b e t = between-low _ _ _ (sym e ∙ t)
+pub operand_from : (at : Console) (b : Bool) → b ≡ is_operand at → b ≡ true → operands_start ≤ at.0
+operand_from at b e t = between_low _ _ _ (sym e ∙ t)
 
-pub operand_below : (at : Console) (b : Bool) → b ≡ isOperand at → b ≡ true → at.0 - operandsStart < operandCount
-operand_below at b e t = omega (arith, between-high _ _ _ (sym e ∙ t))
+pub operand_below : (at : Console) (b : Bool) → b ≡ is_operand at → b ≡ true → at.0 - operands_start < operand_count
+operand_below at b e t = omega (arith, between_high _ _ _ (sym e ∙ t))
 
-pub operand-from-not : (at : Console) (b : Bool) → b ≡ isOperand at → not b ≡ false → operandsStart ≤ at.0
-operand-from-not at b e n = operand-from at b e (not-false b n)
+pub operand_from_not : (at : Console) (b : Bool) → b ≡ is_operand at → not b ≡ false → operands_start ≤ at.0
+operand_from_not at b e n = operand_from at b e (not-false b n)
 
-pub operand-below-not : (at : Console) (b : Bool) → b ≡ isOperand at → not b ≡ false → at.0 - operandsStart < operandCount
-operand-below-not at b e n = operand_below at b e (not-false b n)
+pub operand_below_not : (at : Console) (b : Bool) → b ≡ is_operand at → not b ≡ false → at.0 - operands_start < operand_count
+operand_below_not at b e n = operand_below at b e (not-false b n)
 
 module _ (w : List ℕ) (t : Tidy w) where
   -- an operand that is stored, with its function's results
-  pub operate-is : (k v : ℕ) (r : Results) → k < operandCount
-      → r ≡ functionOf (k / 2) (get_or (set w (2 + k) v) (2 + 2 * (k / 2)) 0) (get_or (set w (2 + k) v) (2 + (2 * (k / 2) + 1)) 0) (results (get_or w 14 0) (get_or w 15 0))
-      → set (set (set w (2 + k) v) 14 r.first) 15 r.second ≡ words_of (operated (jlpFrom w) k v)
-  operate-is k v r h e =
+  pub operate_is : (k v : ℕ) (r : Results) → k < operand_count
+      → r ≡ function_of (k / 2) (get_or (set w (2 + k) v) (2 + 2 * (k / 2)) 0) (get_or (set w (2 + k) v) (2 + (2 * (k / 2) + 1)) 0) (results (get_or w 14 0) (get_or w 15 0))
+      → set (set (set w (2 + k) v) 14 r.first) 15 r.second ≡ words_of (operated (jlp_from w) k v)
+  operate_is k v r h e =
       laid_out w t k v h r
-      ∙ ap (λ (x : Results). words_of (record { field = (jlpFrom w).field; on = (jlpFrom w).on; operands = set (jlpFrom w).operands k v; results = x; crc = (jlpFrom w).crc; saves = (jlpFrom w).saves }))
+      ∙ ap (λ (x : Results). words_of (record { field = (jlp_from w).field; on = (jlp_from w).on; operands = set (jlp_from w).operands k v; results = x; crc = (jlp_from w).crc; saves = (jlp_from w).saves }))
       (e
-      ∙ ap (λ (a : ℕ). functionOf (k / 2) a (get_or (set w (2 + k) v) (2 + (2 * (k / 2) + 1)) 0) (results (get_or w 14 0) (get_or w 15 0))) (operand_at w t k v h (2 * (k / 2)) (omega arith))
-      ∙ ap (λ (b : ℕ). functionOf (k / 2) (get_or (set (jlpFrom w).operands k v) (2 * (k / 2)) 0) b (results (get_or w 14 0) (get_or w 15 0))) (operand_at w t k v h (2 * (k / 2) + 1) (omega arith)))
+      ∙ ap (λ (a : ℕ). function_of (k / 2) a (get_or (set w (2 + k) v) (2 + (2 * (k / 2) + 1)) 0) (results (get_or w 14 0) (get_or w 15 0))) (operand_at w t k v h (2 * (k / 2)) (omega arith))
+      ∙ ap (λ (b : ℕ). function_of (k / 2) (get_or (set (jlp_from w).operands k v) (2 * (k / 2)) 0) b (results (get_or w 14 0) (get_or w 15 0))) (operand_at w t k v h (2 * (k / 2) + 1) (omega arith)))
 
   module _ (at : Console) (v : ℕ) where
-    pub remember-is : (c : ℕ) (s₀ s : Saves) → s₀ ≡ (jlpFrom w).saves → s ≡ remembered s₀ at v → c ≡ crcAfter (get_or w 16 0) at v
-        → set (set (set (set w 16 c) 17 s.sectors) 18 s.addr) 19 s.row ≡ words_of (withCrcAndSaves (jlpFrom w) (crcAfter (jlpFrom w).crc at v) (remembered (jlpFrom w).saves at v))
-    remember-is c s₀ s e f g =
+    pub remember_is : (c : ℕ) (s₀ s : Saves) → s₀ ≡ (jlp_from w).saves → s ≡ remembered s₀ at v → c ≡ crc_after (get_or w 16 0) at v
+        → set (set (set (set w 16 c) 17 s.sectors) 18 s.addr) 19 s.row ≡ words_of (with_crc_and_saves (jlp_from w) (crc_after (jlp_from w).crc at v) (remembered (jlp_from w).saves at v))
+    remember_is c s₀ s e f g =
         noted w t c s
-        ∙ ap (λ (x : ℕ). words_of (withCrcAndSaves (jlpFrom w) x s)) g
-        ∙ ap (λ (x : Saves). words_of (withCrcAndSaves (jlpFrom w) (crcAfter (jlpFrom w).crc at v) x)) (f ∙ ap (λ (x : Saves). remembered x at v) e)
+        ∙ ap (λ (x : ℕ). words_of (with_crc_and_saves (jlp_from w) x s)) g
+        ∙ ap (λ (x : Saves). words_of (with_crc_and_saves (jlp_from w) (crc_after (jlp_from w).crc at v) x)) (f ∙ ap (λ (x : Saves). remembered x at v) e)
 
     -- while on: the word that turns off, an operand, and any other write
-    pub on-off : (b : Bool) → b ≡ turnsOff at v → b ≡ true → set w 1 0 ≡ words_of (writtenOn (jlpFrom w) at v)
-    unfolding writtenOn
-    on-off b e h = rw (← e, h) (turned w t false)
+    pub on_off : (b : Bool) → b ≡ turns_off at v → b ≡ true → set w 1 0 ≡ words_of (written_on (jlp_from w) at v)
+    unfolding written_on
+    on_off b e h = rw (← e, h) (turned w t false)
 
-    pub on-operand : (b c : Bool) (x : List ℕ) → b ≡ turnsOff at v → b ≡ false → c ≡ isOperand at → c ≡ true
-        → x ≡ words_of (operated (jlpFrom w) (at.0 - operandsStart) v) → x ≡ words_of (writtenOn (jlpFrom w) at v)
-    unfolding writtenOn
-    on-operand b c x e h g k f = rw (← e, h, ← g, k) f
+    pub on_operand : (b c : Bool) (x : List ℕ) → b ≡ turns_off at v → b ≡ false → c ≡ is_operand at → c ≡ true
+        → x ≡ words_of (operated (jlp_from w) (at.0 - operands_start) v) → x ≡ words_of (written_on (jlp_from w) at v)
+    unfolding written_on
+    on_operand b c x e h g k f = rw (← e, h, ← g, k) f
 
-    pub on-other : (b c : Bool) (x : List ℕ) → b ≡ turnsOff at v → b ≡ false → c ≡ isOperand at → c ≡ false
-        → x ≡ words_of (withCrcAndSaves (jlpFrom w) (crcAfter (jlpFrom w).crc at v) (remembered (jlpFrom w).saves at v)) → x ≡ words_of (writtenOn (jlpFrom w) at v)
-    unfolding writtenOn
-    on-other b c x e h g k f = rw (← e, h, ← g, k) f
+    pub on_other : (b c : Bool) (x : List ℕ) → b ≡ turns_off at v → b ≡ false → c ≡ is_operand at → c ≡ false
+        → x ≡ words_of (with_crc_and_saves (jlp_from w) (crc_after (jlp_from w).crc at v) (remembered (jlp_from w).saves at v)) → x ≡ words_of (written_on (jlp_from w) at v)
+    unfolding written_on
+    on_other b c x e h g k f = rw (← e, h, ← g, k) f
 
 -- the word that turns on, and any other write while off and while on
 module _ (j : Jlp) (at : Console) (v : ℕ) where
-  by-turning : turnsOn j.field at v ≡ true → writtenJlp j at v ≡ withOn j true
-  unfolding writtenJlp
-  by-turning e = rw e
+  by_turning : turns_on j.field at v ≡ true → written_jlp j at v ≡ with_on j true
+  unfolding written_jlp
+  by_turning e = rw e
 
-  by-off : turnsOn j.field at v ≡ false → j.on ≡ false → writtenJlp j at v ≡ j
-  unfolding writtenJlp
-  by-off e o = rw (e, o)
+  by_off : turns_on j.field at v ≡ false → j.on ≡ false → written_jlp j at v ≡ j
+  unfolding written_jlp
+  by_off e o = rw (e, o)
 
-  by-on : turnsOn j.field at v ≡ false → j.on ≡ true → writtenJlp j at v ≡ writtenOn j at v
-  unfolding writtenJlp
-  by-on e o = rw (e, o)
+  by_on : turns_on j.field at v ≡ false → j.on ≡ true → written_jlp j at v ≡ written_on j at v
+  unfolding written_jlp
+  by_on e o = rw (e, o)
 
-module _ (w₀ w : List ℕ) (e : w ≡ words_of (jlpFrom w₀)) (at : Console) (v f : ℕ) (b : Bool) (g : f ≡ (jlpFrom w).field) (h : b ≡ turnsOn f at v) where
-  turns : b ≡ turnsOn (jlpFrom w).field at v
-  turns = h ∙ ap (λ (x : ℕ). turnsOn x at v) g
+module _ (w₀ w : List ℕ) (e : w ≡ words_of (jlp_from w₀)) (at : Console) (v f : ℕ) (b : Bool) (g : f ≡ (jlp_from w).field) (h : b ≡ turns_on f at v) where
+  turns : b ≡ turns_on (jlp_from w).field at v
+  turns = h ∙ ap (λ (x : ℕ). turns_on x at v) g
 
-  tidied-too : (x : List ℕ) → x ≡ words_of (writtenJlp (jlpFrom w) at v) → x ≡ words_of (writtenJlp (jlpFrom w₀) at v)
-  tidied-too x p = p ∙ ap (λ (j : Jlp). words_of (writtenJlp j at v)) (from-tidied w₀ w e)
+  tidied_too : (x : List ℕ) → x ≡ words_of (written_jlp (jlp_from w) at v) → x ≡ words_of (written_jlp (jlp_from w₀) at v)
+  tidied_too x p = p ∙ ap (λ (j : Jlp). words_of (written_jlp j at v)) (from_tidied w₀ w e)
 
-  pub write-turns : b ≡ true → set w 1 1 ≡ words_of (writtenJlp (jlpFrom w₀) at v)
-  write-turns t = tidied-too _ (turned w (tidy-now w₀ w e) true ∙ ap words_of (sym (by-turning (jlpFrom w) at v (sym turns ∙ t))))
+  pub write_turns : b ≡ true → set w 1 1 ≡ words_of (written_jlp (jlp_from w₀) at v)
+  write_turns t = tidied_too _ (turned w (tidy_now w₀ w e) true ∙ ap words_of (sym (by_turning (jlp_from w) at v (sym turns ∙ t))))
 
-  module _ (o : Bool) (k : o ≡ (jlpFrom w).on) (t : b ≡ false) where
-    pub write-off : not o ≡ true → w ≡ words_of (writtenJlp (jlpFrom w₀) at v)
-    write-off n = tidied-too _ (tidy-now w₀ w e ∙ ap words_of (sym (by-off (jlpFrom w) at v (sym turns ∙ t) (sym k ∙ not-true o n))))
+  module _ (o : Bool) (k : o ≡ (jlp_from w).on) (t : b ≡ false) where
+    pub write_off : not o ≡ true → w ≡ words_of (written_jlp (jlp_from w₀) at v)
+    write_off n = tidied_too _ (tidy_now w₀ w e ∙ ap words_of (sym (by_off (jlp_from w) at v (sym turns ∙ t) (sym k ∙ not-true o n))))
 
-    pub write-on : (x : List ℕ) → not o ≡ false → x ≡ words_of (writtenOn (jlpFrom w) at v) → x ≡ words_of (writtenJlp (jlpFrom w₀) at v)
-    write-on x n p = tidied-too x (p ∙ ap words_of (sym (by-on (jlpFrom w) at v (sym turns ∙ t) (sym k ∙ not-false o n))))
+    pub write_on : (x : List ℕ) → not o ≡ false → x ≡ words_of (written_on (jlp_from w) at v) → x ≡ words_of (written_jlp (jlp_from w₀) at v)
+    write_on x n p = tidied_too x (p ∙ ap words_of (sym (by_on (jlp_from w) at v (sym turns ∙ t) (sym k ∙ not-false o n))))
 
 -- an operand's address is none of the words that turn on and off
-module _ (at : Console) (h : isOperand at ≡ true) where
-  operand-turns : (field v : ℕ) → turnsOn field at v ≡ false
-  unfolding turnsOn
-  operand-turns field v = rw (ne_eqb at.0 onAt (λ e. omega (arith, between-low _ _ _ h)))
+module _ (at : Console) (h : is_operand at ≡ true) where
+  operand_turns : (field v : ℕ) → turns_on field at v ≡ false
+  unfolding turns_on
+  operand_turns field v = rw (ne_eqb at.0 on_at (λ e. omega (arith, between_low _ _ _ h)))
 
-  operand-keeps : (v : ℕ) → turnsOff at v ≡ false
-  unfolding turnsOff
-  operand-keeps v = rw (ne_eqb at.0 off_at (λ e. omega (arith, between-low _ _ _ h)))
+  operand_keeps : (v : ℕ) → turns_off at v ≡ false
+  unfolding turns_off
+  operand_keeps v = rw (ne_eqb at.0 off_at (λ e. omega (arith, between_low _ _ _ h)))
 
-  operand-written : (j : Jlp) (v : ℕ) → j.on ≡ true → writtenJlp j at v ≡ operated j (at.0 - operandsStart) v
-  unfolding writtenOn
-  operand-written j v o = by-on j at v (operand-turns j.field v) o ∙ rw (operand-keeps v, h)
+  operand_written : (j : Jlp) (v : ℕ) → j.on ≡ true → written_jlp j at v ≡ operated j (at.0 - operands_start) v
+  unfolding written_on
+  operand_written j v o = by_on j at v (operand_turns j.field v) o ∙ rw (operand_keeps v, h)
 
 -- off, no operand, and one that computes
 module _ (w : List ℕ) (at : Console) (v : ℕ) where
-  stays : operates (jlpFrom w) at ≡ false → (false ≡ operates (jlpFrom w) at) × (w ≡ behindOperand w at v)
-  stays e = (sym e, sym (behind-other w at v e))
+  stays : operates (jlp_from w) at ≡ false → (false ≡ operates (jlp_from w) at) × (w ≡ behind_operand w at v)
+  stays e = (sym e, sym (behind_other w at v e))
 
-  module _ (o : Bool) (k : o ≡ (jlpFrom w).on) where
-    pub operates-off : not o ≡ true → (false ≡ operates (jlpFrom w) at) × (w ≡ behindOperand w at v)
+  module _ (o : Bool) (k : o ≡ (jlp_from w).on) where
+    pub operates_off : not o ≡ true → (false ≡ operates (jlp_from w) at) × (w ≡ behind_operand w at v)
     unfolding operates
-    operates-off n = stays (rw (← k, not-true o n))
+    operates_off n = stays (rw (← k, not-true o n))
 
-    module _ (n : not o ≡ false) (b : Bool) (g : b ≡ isOperand at) where
-      pub operates-not : not b ≡ true → (false ≡ operates (jlpFrom w) at) × (w ≡ behindOperand w at v)
+    module _ (n : not o ≡ false) (b : Bool) (g : b ≡ is_operand at) where
+      pub operates_not : not b ≡ true → (false ≡ operates (jlp_from w) at) × (w ≡ behind_operand w at v)
       unfolding operates
-      operates-not m = stays (rw (← k, not-false o n, ← g, not-true b m))
+      operates_not m = stays (rw (← k, not-false o n, ← g, not-true b m))
 
-      pub operates-so : not b ≡ false → (x y : List ℕ) → x ≡ words_of (jlpFrom w) → y ≡ words_of (operated (jlpFrom x) (at.0 - operandsStart) v)
-          → (true ≡ operates (jlpFrom w) at) × (y ≡ behindOperand w at v)
+      pub operates_so : not b ≡ false → (x y : List ℕ) → x ≡ words_of (jlp_from w) → y ≡ words_of (operated (jlp_from x) (at.0 - operands_start) v)
+          → (true ≡ operates (jlp_from w) at) × (y ≡ behind_operand w at v)
       unfolding operates
-      operates-so m x y e f =
-          let i : isOperand at ≡ true = sym g ∙ not-false b m in
-          let h : operates (jlpFrom w) at ≡ true = rw (← k, not-false o n, i) in
-          let l : y ≡ words_of (writtenJlp (jlpFrom w) at v) =
-          f ∙ ap words_of (ap (λ (j : Jlp). operated j (at.0 - operandsStart) v) (from-tidied w x e) ∙ sym (operand-written at i (jlpFrom w) v (sym k ∙ not-false o n))) in
-          (sym h, l ∙ sym (behind-operand w at v h))
+      operates_so m x y e f =
+          let i : is_operand at ≡ true = sym g ∙ not-false b m in
+          let h : operates (jlp_from w) at ≡ true = rw (← k, not-false o n, i) in
+          let l : y ≡ words_of (written_jlp (jlp_from w) at v) =
+          f ∙ ap words_of (ap (λ (j : Jlp). operated j (at.0 - operands_start) v) (from_tidied w x e) ∙ sym (operand_written at i (jlp_from w) v (sym k ∙ not-false o n))) in
+          (sym h, l ∙ sym (behind_operand_lem w at v h))

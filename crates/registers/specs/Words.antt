@@ -5,30 +5,30 @@ use Rattle.basics.specs.Tables.{table}
 use Rattle.jlp.specs.declared.Jlp.{Jlp}
 use Rattle.jlp.specs.Arith.{results}
 use Rattle.places.specs.declared.Console.{Console}
-use Rattle.jlp.specs.Window.{isOperand}
-use Rattle.jlp.specs.Accelerators.{operandCount, writtenJlp}
+use Rattle.jlp.specs.Window.{is_operand}
+use Rattle.jlp.specs.Accelerators.{operand_count, written_jlp}
 
 -- as many words
-abbrev pub acceleratorWords : ℕ
-acceleratorWords = 20
+abbrev pub accelerator_words : ℕ
+accelerator_words = 20
 
-abbrev pub oneIf : Bool → ℕ
-oneIf b = cond b 1 0
+abbrev pub one_if : Bool → ℕ
+one_if b = cond b 1 0
 
 abbrev pub words_of : Jlp → List ℕ
 words_of j =
     j.field
-    ∷ oneIf j.on
-    ∷ (table operandCount (λ i. get_or j.operands i 0)
+    ∷ one_if j.on
+    ∷ (table operand_count (λ i. get_or j.operands i 0)
     ++ (j.results.first ∷ j.results.second ∷ j.crc ∷ j.saves.sectors ∷ j.saves.addr ∷ j.saves.row ∷ []))
 
 -- and back: any words are some accelerators, on for every word but 0
-abbrev pub jlpFrom : List ℕ → Jlp
-jlpFrom w =
+abbrev pub jlp_from : List ℕ → Jlp
+jlp_from w =
     record {
       field = get_or w 0 0 % 256;
       on = not (eqb (get_or w 1 0) 0);
-      operands = table operandCount (λ i. get_or w (2 + i) 0);
+      operands = table operand_count (λ i. get_or w (2 + i) 0);
       results = results (get_or w 14 0) (get_or w 15 0);
       crc = get_or w 16 0;
       saves = record { sectors = get_or w 17 0; addr = get_or w 18 0; row = get_or w 19 0 };
@@ -36,8 +36,8 @@ jlpFrom w =
 
 -- a write to an operand while they are on computes (02, W-206)
 unfoldable pub operates : Jlp → Console → Bool
-operates j at = j.on && isOperand at
+operates j at = j.on && is_operand at
 
 -- what such a write leaves of the words; by any other they stay
-unfoldable pub behindOperand : List ℕ → Console → ℕ → List ℕ
-behindOperand w at v = cond (operates (jlpFrom w) at) (words_of (writtenJlp (jlpFrom w) at v)) w
+unfoldable pub behind_operand : List ℕ → Console → ℕ → List ℕ
+behind_operand w at v = cond (operates (jlp_from w) at) (words_of (written_jlp (jlp_from w) at v)) w

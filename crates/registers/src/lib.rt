@@ -1,9 +1,9 @@
 // The JLP accelerators in twenty lent words, as C keeps them: made of such words, laid out again, asked, and written in place, so that a write copies none of
 // the others (02, W-206 and W-209).
 ghost use Rattle.std.specs.Prelude.{◌<◌, ◌≡◌, length};
-ghost use Rattle.jlp.specs.Accelerators.{operandCount, takes, latches, operated, withCrcAndSaves, crcAfter, writtenOn, writtenJlp};
+ghost use Rattle.jlp.specs.Accelerators.{operand_count, takes, latches, operated, with_crc_and_saves, crc_after, written_on, written_jlp};
 ghost use Rattle.flash.specs.Registers.{remembered};
-ghost use Rattle.registers.specs.Words.{acceleratorWords, oneIf, words_of, jlpFrom, operates, behindOperand};
+ghost use Rattle.registers.specs.Words.{accelerator_words, one_if, words_of, jlp_from, operates, behind_operand};
 ghost use Rattle.registers.specs.Code.Tidy.{Tidy};
 
 use flash::Saves;
@@ -14,7 +14,7 @@ use places::Console;
 pub const ACCELERATOR_WORDS: usize = 20;
 
 fn one_if(b: bool) -> u16
-    ensures { result ≡ oneIf b }
+    ensures { result ≡ one_if b }
 {
     if b {
         return 1;
@@ -57,7 +57,7 @@ pub fn words_of(j: Jlp) -> [u16; ACCELERATOR_WORDS]
 
 // Any words are some accelerators, on for every word but 0.
 pub fn jlp_from(w: &[u16; ACCELERATOR_WORDS]) -> Jlp
-    ensures { result ≡ jlpFrom w.now }
+    ensures { result ≡ jlp_from w.now }
 {
     let operands = [
         w[2], w[3], w[4], w[5], w[6], w[7], w[8], w[9], w[10], w[11], w[12], w[13],
@@ -82,20 +82,20 @@ pub fn jlp_from(w: &[u16; ACCELERATOR_WORDS]) -> Jlp
 }
 
 fn field_of(w: &[u16; ACCELERATOR_WORDS]) -> u8
-    ensures { result ≡ (jlpFrom w.now).field }
+    ensures { result ≡ (jlp_from w.now).field }
 {
     (w[0] % 256) as u8
 }
 
 pub fn is_on(w: &[u16; ACCELERATOR_WORDS]) -> bool
-    ensures { result ≡ (jlpFrom w.now).on }
+    ensures { result ≡ (jlp_from w.now).on }
 {
     w[1] != 0
 }
 
 // The registers of the flash among them.
 pub fn saves_of(w: &[u16; ACCELERATOR_WORDS]) -> Saves
-    ensures { result ≡ (jlpFrom w.now).saves }
+    ensures { result ≡ (jlp_from w.now).saves }
 {
     Saves {
         sectors: w[17],
@@ -106,7 +106,7 @@ pub fn saves_of(w: &[u16; ACCELERATOR_WORDS]) -> Saves
 
 // Whether they take a write. The address decides most.
 fn takes(w: &[u16; ACCELERATOR_WORDS], at: Console, value: u16) -> bool
-    ensures { result ≡ takes (jlpFrom w.now) at value }
+    ensures { result ≡ takes (jlp_from w.now) at value }
 {
     if !jlp::in_window(at) {
         return false;
@@ -119,7 +119,7 @@ fn takes(w: &[u16; ACCELERATOR_WORDS], at: Console, value: u16) -> bool
 
 // Whether a write goes to one of their registers.
 pub fn latches(w: &[u16; ACCELERATOR_WORDS], at: Console, value: u16) -> bool
-    ensures { result ≡ latches (jlpFrom w.now) at value }
+    ensures { result ≡ latches (jlp_from w.now) at value }
 {
     if jlp::in_ram(at) {
         return false;
@@ -129,8 +129,8 @@ pub fn latches(w: &[u16; ACCELERATOR_WORDS], at: Console, value: u16) -> bool
 
 // The field a byte, on 0 or 1.
 fn tidy_words(w: &mut [u16])
-    requires { length w.old ≡ acceleratorWords }
-    ensures { w.new ≡ words_of (jlpFrom w.old) }
+    requires { length w.old ≡ accelerator_words }
+    ensures { w.new ≡ words_of (jlp_from w.old) }
 {
     let on = one_if(w[1] != 0);
     w[0] = w[0] % 256;
@@ -139,15 +139,15 @@ fn tidy_words(w: &mut [u16])
 
 // Any words, as the accelerators that they are lay them out.
 pub fn tidy(w: &mut [u16; ACCELERATOR_WORDS])
-    ensures { w.new ≡ words_of (jlpFrom w.old) }
+    ensures { w.new ≡ words_of (jlp_from w.old) }
 {
     tidy_words(w);
 }
 
 // Operand k is written, and its own function computes.
 fn operate(w: &mut [u16; ACCELERATOR_WORDS], k: usize, value: u16)
-    requires { (k < operandCount) × Tidy w.old }
-    ensures { w.new ≡ words_of (operated (jlpFrom w.old) k value) }
+    requires { (k < operand_count) × Tidy w.old }
+    ensures { w.new ≡ words_of (operated (jlp_from w.old) k value) }
 {
     let old = Results {
         first: w[14],
@@ -162,7 +162,7 @@ fn operate(w: &mut [u16; ACCELERATOR_WORDS], k: usize, value: u16)
 
 // The write of an operand while they are on, and whether it was one.
 pub fn operates(w: &mut [u16; ACCELERATOR_WORDS], at: Console, value: u16) -> bool
-    ensures { (result ≡ operates (jlpFrom w.old) at) × (w.new ≡ behindOperand w.old at value) }
+    ensures { (result ≡ operates (jlp_from w.old) at) × (w.new ≡ behind_operand w.old at value) }
 {
     if !is_on(w) {
         return false;
@@ -178,7 +178,7 @@ pub fn operates(w: &mut [u16; ACCELERATOR_WORDS], at: Console, value: u16) -> bo
 // The CRC and the registers of the flash behind a write.
 fn remember(w: &mut [u16; ACCELERATOR_WORDS], at: Console, value: u16)
     requires { Tidy w.old }
-    ensures { w.new ≡ words_of (withCrcAndSaves (jlpFrom w.old) (crcAfter (jlpFrom w.old).crc at value) (remembered (jlpFrom w.old).saves at value)) }
+    ensures { w.new ≡ words_of (with_crc_and_saves (jlp_from w.old) (crc_after (jlp_from w.old).crc at value) (remembered (jlp_from w.old).saves at value)) }
 {
     let s = flash::remember(saves_of(w), at, value);
     let crc = jlp::crc_after(w[16], at, value);
@@ -191,7 +191,7 @@ fn remember(w: &mut [u16; ACCELERATOR_WORDS], at: Console, value: u16)
 // What a write leaves of them while they are on.
 fn write_on(w: &mut [u16; ACCELERATOR_WORDS], at: Console, value: u16)
     requires { Tidy w.old }
-    ensures { w.new ≡ words_of (writtenOn (jlpFrom w.old) at value) }
+    ensures { w.new ≡ words_of (written_on (jlp_from w.old) at value) }
 {
     if jlp::turns_off(at, value) {
         w[1] = 0;
@@ -206,7 +206,7 @@ fn write_on(w: &mut [u16; ACCELERATOR_WORDS], at: Console, value: u16)
 
 // What a write leaves of them.
 pub fn write(w: &mut [u16; ACCELERATOR_WORDS], at: Console, value: u16)
-    ensures { w.new ≡ words_of (writtenJlp (jlpFrom w.old) at value) }
+    ensures { w.new ≡ words_of (written_jlp (jlp_from w.old) at value) }
 {
     tidy(w);
     if jlp::turns_on(field_of(w), at, value) {

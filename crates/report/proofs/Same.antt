@@ -6,5 +6,5 @@ use Rattle.report.proofs.answer.Reads as answer
 pub one_answer : OneAnswer answer.Learnt
 one_answer κs a y z e f p q = same p.0 q.0
 
-pub one-answer-lent : OneLent answer.Learnt (λ κs e. e.1.0.now)
-one-answer-lent κs a y z e f p q = same p.1 q.1
+pub one_answer_lent : OneLent answer.Learnt (λ κs e. e.1.0.now)
+one_answer_lent κs a y z e f p q = same p.1 q.1

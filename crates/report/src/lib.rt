@@ -3,7 +3,7 @@ mod program;
 
 ghost use Rattle.std.specs.Prelude.{◌≡◌};
 ghost use Rattle.places.specs.Limits.{lent};
-ghost use Rattle.report.specs.Report.{reportOf, reportRamOf};
+ghost use Rattle.report.specs.Report.{report_of, report_ram_of};
 
 use basics::Refusal;
 use places::CARD_LIMIT;
@@ -19,7 +19,7 @@ pub struct Report {
 
 // The card's answer: 30 before all others.
 pub fn answer(image: &[u8], ram: &mut [u16]) -> Report
-    ensures { (result ≡ reportOf image.now (lent ram.old)) × (ram.new ≡ reportRamOf image.now ram.old) }
+    ensures { (result ≡ report_of image.now (lent ram.old)) × (ram.new ≡ report_ram_of image.now ram.old) }
 {
     if CARD_LIMIT < image.len() {
         return Report {

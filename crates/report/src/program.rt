@@ -1,6 +1,6 @@
 // The program: reads an image from standard input, loads it into a RAM of zeros, and prints what the load did.
 ghost use Rattle.std.specs.Prelude.{◌+◌, ◌≡◌, length};
-ghost use Rattle.places.specs.Limits.{cardLimit, cardWords};
+ghost use Rattle.places.specs.Limits.{card_limit, card_words};
 
 use crate::Report;
 use libc::STDIN_FILENO;
@@ -10,13 +10,13 @@ use places::{CARD_LIMIT, CARD_WORDS};
 const FILE_ROOM: usize = CARD_LIMIT + 1;
 
 fn file_room() -> [u8; FILE_ROOM]
-    ensures { cardLimit + 1 ≡ length result }
+    ensures { card_limit + 1 ≡ length result }
 {
     [0; FILE_ROOM]
 }
 
 fn blank_ram() -> [u16; CARD_WORDS]
-    ensures { cardWords ≡ length result }
+    ensures { card_words ≡ length result }
 {
     [0; CARD_WORDS]
 }

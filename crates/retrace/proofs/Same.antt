@@ -4,8 +4,8 @@ use Rattle.basics.specs.Laws.Same.{same}
 use Rattle.retrace.proofs.plan_behind.Reads as plan-behind
 use Rattle.retrace.proofs.named.marks_of.Reads as marks-of
 
-pub one-plan-behind : OneAnswer plan-behind.Learnt
-one-plan-behind κs a y z e f = same
+pub one_plan_behind : OneAnswer plan-behind.Learnt
+one_plan_behind κs a y z e f = same
 
-pub one-marks-of : OneAnswer marks-of.Learnt
-one-marks-of κs a y z e f = same
+pub one_marks_of : OneAnswer marks-of.Learnt
+one_marks_of κs a y z e f = same

@@ -4,9 +4,9 @@ mod row;
 
 ghost use Rattle.std.specs.Prelude.{◌≡◌};
 ghost use Rattle.basics.specs.Tables.{table};
-ghost use Rattle.places.specs.Limits.{chapters, flipEntries, paragraphs};
-ghost use Rattle.plan.specs.Plan.{hasPage, kinds};
-ghost use Rattle.retrace.specs.Code.Shown.{planFrom, shownBehind, sketchOf};
+ghost use Rattle.places.specs.Limits.{chapters, flip_entries, paragraphs};
+ghost use Rattle.plan.specs.Plan.{has_page, kinds};
+ghost use Rattle.retrace.specs.Code.Shown.{plan_from, shown_behind, sketch_of};
 
 pub use named::marks_of;
 use places::{
@@ -27,7 +27,7 @@ fn rows_of(
     flips: &[u16; FLIP_ENTRIES],
     marks: &[bool; LOCUTUS_PARAGRAPHS],
 ) -> [Shown; CHAPTERS]
-    ensures { result ≡ table chapters (shownBehind permissions.now flips.now marks.now) }
+    ensures { result ≡ table chapters (shown_behind permissions.now flips.now marks.now) }
 {
     let blank = Shown {
         paged: false,
@@ -53,8 +53,8 @@ fn kinds_of(
     marks: &[bool; LOCUTUS_PARAGRAPHS],
     rows: [Shown; CHAPTERS],
 ) -> [u8; PARAGRAPHS]
-    requires { rows ≡ table chapters (shownBehind permissions.now flips.now marks.now) }
-    ensures { result ≡ table paragraphs (kinds (planFrom permissions.now flips.now marks.now)) }
+    requires { rows ≡ table chapters (shown_behind permissions.now flips.now marks.now) }
+    ensures { result ≡ table paragraphs (kinds (plan_from permissions.now flips.now marks.now)) }
 {
     let mut kinds = [0u8; PARAGRAPHS];
     let mut p = 0;
@@ -73,8 +73,8 @@ fn pages_of(
     marks: &[bool; LOCUTUS_PARAGRAPHS],
     rows: [Shown; CHAPTERS],
 ) -> [bool; FLIP_ENTRIES]
-    requires { rows ≡ table chapters (shownBehind permissions.now flips.now marks.now) }
-    ensures { result ≡ table flipEntries (hasPage (planFrom permissions.now flips.now marks.now)) }
+    requires { rows ≡ table chapters (shown_behind permissions.now flips.now marks.now) }
+    ensures { result ≡ table flip_entries (has_page (plan_from permissions.now flips.now marks.now)) }
 {
     let mut pages = [false; FLIP_ENTRIES];
     let mut n = 0;
@@ -93,7 +93,7 @@ pub fn plan_behind(
     flips: &[u16; FLIP_ENTRIES],
     marks: &[bool; LOCUTUS_PARAGRAPHS],
 ) -> Sketch
-    ensures { result ≡ sketchOf (planFrom permissions.now flips.now marks.now) }
+    ensures { result ≡ sketch_of (plan_from permissions.now flips.now marks.now) }
 {
     let rows = rows_of(permissions, flips, marks);
     let kinds = kinds_of(permissions, flips, marks, rows);

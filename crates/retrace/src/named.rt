@@ -1,7 +1,7 @@
 // Which Locutus paragraphs an image names, by two RAMs that it was loaded into: a word is named where both hold the same.
 ghost use Rattle.std.specs.Prelude.{◌≡◌, ◌<◌};
 ghost use Rattle.basics.specs.Tables.{table};
-ghost use Rattle.places.specs.Limits.{locutusParagraphs};
+ghost use Rattle.places.specs.Limits.{locutus_paragraphs};
 ghost use Rattle.retrace.specs.Code.Named.{named_in};
 
 use basics::both;
@@ -10,7 +10,7 @@ use places::{LOCUTUS_PARAGRAPHS, PARAGRAPH_SIZE};
 
 // All words of paragraph p are named.
 fn is_named(zeros: &[u16], ones: &[u16], p: usize) -> bool
-    requires { p < locutusParagraphs }
+    requires { p < locutus_paragraphs }
     ensures { result ≡ named_in zeros.now ones.now p }
 {
     let mut r = true;
@@ -25,7 +25,7 @@ fn is_named(zeros: &[u16], ones: &[u16], p: usize) -> bool
 
 // A mark for each Locutus paragraph that is named.
 pub fn marks_of(zeros: &[u16], ones: &[u16]) -> [bool; LOCUTUS_PARAGRAPHS]
-    ensures { result ≡ table locutusParagraphs (named_in zeros.now ones.now) }
+    ensures { result ≡ table locutus_paragraphs (named_in zeros.now ones.now) }
 {
     let mut marks = [false; LOCUTUS_PARAGRAPHS];
     let mut p = 0;

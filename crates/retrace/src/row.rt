@@ -1,11 +1,11 @@
 // What a chapter's row of flip entries shows of its pages, and the chapter behind it and its permissions.
 ghost use Rattle.std.specs.Prelude.{◌+◌, ◌*◌, ◌≤◌, ◌<◌, ◌≡◌, ◌&&◌, cond, false, not, eqb, get_or};
 ghost use Rattle.basics.specs.Counts.{any};
-ghost use Rattle.places.specs.Limits.{chapterPages, chapterParagraphs, chapters, layers, pageParagraphs, paragraphs, slots};
+ghost use Rattle.places.specs.Limits.{chapter_pages, chapter_paragraphs, chapters, layers, page_paragraphs, paragraphs, slots};
 ghost use Rattle.plan.specs.Image.{size};
-ghost use Rattle.plan.specs.Valid.{allowed, mayFlip, quiet};
-ghost use Rattle.behind.specs.Behind.{absent, hasEntries, kindShown};
-ghost use Rattle.retrace.specs.Code.Shown.{chapterOf, row_in, shownAt};
+ghost use Rattle.plan.specs.Valid.{allowed, may_flip, quiet};
+ghost use Rattle.behind.specs.Behind.{absent, has_entries, kind_shown};
+ghost use Rattle.retrace.specs.Code.Shown.{chapter_of, row_in, shown_at};
 
 use basics::{both, either};
 use places::{
@@ -25,7 +25,7 @@ pub(crate) struct Shown {
 
 // Chapters that may have pages.
 fn may_flip(x: usize) -> bool
-    ensures { result ≡ mayFlip x }
+    ensures { result ≡ may_flip x }
 {
     either(x == 2, 4 <= x)
 }
@@ -33,7 +33,7 @@ fn may_flip(x: usize) -> bool
 // Whether a row has an entry that is not 0, and one that is 8.
 fn has_some(flips: &[u16; FLIP_ENTRIES], x: usize) -> bool
     requires { x < chapters }
-    ensures { result ≡ any chapterPages (λ y. not (eqb (row_in flips.now x y) 0)) }
+    ensures { result ≡ any chapter_pages (λ y. not (eqb (row_in flips.now x y) 0)) }
 {
     let mut r = false;
     let mut y = 0;
@@ -46,7 +46,7 @@ fn has_some(flips: &[u16; FLIP_ENTRIES], x: usize) -> bool
 
 fn has_eight(flips: &[u16; FLIP_ENTRIES], x: usize) -> bool
     requires { x < chapters }
-    ensures { result ≡ any chapterPages (λ y. eqb (row_in flips.now x y) 8) }
+    ensures { result ≡ any chapter_pages (λ y. eqb (row_in flips.now x y) 8) }
 {
     let mut r = false;
     let mut y = 0;
@@ -59,7 +59,7 @@ fn has_eight(flips: &[u16; FLIP_ENTRIES], x: usize) -> bool
 
 fn is_paged(flips: &[u16; FLIP_ENTRIES], x: usize) -> bool
     requires { x < chapters }
-    ensures { result ≡ hasEntries x (row_in flips.now x) }
+    ensures { result ≡ has_entries x (row_in flips.now x) }
 {
     both(may_flip(x), has_some(flips, x))
 }
@@ -86,7 +86,7 @@ fn is_marked(marks: &[bool], p: usize) -> bool
 // Plain ROM lies beneath the pages: the entry is not 8, and paragraph 8 of Locutus page b is named.
 fn is_under(marks: &[bool; LOCUTUS_PARAGRAPHS], empty: u16, b: usize) -> bool
     requires { b ≤ slots }
-    ensures { result ≡ (not (eqb empty 8) && get_or marks.now (pageParagraphs * b + 8) false) }
+    ensures { result ≡ (not (eqb empty 8) && get_or marks.now (page_paragraphs * b + 8) false) }
 {
     both(empty != 8, is_marked(marks, PAGE_PARAGRAPHS * b + 8))
 }
@@ -98,7 +98,7 @@ pub(crate) fn row_at(
     b: usize,
 ) -> Shown
     requires { (x < chapters) × (b ≤ slots) }
-    ensures { result ≡ shownAt flips.now marks.now x b }
+    ensures { result ≡ shown_at flips.now marks.now x b }
 {
     let paged = is_paged(flips, x);
     let empty = empty_entry(flips, x, b);
@@ -130,7 +130,7 @@ fn is_allowed(p: usize, n: u8) -> bool
 // The kind that a permission shows at paragraph p.
 fn kind_shown(p: usize, n: u8) -> u8
     requires { p < paragraphs }
-    ensures { result ≡ kindShown p n }
+    ensures { result ≡ kind_shown p n }
 {
     if is_allowed(p, n) { n } else { 0 }
 }
@@ -143,8 +143,8 @@ fn one_if(on: bool) -> u8
 
 // The kind of paragraph k of chapter x, and whether it has page y.
 pub(crate) fn kind_of(permissions: &[u8; PARAGRAPHS], s: Shown, x: usize, k: usize) -> u8
-    requires { (x < chapters) × (k < chapterParagraphs) }
-    ensures { result ≡ (chapterOf permissions.now permissions.now s x).kind k }
+    requires { (x < chapters) × (k < chapter_paragraphs) }
+    ensures { result ≡ (chapter_of permissions.now permissions.now s x).kind k }
 {
     if both(s.paged, first_k(x) <= k) {
         return one_if(s.under);
@@ -154,8 +154,8 @@ pub(crate) fn kind_of(permissions: &[u8; PARAGRAPHS], s: Shown, x: usize, k: usi
 }
 
 pub(crate) fn page_of(flips: &[u16; FLIP_ENTRIES], s: Shown, x: usize, y: usize) -> bool
-    requires { (x < chapters) × (y < chapterPages) }
-    ensures { result ≡ (chapterOf flips.now flips.now s x).page y }
+    requires { (x < chapters) × (y < chapter_pages) }
+    ensures { result ≡ (chapter_of flips.now flips.now s x).page y }
 {
     both(s.paged, flips[CHAPTER_PAGES * x + y] != s.empty)
 }
@@ -174,7 +174,7 @@ pub(crate) fn size_of(
     x: usize,
 ) -> usize
     requires { x < chapters }
-    ensures { (result ≡ size (chapterOf permissions.now flips.now s x)) × (result ≤ layers) }
+    ensures { (result ≡ size (chapter_of permissions.now flips.now s x)) × (result ≤ layers) }
 {
     let mut plain = false;
     let mut n = 0;

@@ -4,8 +4,8 @@ use Rattle.basics.specs.Laws.Same.{same}
 use Rattle.rules.proofs.judge.Reads as judge
 use Rattle.rules.proofs.collides_with.Reads as collides-with
 
-pub one-judge : OneAnswer judge.Learnt
-one-judge κs a y z e f = same
+pub one_judge : OneAnswer judge.Learnt
+one_judge κs a y z e f = same
 
-pub one-collides-with : OneAnswer collides-with.Learnt
-one-collides-with κs a y z e f = same
+pub one_collides_with : OneAnswer collides-with.Learnt
+one_collides_with κs a y z e f = same

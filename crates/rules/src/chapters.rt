@@ -1,10 +1,10 @@
 // Rule 28: what the owners of its pages and the kinds of its paragraphs say of each chapter.
 ghost use Rattle.std.specs.Prelude.{◌<◌, ◌≤◌, ◌≡◌, take};
 ghost use Rattle.basics.specs.Tables.{table};
-ghost use Rattle.basics.specs.Refusals.{refuse, firstRefusal};
-ghost use Rattle.places.specs.Limits.{chapters, paragraphs, lineLimit};
+ghost use Rattle.basics.specs.Refusals.{refuse, first_refusal};
+ghost use Rattle.places.specs.Limits.{chapters, paragraphs, line_limit};
 ghost use Rattle.rules.specs.Chapters.{kind_at};
-ghost use Rattle.rules.specs.Code.Chapters.{pagedIn, allIn, breaksIn};
+ghost use Rattle.rules.specs.Code.Chapters.{paged_in, all_in, breaks_in};
 
 use basics::{Refusal, both, either, no_refusal, refuse};
 use lines::Line;
@@ -12,7 +12,7 @@ use places::{CHAPTER_PAGES, CHAPTER_PARAGRAPHS, CHAPTERS, FLIP_ENTRIES, LINE_LIM
 
 // The kind of each plain paragraph: claimed as its owner is.
 pub(crate) fn kinds_of(n: usize, lines: [Line; LINE_LIMIT]) -> [u32; PARAGRAPHS]
-    requires { n ≤ lineLimit }
+    requires { n ≤ line_limit }
     ensures { result ≡ table paragraphs (kind_at (take n lines)) }
 {
     let mut kinds = [0u32; PARAGRAPHS];
@@ -30,7 +30,7 @@ pub(crate) fn kinds_of(n: usize, lines: [Line; LINE_LIMIT]) -> [u32; PARAGRAPHS]
 // Whether chapter x has PAGE lines.
 fn is_paged(pages: &[u32; FLIP_ENTRIES], x: usize) -> bool
     requires { x < chapters }
-    ensures { result ≡ pagedIn pages.now x }
+    ensures { result ≡ paged_in pages.now x }
 {
     let mut r = false;
     let mut y = 0;
@@ -44,7 +44,7 @@ fn is_paged(pages: &[u32; FLIP_ENTRIES], x: usize) -> bool
 // Whether the flippable range of chapter x is all of a kind.
 fn is_all(kinds: &[u32; PARAGRAPHS], x: usize, kind: u32) -> bool
     requires { x < chapters }
-    ensures { result ≡ allIn kinds.now x kind }
+    ensures { result ≡ all_in kinds.now x kind }
 {
     let first = switches::first_k(x);
     let mut r = true;
@@ -61,7 +61,7 @@ fn is_all(kinds: &[u32; PARAGRAPHS], x: usize, kind: u32) -> bool
 
 fn breaks_plain(pages: &[u32; FLIP_ENTRIES], kinds: &[u32; PARAGRAPHS], x: usize) -> bool
     requires { x < chapters }
-    ensures { result ≡ breaksIn pages.now kinds.now x }
+    ensures { result ≡ breaks_in pages.now kinds.now x }
 {
     both(
         is_paged(pages, x),
@@ -71,7 +71,7 @@ fn breaks_plain(pages: &[u32; FLIP_ENTRIES], kinds: &[u32; PARAGRAPHS], x: usize
 
 // 28, the lowest chapter.
 pub(crate) fn first_broken(pages: &[u32; FLIP_ENTRIES], kinds: &[u32; PARAGRAPHS]) -> Refusal
-    ensures { result ≡ firstRefusal (table chapters (λ x. (breaksIn pages.now kinds.now x, refuse 28 x))) }
+    ensures { result ≡ first_refusal (table chapters (λ x. (breaks_in pages.now kinds.now x, refuse 28 x))) }
 {
     let mut x = 0;
     while x < CHAPTERS {

@@ -3,9 +3,9 @@ mod chapters;
 mod shape;
 
 ghost use Rattle.std.specs.Prelude.{◌≤◌, ◌≡◌, take};
-ghost use Rattle.basics.specs.Refusals.{firstRefusal};
-ghost use Rattle.places.specs.Limits.{lineLimit};
-ghost use Rattle.rules.specs.Rules.{lineRows, refusalOf, collidesWith};
+ghost use Rattle.basics.specs.Refusals.{first_refusal};
+ghost use Rattle.places.specs.Limits.{line_limit};
+ghost use Rattle.rules.specs.Rules.{line_rows, refusal_of, collides_with};
 ghost use Rattle.rules.specs.Code.Clashes.{Allowed, Clashed};
 
 use basics::{Refusal, least, no_refusal, refuse};
@@ -17,8 +17,8 @@ use shape::fault_of;
 
 // 25 and 26, line by line.
 fn line_fault(words: u32, n: usize, lines: [Line; LINE_LIMIT]) -> Refusal
-    requires { n ≤ lineLimit }
-    ensures { result ≡ firstRefusal (lineRows words (take n lines)) }
+    requires { n ≤ line_limit }
+    ensures { result ≡ first_refusal (line_rows words (take n lines)) }
 {
     let mut k = 0;
     while k < n {
@@ -42,7 +42,7 @@ struct Clash {
 
 // 27: each line against the owners that the earlier ones made.
 fn first_clash(n: usize, lines: [Line; LINE_LIMIT]) -> Clash
-    requires { (n ≤ lineLimit) × Allowed (take n lines) }
+    requires { (n ≤ line_limit) × Allowed (take n lines) }
     ensures { Clashed (take n lines) result }
 {
     let mut owners = owners::no_owners();
@@ -72,7 +72,7 @@ fn first_clash(n: usize, lines: [Line; LINE_LIMIT]) -> Clash
 
 // What rules 25 to 28 say of the lines of a CFG, for a BIN of so many words.
 pub fn judge(words: u32, count: u32, lines: [Line; LINE_LIMIT]) -> Refusal
-    ensures { result ≡ refusalOf words (take count lines) }
+    ensures { result ≡ refusal_of words (take count lines) }
 {
     let n = least(count as usize, lines.len());
     let fault = line_fault(words, n, lines);
@@ -91,7 +91,7 @@ pub fn judge(words: u32, count: u32, lines: [Line; LINE_LIMIT]) -> Refusal
 
 // The number of the earlier line with which the line that 27 refuses collides; 0 where 27 is not what refuses.
 pub fn collides_with(words: u32, count: u32, lines: [Line; LINE_LIMIT]) -> u32
-    ensures { result ≡ collidesWith words (take count lines) }
+    ensures { result ≡ collides_with words (take count lines) }
 {
     let n = least(count as usize, lines.len());
     let fault = line_fault(words, n, lines);

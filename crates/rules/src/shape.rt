@@ -1,7 +1,7 @@
 // Rules 25 and 26 of one line: its range, and its shape (01, "What a CFG may say").
 ghost use Rattle.std.specs.Prelude.{◌-◌, ◌≡◌};
-ghost use Rattle.basics.specs.Refusals.{firstRefusal};
-ghost use Rattle.rules.specs.Rules.{backwards, pastBin, outOfRange, meets, touchesSilent, plainShape, wholePage, halfPage, pageShape, misshapen, notAllowed, rows_of};
+ghost use Rattle.basics.specs.Refusals.{first_refusal};
+ghost use Rattle.rules.specs.Rules.{backwards, past_bin, out_of_range, meets, touches_silent, plain_shape, whole_page, half_page, page_shape, misshapen, not_allowed, rows_of};
 
 use basics::{Refusal, both, either, no_refusal, refuse};
 use lines::{Entry, Line, first_of, last_of, layer_of};
@@ -19,7 +19,7 @@ fn is_backwards(e: Entry) -> bool
 }
 
 fn past_bin(words: u32, e: Entry) -> bool
-    ensures { result ≡ pastBin words e }
+    ensures { result ≡ past_bin words e }
 {
     match e {
         Entry::Rom(_, hi, _) => words <= hi.0,
@@ -29,7 +29,7 @@ fn past_bin(words: u32, e: Entry) -> bool
 }
 
 fn out_of_range(words: u32, e: Entry) -> bool
-    ensures { result ≡ outOfRange words e }
+    ensures { result ≡ out_of_range words e }
 {
     either(
         is_backwards(e),
@@ -45,7 +45,7 @@ fn meet(a: usize, b: usize, c: usize, d: usize) -> bool
 }
 
 fn touches_silent(a: usize, b: usize) -> bool
-    ensures { result ≡ touchesSilent a b }
+    ensures { result ≡ touches_silent a b }
 {
     either(
         meet(a, b, 0, 0x4FF),
@@ -54,7 +54,7 @@ fn touches_silent(a: usize, b: usize) -> bool
 }
 
 fn plain_shape(a: usize, b: usize) -> bool
-    ensures { result ≡ plainShape a b }
+    ensures { result ≡ plain_shape a b }
 {
     both(
         a % PARAGRAPH_SIZE == 0,
@@ -73,7 +73,7 @@ fn above(a: usize, b: usize) -> usize
 }
 
 fn whole_page(a: usize, b: usize) -> bool
-    ensures { result ≡ wholePage a b }
+    ensures { result ≡ whole_page a b }
 {
     let x = a / CHAPTER_SIZE;
     both(
@@ -83,13 +83,13 @@ fn whole_page(a: usize, b: usize) -> bool
 }
 
 fn half_page(a: usize, b: usize) -> bool
-    ensures { result ≡ halfPage a b }
+    ensures { result ≡ half_page a b }
 {
     both(above(a, b) == HALF_SIZE - 1, a == HALF_START)
 }
 
 fn page_shape(a: usize, b: usize) -> bool
-    ensures { result ≡ pageShape a b }
+    ensures { result ≡ page_shape a b }
 {
     either(whole_page(a, b), half_page(a, b))
 }
@@ -108,7 +108,7 @@ fn is_misshapen(e: Entry) -> bool
 }
 
 fn not_allowed(l: Line) -> bool
-    ensures { result ≡ notAllowed l }
+    ensures { result ≡ not_allowed l }
 {
     let e = l.entry;
     either(l.source == 0, is_misshapen(e))
@@ -116,7 +116,7 @@ fn not_allowed(l: Line) -> bool
 
 // 25, then 26.
 pub(crate) fn fault_of(words: u32, l: Line) -> Refusal
-    ensures { result ≡ firstRefusal (rows_of words l) }
+    ensures { result ≡ first_refusal (rows_of words l) }
 {
     let e = l.entry;
     if out_of_range(words, e) {

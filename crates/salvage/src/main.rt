@@ -1,7 +1,7 @@
 // Salvages a damaged image: its name and that of the file to write are the arguments. Prints `kept=`, `dropped=` and `stopped=`, then
 // `drop=` with the place of each block left out; a refusal as the card does; or `result=stopped` with the file and the reason.
 ghost use Rattle.std.specs.Prelude.{◌+◌, ◌≡◌, length};
-ghost use Rattle.places.specs.Limits.{cardLimit};
+ghost use Rattle.places.specs.Limits.{card_limit};
 
 use files::{INPUTS, Seen};
 use places::CARD_LIMIT;
@@ -12,7 +12,7 @@ use recovery::{Salvaging, Stopped};
 const FILE_ROOM: usize = CARD_LIMIT + 1;
 
 fn file_room() -> [u8; FILE_ROOM]
-    ensures { cardLimit + 1 ≡ length result }
+    ensures { card_limit + 1 ≡ length result }
 {
     [0; FILE_ROOM]
 }

@@ -3,8 +3,8 @@ use Rattle.basics.specs.Same.{OneAnswer, OneLent}
 use Rattle.basics.specs.Laws.Same.{same}
 use Rattle.save.proofs.write.Reads as write
 
-pub one-write : OneAnswer write.Learnt
-one-write κs a y z e f p q = same p.0 q.0
+pub one_write : OneAnswer write.Learnt
+one_write κs a y z e f p q = same p.0 q.0
 
-pub one-write-lent : OneLent write.Learnt (λ κs e. e.0.now)
-one-write-lent κs a y z e f p q = same p.1 q.1
+pub one_write_lent : OneLent write.Learnt (λ κs e. e.0.now)
+one_write_lent κs a y z e f p q = same p.1 q.1

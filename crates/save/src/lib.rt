@@ -1,16 +1,16 @@
 // The plain writer: an image of the marked paragraphs of a RAM (01, "How an image is laid out by the builder").
 ghost use Rattle.std.specs.Prelude.{◌≡◌, ◌++◌, ◌∷◌, [], ◌+◌, ◌*◌, ◌≤◌, ◌<◌, length, get_or};
 ghost use Rattle.basics.specs.Counts.{lowest};
-ghost use Rattle.basics.specs.Lists.{putFront};
-ghost use Rattle.places.specs.Limits.{locutusParagraphs};
-ghost use Rattle.sums.specs.Crc.{c324Poly, crc324Of};
+ghost use Rattle.basics.specs.Lists.{put_front};
+ghost use Rattle.places.specs.Limits.{locutus_paragraphs};
+ghost use Rattle.sums.specs.Crc.{c324_poly, crc324_of};
 ghost use Rattle.sums.specs.Tables.{tables_of};
-ghost use Rattle.tables.specs.Tables.{tables, tablesPayload};
-ghost use Rattle.hunk.specs.Hunk.{hunk, payloadSize};
-ghost use Rattle.blocks.specs.Blocks.{frameSize, endMark, payloadIn, putFrame};
-ghost use Rattle.save.specs.Chosen.{tablesBlock, hunkBlock};
-ghost use Rattle.save.specs.Writing.{content, paragraphOf, imageBy, past, answerFor, writingOf, written_of};
-ghost use Rattle.save.specs.Code.Writing.{blockLimit, frontOf, frontSize, hunkBytes, imageSize, judgedBy};
+ghost use Rattle.tables.specs.Tables.{tables, tables_payload};
+ghost use Rattle.hunk.specs.Hunk.{hunk, payload_size};
+ghost use Rattle.blocks.specs.Blocks.{frame_size, end_mark, payload_in, put_frame};
+ghost use Rattle.save.specs.Chosen.{tables_block, hunk_block};
+ghost use Rattle.save.specs.Writing.{content, paragraph_of, image_by, past, answer_for, writing_of, written_of};
+ghost use Rattle.save.specs.Code.Writing.{block_limit, front_of, front_size, hunk_bytes, image_size, judged_by};
 
 use basics::Refusal;
 use blocks::FRAME_SIZE;
@@ -34,8 +34,8 @@ fn word_of(ram: &[u16], at: usize) -> u16
 
 // The words of paragraph p of a RAM.
 fn paragraph_of(ram: &[u16], p: usize) -> [u16; PARAGRAPH_SIZE]
-    requires { p < locutusParagraphs }
-    ensures { result ≡ paragraphOf ram.now p }
+    requires { p < locutus_paragraphs }
+    ensures { result ≡ paragraph_of ram.now p }
 {
     let mut words = [0u16; PARAGRAPH_SIZE];
     for i in 0..PARAGRAPH_SIZE {
@@ -46,8 +46,8 @@ fn paragraph_of(ram: &[u16], p: usize) -> [u16; PARAGRAPH_SIZE]
 
 // CRC32/4 of a block's payload, by its own tables.
 fn payload_sum(c324: &[u32; TABLE_ENTRIES], x: &[u8]) -> u32
-    requires { c324.now ≡ tables_of c324Poly }
-    ensures { result ≡ crc324Of (payloadIn x.now) }
+    requires { c324.now ≡ tables_of c324_poly }
+    ensures { result ≡ crc324_of (payload_in x.now) }
 {
     let a = basics::least(FRAME_SIZE, x.len());
     sums::sum_by(c324, 0, &x[a..])
@@ -55,8 +55,8 @@ fn payload_sum(c324: &[u32; TABLE_ENTRIES], x: &[u8]) -> u32
 
 // The frame of a block whose payload stands from byte 8 on.
 fn frame(out: &mut [u8], t: u8, c324: &[u32; TABLE_ENTRIES])
-    requires { c324.now ≡ tables_of c324Poly }
-    ensures { out.new ≡ putFrame t (crc324Of (payloadIn out.old)) out.old }
+    requires { c324.now ≡ tables_of c324_poly }
+    ensures { out.new ≡ put_frame t (crc324_of (payload_in out.old)) out.old }
 {
     let sum = payload_sum(c324, out);
     blocks::put_frame(out, t, sum);
@@ -70,8 +70,8 @@ fn put_tables<'a>(
     flips: &'a [u16; PARAGRAPHS],
     c324: &[u32; TABLE_ENTRIES],
 )
-    requires { (c324.now ≡ tables_of c324Poly) × (length out.old ≡ frameSize + length (tablesPayload (tables mapping.now permissions.now flips.now))) × (length out.old ≤ blockLimit) }
-    ensures { out.new ≡ tablesBlock (tables mapping.now permissions.now flips.now) }
+    requires { (c324.now ≡ tables_of c324_poly) × (length out.old ≡ frame_size + length (tables_payload (tables mapping.now permissions.now flips.now))) × (length out.old ≤ block_limit) }
+    ensures { out.new ≡ tables_block (tables mapping.now permissions.now flips.now) }
 {
     tables::write(&mut out[FRAME_SIZE..], mapping, permissions, flips);
     frame(out, blocks::TABLES_TYPE, c324);
@@ -79,8 +79,8 @@ fn put_tables<'a>(
 
 // The block of a hunk, into a part of just its size.
 fn put_hunk(out: &mut [u8], at: Locutus, words: &[u16; PARAGRAPH_SIZE], c324: &[u32; TABLE_ENTRIES])
-    requires { (c324.now ≡ tables_of c324Poly) × (length out.old ≡ frameSize + payloadSize words.now) × (length out.old ≤ blockLimit) }
-    ensures { out.new ≡ hunkBlock (hunk at words.now) }
+    requires { (c324.now ≡ tables_of c324_poly) × (length out.old ≡ frame_size + payload_size words.now) × (length out.old ≤ block_limit) }
+    ensures { out.new ≡ hunk_block (hunk at words.now) }
 {
     hunk::write(&mut out[FRAME_SIZE..], at, words);
     frame(out, blocks::HUNK_TYPE, c324);
@@ -94,7 +94,7 @@ fn front_size<'a>(
     permissions: &'a [u8; PARAGRAPHS],
     flips: &'a [u16; PARAGRAPHS],
 ) -> usize
-    ensures { (result ≡ frontSize flags.now uid.now (tables mapping.now permissions.now flips.now)) × (result ≤ 2 * blockLimit) }
+    ensures { (result ≡ front_size flags.now uid.now (tables mapping.now permissions.now flips.now)) × (result ≤ 2 * block_limit) }
 {
     header::size(flags, uid) + (FRAME_SIZE + tables::size(mapping, permissions, flips))
 }
@@ -109,8 +109,8 @@ fn put_front<'a>(
     flips: &'a [u16; PARAGRAPHS],
     c324: &[u32; TABLE_ENTRIES],
 )
-    requires { (c324.now ≡ tables_of c324Poly) × (length out.old ≡ frontSize flags.now uid.now (tables mapping.now permissions.now flips.now)) }
-    ensures { out.new ≡ frontOf flags.now uid.now (tables mapping.now permissions.now flips.now) }
+    requires { (c324.now ≡ tables_of c324_poly) × (length out.old ≡ front_size flags.now uid.now (tables mapping.now permissions.now flips.now)) }
+    ensures { out.new ≡ front_of flags.now uid.now (tables mapping.now permissions.now flips.now) }
 {
     let a = header::size(flags, uid);
     let e = a + (FRAME_SIZE + tables::size(mapping, permissions, flips));
@@ -120,14 +120,14 @@ fn put_front<'a>(
 
 // The bytes of the block of a paragraph's words.
 fn block_size(words: &[u16; PARAGRAPH_SIZE]) -> usize
-    ensures { (result ≡ frameSize + payloadSize words.now) × (result ≤ blockLimit) }
+    ensures { (result ≡ frame_size + payload_size words.now) × (result ≤ block_limit) }
 {
     FRAME_SIZE + hunk::size(words)
 }
 
 // The bytes of the blocks of the marked paragraphs.
 fn hunks_size(ram: &[u16], marks: &[bool; LOCUTUS_PARAGRAPHS]) -> usize
-    ensures { (result ≡ length (hunkBytes ram.now marks.now)) × (result ≤ blockLimit * locutusParagraphs) }
+    ensures { (result ≡ length (hunk_bytes ram.now marks.now)) × (result ≤ block_limit * locutus_paragraphs) }
 {
     let mut long = 0;
     let mut p = 0;
@@ -148,8 +148,8 @@ fn put_hunks(
     marks: &[bool; LOCUTUS_PARAGRAPHS],
     c324: &[u32; TABLE_ENTRIES],
 )
-    requires { (c324.now ≡ tables_of c324Poly) × (length out.old ≡ length (hunkBytes ram.now marks.now) + 1) }
-    ensures { out.new ≡ hunkBytes ram.now marks.now ++ (endMark ∷ []) }
+    requires { (c324.now ≡ tables_of c324_poly) × (length out.old ≡ length (hunk_bytes ram.now marks.now) + 1) }
+    ensures { out.new ≡ hunk_bytes ram.now marks.now ++ (end_mark ∷ []) }
 {
     let mut at = 0;
     let mut p = 0;
@@ -180,7 +180,7 @@ fn image_size<'a>(
     ram: &[u16],
     marks: &[bool; LOCUTUS_PARAGRAPHS],
 ) -> usize
-    ensures { result ≡ imageSize (content flags.now uid.now (tables mapping.now permissions.now flips.now) ram.now marks.now) }
+    ensures { result ≡ image_size (content flags.now uid.now (tables mapping.now permissions.now flips.now) ram.now marks.now) }
 {
     front_size(flags, uid, mapping, permissions, flips) + hunks_size(ram, marks) + 1
 }
@@ -197,8 +197,8 @@ fn put_image<'a>(
     marks: &[bool; LOCUTUS_PARAGRAPHS],
     long: usize,
 )
-    requires { (long ≡ imageSize (content flags.now uid.now (tables mapping.now permissions.now flips.now) ram.now marks.now)) × (long ≤ length out.old) }
-    ensures { out.new ≡ putFront (imageBy (content flags.now uid.now (tables mapping.now permissions.now flips.now) ram.now marks.now)) out.old }
+    requires { (long ≡ image_size (content flags.now uid.now (tables mapping.now permissions.now flips.now) ram.now marks.now)) × (long ≤ length out.old) }
+    ensures { out.new ≡ put_front (image_by (content flags.now uid.now (tables mapping.now permissions.now flips.now) ram.now marks.now)) out.old }
 {
     let c324 = sums::tables(sums::C324);
     let a = front_size(flags, uid, mapping, permissions, flips);
@@ -216,7 +216,7 @@ fn put_image<'a>(
 
 // The lowest marked paragraph that does not lie in n words, or 2,048.
 fn lowest_past(marks: &[bool; LOCUTUS_PARAGRAPHS], n: usize) -> usize
-    ensures { result ≡ lowest locutusParagraphs (past marks.now n) }
+    ensures { result ≡ lowest locutus_paragraphs (past marks.now n) }
 {
     let mut p = 0;
     while p < LOCUTUS_PARAGRAPHS {
@@ -239,7 +239,7 @@ fn judge(
     marks: &[bool; LOCUTUS_PARAGRAPHS],
     long: usize,
 ) -> Refusal
-    ensures { result ≡ judgedBy room flags.now flips.now words marks.now long }
+    ensures { result ≡ judged_by room flags.now flips.now words marks.now long }
 {
     let of_tables = tables::refused(flags, flips, words, tables::flash_words(flags));
     if of_tables.number != 0 {
@@ -260,7 +260,7 @@ fn judge(
 
 // The answer: a refusal has the length only at 29.
 fn answer(r: Refusal, long: usize) -> Writing
-    ensures { result ≡ answerFor r long }
+    ensures { result ≡ answer_for r long }
 {
     if basics::either(r.number == 0, r.number == 29) {
         return Writing {
@@ -285,7 +285,7 @@ pub fn write<'a>(
     ram: &[u16],
     marks: &[bool; LOCUTUS_PARAGRAPHS],
 ) -> Writing
-    ensures { (result ≡ writingOf out.old (content flags.now uid.now (tables mapping.now permissions.now flips.now) ram.now marks.now))
+    ensures { (result ≡ writing_of out.old (content flags.now uid.now (tables mapping.now permissions.now flips.now) ram.now marks.now))
         × (out.new ≡ written_of out.old (content flags.now uid.now (tables mapping.now permissions.now flips.now) ram.now marks.now)) }
 {
     let long = image_size(flags, uid, mapping, permissions, flips, ram, marks);

@@ -3,5 +3,5 @@ use Rattle.basics.specs.Same.{OneAnswer}
 use Rattle.basics.specs.Laws.Same.{same}
 use Rattle.sheet.proofs.sheet_of.Reads as sheet-of
 
-pub one-sheet-of : OneAnswer sheet-of.Learnt
-one-sheet-of κs a y z e f = same
+pub one_sheet_of : OneAnswer sheet-of.Learnt
+one_sheet_of κs a y z e f = same

@@ -1,8 +1,8 @@
 // A CFG as it is written (02, W-213): the lines of its sections, one after the other, on a sheet.
 ghost use Rattle.std.specs.Prelude.{◌+◌, ◌*◌, ◌≤◌, ◌≡◌, length, take, drop};
-ghost use Rattle.basics.specs.Lists.{putFront};
-ghost use Rattle.places.specs.Limits.{lineLimit};
-ghost use Rattle.sheet.specs.Code.Sheets.{entryBytes, linesBytes, headed, mappingName, memattrName, sectionsBytes, sheetOf, cfgLines};
+ghost use Rattle.basics.specs.Lists.{put_front};
+ghost use Rattle.places.specs.Limits.{line_limit};
+ghost use Rattle.sheet.specs.Code.Sheets.{entry_bytes, lines_bytes, headed, mapping_name, memattr_name, sections_bytes, sheet_of, cfg_lines};
 
 use basics::{byte_at, least, put_bytes};
 use lines::{Entry, Line};
@@ -20,7 +20,7 @@ pub struct Sheet {
 
 // How many bytes the line of an entry has.
 fn size_of(e: Entry) -> usize
-    ensures { (result ≡ length (entryBytes e)) × (result ≤ 31) }
+    ensures { (result ≡ length (entry_bytes e)) × (result ≤ 31) }
 {
     let t = print::text_of(e);
     t.length
@@ -28,8 +28,8 @@ fn size_of(e: Entry) -> usize
 
 // The line of an entry, into a part of just its size.
 fn put_entry(out: &mut [u8], e: Entry)
-    requires { length out.old ≡ length (entryBytes e) }
-    ensures { out.new ≡ entryBytes e }
+    requires { length out.old ≡ length (entry_bytes e) }
+    ensures { out.new ≡ entry_bytes e }
 {
     let t = print::text_of(e);
     let bytes = t.bytes;
@@ -42,8 +42,8 @@ fn put_entry(out: &mut [u8], e: Entry)
 
 // The lines of n entries, from one of them on; how many bytes they are.
 fn put_lines(out: &mut [u8], lines: [Line; LINE_LIMIT], from: usize, n: usize) -> usize
-    requires { (from + n ≤ lineLimit) × (31 * n ≤ length out.old) }
-    ensures { (result ≡ length (linesBytes (take n (drop from lines)))) × (result ≤ 31 * n) × (out.new ≡ putFront (linesBytes (take n (drop from lines))) out.old) }
+    requires { (from + n ≤ line_limit) × (31 * n ≤ length out.old) }
+    ensures { (result ≡ length (lines_bytes (take n (drop from lines)))) × (result ≤ 31 * n) × (out.new ≡ put_front (lines_bytes (take n (drop from lines))) out.old) }
 {
     let mut at = 0;
     let mut i = 0;
@@ -66,8 +66,8 @@ fn put_section(
     from: usize,
     n: usize,
 ) -> usize
-    requires { (from + n ≤ lineLimit) × (10 + 31 * n ≤ length out.old) }
-    ensures { (result ≡ length (headed name.now (take n (drop from lines)))) × (result ≤ 10 + 31 * n) × (out.new ≡ putFront (headed name.now (take n (drop from lines))) out.old) }
+    requires { (from + n ≤ line_limit) × (10 + 31 * n ≤ length out.old) }
+    ensures { (result ≡ length (headed name.now (take n (drop from lines)))) × (result ≤ 10 + 31 * n) × (out.new ≡ put_front (headed name.now (take n (drop from lines))) out.old) }
 {
     if n == 0 {
         return 0;
@@ -77,21 +77,21 @@ fn put_section(
 }
 
 fn mapping_name() -> [u8; 10]
-    ensures { result ≡ mappingName }
+    ensures { result ≡ mapping_name }
 {
     [b'[', b'm', b'a', b'p', b'p', b'i', b'n', b'g', b']', b'\n']
 }
 
 fn memattr_name() -> [u8; 10]
-    ensures { result ≡ memattrName }
+    ensures { result ≡ memattr_name }
 {
     [b'[', b'm', b'e', b'm', b'a', b't', b't', b'r', b']', b'\n']
 }
 
 // Both sections: the first m lines are of [mapping], the n behind them of [memattr].
 fn put_sections(out: &mut [u8], lines: [Line; LINE_LIMIT], m: usize, n: usize) -> usize
-    requires { (m + n ≤ lineLimit) × (20 + 31 * (m + n) ≤ length out.old) }
-    ensures { (result ≡ length (sectionsBytes lines m n)) × (out.new ≡ putFront (sectionsBytes lines m n) out.old) }
+    requires { (m + n ≤ line_limit) × (20 + 31 * (m + n) ≤ length out.old) }
+    ensures { (result ≡ length (sections_bytes lines m n)) × (out.new ≡ put_front (sections_bytes lines m n) out.old) }
 {
     let mapping = mapping_name();
     let memattr = memattr_name();
@@ -101,7 +101,7 @@ fn put_sections(out: &mut [u8], lines: [Line; LINE_LIMIT], m: usize, n: usize) -
 
 // The CFG of these lines, of which the first are of [mapping].
 pub fn sheet_of(mapping: usize, count: usize, lines: [Line; LINE_LIMIT]) -> Sheet
-    ensures { result ≡ sheetOf (cfgLines mapping count lines) }
+    ensures { result ≡ sheet_of (cfg_lines mapping count lines) }
 {
     let c = least(count, LINE_LIMIT);
     let m = least(mapping, c);

@@ -1,6 +1,6 @@
 // A text as a shelf label shows it: no byte of it that a screen would act on (02, "W-204").
 ghost use Rattle.std.specs.Prelude.{◌*◌, ◌≤◌, ◌≡◌, ◌++◌, length, take, drop};
-ghost use Rattle.shelf.specs.Escaped.{byDigits, escapedByte, escaped, escapedLength, escapedIn};
+ghost use Rattle.shelf.specs.Escaped.{by_digits, escaped_byte, escaped, escaped_length, escaped_in};
 
 const BACKSLASH: u8 = 92;
 
@@ -23,7 +23,7 @@ struct Signs {
 
 // A byte by its two digits.
 fn by_digits(b: u8) -> Signs
-    ensures { (result.n ≡ 4) × (result.bytes ≡ byDigits b) }
+    ensures { (result.n ≡ 4) × (result.bytes ≡ by_digits b) }
 {
     Signs {
         n: 4,
@@ -38,7 +38,7 @@ fn by_digits(b: u8) -> Signs
 
 // What a byte is shown by.
 fn signs_of(b: u8) -> Signs
-    ensures { (take result.n result.bytes ≡ escapedByte b) × (result.n ≤ 4) × (length result.bytes ≡ 4) }
+    ensures { (take result.n result.bytes ≡ escaped_byte b) × (result.n ≤ 4) × (length result.bytes ≡ 4) }
 {
     if b == BACKSLASH {
         return Signs {
@@ -80,7 +80,7 @@ fn put_text(out: &mut [u8], text: &[u8]) -> usize
 // A text as a label shows it, at the front of a buffer; answers its length. Where the buffer has not four bytes of room for each of the
 // text's, nothing is written, and the answer is 0.
 pub fn escape(out: &mut [u8], text: &[u8]) -> usize
-    ensures { (result ≡ escapedLength out.old text.now) × (out.new ≡ escapedIn out.old text.now) }
+    ensures { (result ≡ escaped_length out.old text.now) × (out.new ≡ escaped_in out.old text.now) }
 {
     if out.len() / WIDEST < text.len() {
         return 0;

@@ -9,23 +9,23 @@ use Rattle.sums.proofs.dowcrc_short.Reads as dowcrc-short
 use Rattle.sums.proofs.crc324.Reads as crc324
 use Rattle.sums.proofs.crc32.Reads as crc32
 
-pub one-tables : OneAnswer tables.Learnt
-one-tables κs a y z e f = same
+pub one_tables : OneAnswer tables.Learnt
+one_tables κs a y z e f = same
 
-pub one-sum-by : OneAnswer sum_by.Learnt
-one-sum-by κs a y z e f = same
+pub one_sum_by : OneAnswer sum_by.Learnt
+one_sum_by κs a y z e f = same
 
-pub one-dowcrc-by : OneAnswer dowcrc-by.Learnt
-one-dowcrc-by κs a y z e f = same
+pub one_dowcrc_by : OneAnswer dowcrc-by.Learnt
+one_dowcrc_by κs a y z e f = same
 
-pub one-dowcrc : OneAnswer dowcrc.Learnt
-one-dowcrc κs a y z e f = same
+pub one_dowcrc : OneAnswer dowcrc.Learnt
+one_dowcrc κs a y z e f = same
 
-pub one-crc324 : OneAnswer crc324.Learnt
-one-crc324 κs a y z e f = same
+pub one_crc324 : OneAnswer crc324.Learnt
+one_crc324 κs a y z e f = same
 
-pub one-crc32 : OneAnswer crc32.Learnt
-one-crc32 κs a y z e f = same
+pub one_crc32 : OneAnswer crc32.Learnt
+one_crc32 κs a y z e f = same
 
-pub one-dowcrc-short : OneAnswer dowcrc-short.Learnt
-one-dowcrc-short κs a y z e f = same
+pub one_dowcrc_short : OneAnswer dowcrc-short.Learnt
+one_dowcrc_short κs a y z e f = same

@@ -1,8 +1,8 @@
 // DOWCRC, CRC32/4 and IEEE CRC32: one maker of tables over the polynomial, and one sum over lent tables.
 ghost use Rattle.std.specs.Prelude.{◌+◌, ◌/◌, ◌%◌, ◌<◌, ◌≤◌, ◌≡◌, length};
 ghost use Rattle.basics.specs.Laws.Tables.{Filled};
-ghost use Rattle.sums.specs.Crc.{crcBit, crcBits, crcByte, crcFrom, dowcrcOf, crc324Of, crc32Of};
-ghost use Rattle.sums.specs.Tables.{tableEntries, entry_of, tables_of, entry_at, byBytes, byEight, byEights, byTables};
+ghost use Rattle.sums.specs.Crc.{crc_bit, crc_bits, crc_byte, crc_from, dowcrc_of, crc324_of, crc32_of};
+ghost use Rattle.sums.specs.Tables.{table_entries, entry_of, tables_of, entry_at, by_bytes, by_eight, by_eights, by_tables};
 
 // The polynomials.
 pub const DOW: u32 = 0x98;
@@ -16,14 +16,14 @@ pub const TABLE_ENTRIES: usize = 2048;
 
 // One bit.
 fn bit(p: u32, c: u32) -> u32
-    ensures { result ≡ crcBit p c }
+    ensures { result ≡ crc_bit p c }
 {
     if c % 2 == 1 { (c >> 1) ^ p } else { c >> 1 }
 }
 
 // Eight bits: an entry of the first table.
 fn bits(p: u32, c: u32) -> u32
-    ensures { result ≡ crcBits p 8 c }
+    ensures { result ≡ crc_bits p 8 c }
 {
     let mut x = c;
     for k in 0..8usize {
@@ -34,14 +34,14 @@ fn bits(p: u32, c: u32) -> u32
 
 // One byte, bit by bit.
 fn byte(p: u32, c: u32, b: u8) -> u32
-    ensures { result ≡ crcByte p c b }
+    ensures { result ≡ crc_byte p c b }
 {
     bits(p, c ^ (b as u32))
 }
 
 // The sum of s bit by bit, from the sum c of what stands before it: for a few bytes, with no tables.
 fn bitwise(p: u32, c: u32, s: &[u8]) -> u32
-    ensures { result ≡ crcFrom p c s.now }
+    ensures { result ≡ crc_from p c s.now }
 {
     let mut x = c;
     for i in 0..s.len() {
@@ -52,7 +52,7 @@ fn bitwise(p: u32, c: u32, s: &[u8]) -> u32
 
 // The first of the eight tables, before zeros.
 fn first(p: u32) -> [u32; TABLE_ENTRIES]
-    ensures { Filled 0 tableEntries (entry_of p) 256 result }
+    ensures { Filled 0 table_entries (entry_of p) 256 result }
 {
     let mut t = [0u32; TABLE_ENTRIES];
     for i in 0..256usize {
@@ -86,7 +86,7 @@ fn entry(t: &[u32; TABLE_ENTRIES], j: usize, c: u32, b: u8) -> u32
 // Eight bytes of s from place i on. The last four come first: they ask nothing of c, which each step waits for.
 fn eight(t: &[u32; TABLE_ENTRIES], c: u32, s: &[u8], i: usize) -> u32
     requires { i + 8 ≤ length s.now }
-    ensures { result ≡ byEight t.now c s.now i }
+    ensures { result ≡ by_eight t.now c s.now i }
 {
     let last = entry(t, 3, 0, s[i + 4])
         ^ (entry(t, 2, 0, s[i + 5]) ^ (entry(t, 1, 0, s[i + 6]) ^ entry(t, 0, 0, s[i + 7])));
@@ -97,7 +97,7 @@ fn eight(t: &[u32; TABLE_ENTRIES], c: u32, s: &[u8], i: usize) -> u32
 
 // All eights of s.
 fn eights(t: &[u32; TABLE_ENTRIES], c: u32, s: &[u8]) -> u32
-    ensures { result ≡ byEights t.now c s.now (length s.now / 8) }
+    ensures { result ≡ by_eights t.now c s.now (length s.now / 8) }
 {
     let mut x = c;
     for n in 0..s.len() / 8 {
@@ -108,7 +108,7 @@ fn eights(t: &[u32; TABLE_ENTRIES], c: u32, s: &[u8]) -> u32
 
 // The bytes of s, one at a time.
 fn bytes(t: &[u32; TABLE_ENTRIES], c: u32, s: &[u8]) -> u32
-    ensures { result ≡ byBytes t.now c s.now }
+    ensures { result ≡ by_bytes t.now c s.now }
 {
     let mut x = c;
     for i in 0..s.len() {
@@ -119,7 +119,7 @@ fn bytes(t: &[u32; TABLE_ENTRIES], c: u32, s: &[u8]) -> u32
 
 // The sum of s by lent tables, from the sum c of what stands before it.
 pub fn sum_by(t: &[u32; TABLE_ENTRIES], c: u32, s: &[u8]) -> u32
-    ensures { result ≡ byTables t.now c s.now }
+    ensures { result ≡ by_tables t.now c s.now }
 {
     let at = 8 * (s.len() / 8);
     bytes(t, eights(t, c, s), &s[at..])
@@ -127,14 +127,14 @@ pub fn sum_by(t: &[u32; TABLE_ENTRIES], c: u32, s: &[u8]) -> u32
 
 // DOWCRC by lent tables.
 pub fn dowcrc_by(t: &[u32; TABLE_ENTRIES], s: &[u8]) -> u8
-    ensures { result ≡ byTables t.now 0 s.now % 256 }
+    ensures { result ≡ by_tables t.now 0 s.now % 256 }
 {
     (sum_by(t, 0, s) % 256) as u8
 }
 
 // The three sums of s, each with its tables made for the call.
 pub fn dowcrc(s: &[u8]) -> u8
-    ensures { result ≡ dowcrcOf s.now }
+    ensures { result ≡ dowcrc_of s.now }
 {
     let t = tables(DOW);
     dowcrc_by(&t, s)
@@ -142,20 +142,20 @@ pub fn dowcrc(s: &[u8]) -> u8
 
 // DOWCRC of the few bytes of a header.
 pub fn dowcrc_short(s: &[u8]) -> u8
-    ensures { result ≡ dowcrcOf s.now }
+    ensures { result ≡ dowcrc_of s.now }
 {
     (bitwise(DOW, 0, s) % 256) as u8
 }
 
 pub fn crc324(s: &[u8]) -> u32
-    ensures { result ≡ crc324Of s.now }
+    ensures { result ≡ crc324_of s.now }
 {
     let t = tables(C324);
     sum_by(&t, 0, s)
 }
 
 pub fn crc32(s: &[u8]) -> u32
-    ensures { result ≡ crc32Of s.now }
+    ensures { result ≡ crc32_of s.now }
 {
     let t = tables(IEEE);
     sum_by(&t, 0xFFFF_FFFF, s) ^ 0xFFFF_FFFF

@@ -11,38 +11,38 @@ use Rattle.switches.proofs.register_at.Reads as register-at
 use Rattle.switches.proofs.banked.Reads as banked
 use Rattle.switches.proofs.bankswitch.Reads as bankswitch
 
-pub one-asked : OneAnswer asked.Learnt
-one-asked κs a y z e f = same
+pub one_asked : OneAnswer asked.Learnt
+one_asked κs a y z e f = same
 
-pub one-acts : OneAnswer acts.Learnt
-one-acts κs a y z e f = same
+pub one_acts : OneAnswer acts.Learnt
+one_acts κs a y z e f = same
 
-pub one-first-k : OneAnswer first-k.Learnt
-one-first-k κs a y z e f p q = same p.0 q.0
+pub one_first_k : OneAnswer first-k.Learnt
+one_first_k κs a y z e f p q = same p.0 q.0
 
-pub one-flip-from : OneAnswer flip-from.Learnt
-one-flip-from κs a y z e f p q = same p.0 q.0
+pub one_flip_from : OneAnswer flip-from.Learnt
+one_flip_from κs a y z e f p q = same p.0 q.0
 
-pub one-flip-size : OneAnswer flip-size.Learnt
-one-flip-size κs a y z e f = same
+pub one_flip_size : OneAnswer flip-size.Learnt
+one_flip_size κs a y z e f = same
 
-pub one-flip : OneAnswer flip.Learnt
-one-flip κs a y z e f p q = same p.0 q.0
+pub one_flip : OneAnswer flip.Learnt
+one_flip κs a y z e f p q = same p.0 q.0
 
-pub one-flip-mapping : OneLent flip.Learnt (λ κs e. e.0.now)
-one-flip-mapping κs a y z e f p q = same p.1 q.1
+pub one_flip_mapping : OneLent flip.Learnt (λ κs e. e.0.now)
+one_flip_mapping κs a y z e f p q = same p.1 q.1
 
-pub one-flip-permissions : OneLent flip.Learnt (λ κs e. e.1.0.now)
-one-flip-permissions κs a y z e f p q = same p.2 q.2
+pub one_flip_permissions : OneLent flip.Learnt (λ κs e. e.1.0.now)
+one_flip_permissions κs a y z e f p q = same p.2 q.2
 
-pub one-register-at : OneAnswer register-at.Learnt
-one-register-at κs a y z e f = same
+pub one_register_at : OneAnswer register-at.Learnt
+one_register_at κs a y z e f = same
 
-pub one-banked : OneAnswer banked.Learnt
-one-banked κs a y z e f = same
+pub one_banked : OneAnswer banked.Learnt
+one_banked κs a y z e f = same
 
-pub one-bankswitch : OneAnswer bankswitch.Learnt
-one-bankswitch κs a y z e f p q = same p.0 q.0
+pub one_bankswitch : OneAnswer bankswitch.Learnt
+one_bankswitch κs a y z e f p q = same p.0 q.0
 
-pub one-bankswitch-mapping : OneLent bankswitch.Learnt (λ κs e. e.0.now)
-one-bankswitch-mapping κs a y z e f p q = same p.1 q.1
+pub one_bankswitch_mapping : OneLent bankswitch.Learnt (λ κs e. e.0.now)
+one_bankswitch_mapping κs a y z e f p q = same p.1 q.1

@@ -3,21 +3,21 @@
 use Rattle.std.specs.Prelude.{ℕ, ◌+◌, ◌*◌, ◌/◌, ◌%◌, Bool, cond, List, ◌==◌, slice_index}
 use Rattle.basics.specs.Lists.{laid}
 use Rattle.places.specs.declared.Console.{Console}
-use Rattle.places.specs.Limits.{chapterParagraphs}
+use Rattle.places.specs.Limits.{chapter_paragraphs}
 use Rattle.switches.specs.declared.Register.{Register}
 use Rattle.switches.specs.declared.Register.TheVariants.{HalfPage, Elsewhere}
 use Rattle.switches.specs.Flips.{Active, active}
 
 -- a half-page is 8 paragraphs (001, LUIGI Memory Organization Terminology)
-abbrev pub halfPageParagraphs : ℕ
-halfPageParagraphs = 8
+abbrev pub half_page_paragraphs : ℕ
+half_page_paragraphs = 8
 
 -- $0040-$004F is the register of half-page $x000-$x7FF and $0050-$005F that of $x800-$xFFF, x being the low digit; a half-page is named by its
 -- first paragraph
-unfoldable pub registerAt : Console → Register
-registerAt at =
-    cond (at.0 / 0x10 == 4) (HalfPage (chapterParagraphs * (at.0 % 0x10)))
-    (cond (at.0 / 0x10 == 5) (HalfPage (chapterParagraphs * (at.0 % 0x10) + halfPageParagraphs)) Elsewhere)
+unfoldable pub register_at : Console → Register
+register_at at =
+    cond (at.0 / 0x10 == 4) (HalfPage (chapter_paragraphs * (at.0 % 0x10)))
+    (cond (at.0 / 0x10 == 5) (HalfPage (chapter_paragraphs * (at.0 % 0x10) + half_page_paragraphs)) Elsewhere)
 
 -- it acts where BANKSW, bit 3 of a permission, is set in the half-page's first paragraph
 abbrev pub BANKSW : ℕ → Bool
@@ -27,13 +27,13 @@ abbrev pub banked : List ℕ → ℕ → Bool
 banked permissions p = BANKSW (slice_index permissions p)
 
 -- paragraph j behind number v of the 64K-word Intellicart space, going round from 255 to 0; the space is Locutus $00000-$0FFFF
-abbrev pub numberFrom : ℕ → ℕ → ℕ
-numberFrom v j = (v + j) % 256
+abbrev pub number_from : ℕ → ℕ → ℕ
+number_from v j = (v + j) % 256
 
 -- a mapping whose half-page number h has taken number v and the seven after it
 unfoldable pub switched : ℕ → ℕ → List ℕ → List ℕ
-switched h v m = laid (halfPageParagraphs * h) halfPageParagraphs (numberFrom v) m
+switched h v m = laid (half_page_paragraphs * h) half_page_paragraphs (number_from v) m
 
 -- the active tables after the half-page of paragraph p is switched to v: permissions stay
 abbrev pub bankswitched : ℕ → ℕ → Active → Active
-bankswitched p v a = active (switched (p / halfPageParagraphs) v a.mapping) a.permissions
+bankswitched p v a = active (switched (p / half_page_paragraphs) v a.mapping) a.permissions

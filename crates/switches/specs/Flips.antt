@@ -2,7 +2,7 @@
 use Rattle.std.specs.Prelude.{ℕ, ◌+◌, ◌-◌, ◌*◌, ◌/◌, ◌%◌, Bool, cond, ◌&&◌, List, ◌==◌, nat_le, slice_index}
 use Rattle.basics.specs.Lists.{laid}
 use Rattle.places.specs.declared.Console.{Console}
-use Rattle.places.specs.Limits.{chapterPages, chapterParagraphs}
+use Rattle.places.specs.Limits.{chapter_pages, chapter_paragraphs}
 use Rattle.switches.specs.declared.Request.{Request}
 use Rattle.switches.specs.declared.Request.TheVariants.{Entry, Nothing}
 
@@ -10,7 +10,7 @@ use Rattle.switches.specs.declared.Request.TheVariants.{Entry, Nothing}
 unfoldable pub asks : Console → ℕ → Request
 asks at v =
     cond (at.0 % 0x1000 == 0xFFF && (v / 0x1000 == at.0 / 0x1000 && v / 16 % 256 == 0xA5))
-    (Entry (v / 0x1000 * chapterPages + v % chapterPages))
+    (Entry (v / 0x1000 * chapter_pages + v % chapter_pages))
     Nothing
 
 -- it acts when PFE, bit 3 of the entry, is set and chapter x is neither 0 nor 1
@@ -18,30 +18,30 @@ abbrev pub PFE : ℕ → Bool
 PFE e = e / 8 % 2 == 1
 
 abbrev pub acts : List ℕ → ℕ → Bool
-acts flips n = PFE (slice_index flips n) && nat_le 2 (n / chapterPages)
+acts flips n = PFE (slice_index flips n) && nat_le 2 (n / chapter_pages)
 
 -- acting gives each paragraph k of the chapter the mapping (entry e with its low four bits cleared) + k, and the entry's low three bits
 -- as permissions
-abbrev pub flipMapping : ℕ → ℕ → ℕ
-flipMapping e k = e / 16 * 16 + k
+abbrev pub flip_mapping : ℕ → ℕ → ℕ
+flip_mapping e k = e / 16 * 16 + k
 
-abbrev pub flipPermissions : ℕ → ℕ → ℕ
-flipPermissions e k = e % 8
+abbrev pub flip_permissions : ℕ → ℕ → ℕ
+flip_permissions e k = e % 8
 
 -- from this k on: in chapter 4 only k = 8 to 15 change
-abbrev pub firstK : ℕ → ℕ
-firstK x = cond (x == 4) 8 0
+abbrev pub first_k : ℕ → ℕ
+first_k x = cond (x == 4) 8 0
 
 -- from this paragraph on, so many change when flip entry n acts: 16, and 8 in chapter 4 (02, W-212)
-abbrev pub flipFrom : ℕ → ℕ
-flipFrom n = chapterParagraphs * (n / chapterPages) + firstK (n / chapterPages)
+abbrev pub flip_from : ℕ → ℕ
+flip_from n = chapter_paragraphs * (n / chapter_pages) + first_k (n / chapter_pages)
 
-abbrev pub flipSize : ℕ → ℕ
-flipSize n = chapterParagraphs - firstK (n / chapterPages)
+abbrev pub flip_size : ℕ → ℕ
+flip_size n = chapter_paragraphs - first_k (n / chapter_pages)
 
 -- a table whose chapter x has taken f k for each such paragraph k
 unfoldable pub turned : ℕ → (ℕ → ℕ) → List ℕ → List ℕ
-turned x f m = laid (chapterParagraphs * x + firstK x) (chapterParagraphs - firstK x) (λ j. f (firstK x + j)) m
+turned x f m = laid (chapter_paragraphs * x + first_k x) (chapter_paragraphs - first_k x) (λ j. f (first_k x + j)) m
 
 -- the active tables, and what they are after flip entry n has acted
 pub record Active : Type 0 where
@@ -54,5 +54,5 @@ active mapping permissions = record { mapping = mapping; permissions = permissio
 abbrev pub flipped : List ℕ → ℕ → Active → Active
 flipped flips n a =
     active
-    (turned (n / chapterPages) (flipMapping (slice_index flips n)) a.mapping)
-    (turned (n / chapterPages) (flipPermissions (slice_index flips n)) a.permissions)
+    (turned (n / chapter_pages) (flip_mapping (slice_index flips n)) a.mapping)
+    (turned (n / chapter_pages) (flip_permissions (slice_index flips n)) a.permissions)

@@ -1,8 +1,8 @@
 // What a write asks of a cartridge's tables, and what they become: page flips (01, "The machine") and bankswitches (02, W-202). No word of the cartridge.
 ghost use Rattle.std.specs.Prelude.{◌≡◌, ◌+◌, ◌/◌, ◌≤◌};
-ghost use Rattle.places.specs.Limits.{chapterPages, paragraphs};
-ghost use Rattle.switches.specs.Flips.{active, asks, acts, firstK, flipMapping, flipPermissions, flipFrom, flipSize, turned, flipped};
-ghost use Rattle.switches.specs.Banks.{halfPageParagraphs, registerAt, banked, numberFrom, switched};
+ghost use Rattle.places.specs.Limits.{chapter_pages, paragraphs};
+ghost use Rattle.switches.specs.Flips.{active, asks, acts, first_k, flip_mapping, flip_permissions, flip_from, flip_size, turned, flipped};
+ghost use Rattle.switches.specs.Banks.{half_page_paragraphs, register_at, banked, number_from, switched};
 
 use places::{CHAPTER_PAGES, CHAPTER_PARAGRAPHS, Console, FLIP_ENTRIES, PARAGRAPHS};
 
@@ -47,14 +47,14 @@ pub fn acts(flips: &[u16; FLIP_ENTRIES], n: u8) -> bool
 
 // The first paragraph of a chapter that a flip changes: in chapter 4 the lower half, the ECS RAM, stays.
 pub fn first_k(x: usize) -> usize
-    ensures { (result ≡ firstK x) × (result ≤ 8) }
+    ensures { (result ≡ first_k x) × (result ≤ 8) }
 {
     if x == 4 { 8 } else { 0 }
 }
 
 // Each paragraph k of entry n's chapter that a flip changes takes its mapping, and its permissions.
 fn flip_mapping(m: &mut [u16; PARAGRAPHS], n: u8, entry: u16)
-    ensures { m.new ≡ turned (n / chapterPages) (flipMapping entry) m.old }
+    ensures { m.new ≡ turned (n / chapter_pages) (flip_mapping entry) m.old }
 {
     let x = n as usize / CHAPTER_PAGES;
     for k in first_k(x)..CHAPTER_PARAGRAPHS {
@@ -63,7 +63,7 @@ fn flip_mapping(m: &mut [u16; PARAGRAPHS], n: u8, entry: u16)
 }
 
 fn flip_permissions(m: &mut [u8; PARAGRAPHS], n: u8, entry: u16)
-    ensures { m.new ≡ turned (n / chapterPages) (flipPermissions entry) m.old }
+    ensures { m.new ≡ turned (n / chapter_pages) (flip_permissions entry) m.old }
 {
     let x = n as usize / CHAPTER_PAGES;
     for k in first_k(x)..CHAPTER_PARAGRAPHS {
@@ -73,14 +73,14 @@ fn flip_permissions(m: &mut [u8; PARAGRAPHS], n: u8, entry: u16)
 
 // The first paragraph that flip entry n changes, and how many they are.
 pub fn flip_from(n: u8) -> usize
-    ensures { (result ≡ flipFrom n) × (result + flipSize n ≤ paragraphs) }
+    ensures { (result ≡ flip_from n) × (result + flip_size n ≤ paragraphs) }
 {
     let x = n as usize / CHAPTER_PAGES;
     CHAPTER_PARAGRAPHS * x + first_k(x)
 }
 
 pub fn flip_size(n: u8) -> u8
-    ensures { result ≡ flipSize n }
+    ensures { result ≡ flip_size n }
 {
     (CHAPTER_PARAGRAPHS - first_k(n as usize / CHAPTER_PAGES)) as u8
 }
@@ -92,7 +92,7 @@ pub fn flip(
     flips: &[u16; FLIP_ENTRIES],
     n: u8,
 ) -> u8
-    ensures { (result ≡ flipSize n) × (mapping.new ≡ (flipped flips.now n (active mapping.old permissions.old)).mapping)
+    ensures { (result ≡ flip_size n) × (mapping.new ≡ (flipped flips.now n (active mapping.old permissions.old)).mapping)
         × (permissions.new ≡ (flipped flips.now n (active mapping.old permissions.old)).permissions) }
 {
     let i = n as usize;
@@ -111,7 +111,7 @@ pub enum Register {
 
 // $0040-$004F is the register of half-page $x000-$x7FF and $0050-$005F that of $x800-$xFFF, x being the low digit.
 pub fn register_at(at: Console) -> Register
-    ensures { result ≡ registerAt at }
+    ensures { result ≡ register_at at }
 {
     let a = at.0 as usize;
     if a / 0x10 == 4 {
@@ -133,14 +133,14 @@ pub fn banked(permissions: &[u8; PARAGRAPHS], p: u8) -> bool
 
 // Paragraph j behind number v, going round from 255 to 0.
 fn number_from(v: u8, j: u8) -> u16
-    ensures { result ≡ numberFrom v j }
+    ensures { result ≡ number_from v j }
 {
     std::num::wrapping_add_u8(v, j) as u16
 }
 
 // The eight paragraphs of paragraph p's half-page take number v and the seven after it; it answers how many entries it has assigned.
 pub fn bankswitch(mapping: &mut [u16; PARAGRAPHS], p: u8, v: u8) -> u8
-    ensures { (result ≡ halfPageParagraphs) × (mapping.new ≡ switched (p / halfPageParagraphs) v mapping.old) }
+    ensures { (result ≡ half_page_paragraphs) × (mapping.new ≡ switched (p / half_page_paragraphs) v mapping.old) }
 {
     let h = p as usize / HALF_PAGE_PARAGRAPHS;
     for j in 0..HALF_PAGE_PARAGRAPHS {

@@ -9,118 +9,118 @@ use lib.ListN.{length, get_or, length-append}
 use lib.Dec.{eqb, ltb}
 use borrow.Author.Tests.{ne_eqb, eq-eqb, lt-leb, le-leb, lt-ltb, le-ltb}
 use borrow.Rule.Slice.PartMut.{put_mid}
-use Rattle.basics.specs.Lists.{part, putFront}
+use Rattle.basics.specs.Lists.{part, put_front}
 use Rattle.basics.specs.Bytes.{bytes16}
-use Rattle.basics.specs.Laws.Bytes.{length-bytes16}
+use Rattle.basics.specs.Laws.Bytes.{length_bytes16}
 use Rattle.basics.specs.Laws.Wrote.{Wrote, wrote_none}
-use Rattle.basics.specs.Laws.Puts.{put-short, put-wrote, wrote-put}
+use Rattle.basics.specs.Laws.Puts.{put_short, put_wrote, wrote_put}
 use Rattle.basics.specs.declared.Refusal.{Refusal}
-use Rattle.basics.specs.Refusals.{refuse, noRefusal}
+use Rattle.basics.specs.Refusals.{refuse, no_refusal}
 use Rattle.places.specs.Limits.{paragraphs}
-use Rattle.header.specs.Flags.{jlpField, flashSize}
-use Rattle.flash.specs.Flash.{sectorLimit}
+use Rattle.header.specs.Flags.{jlp_field, flash_size}
+use Rattle.flash.specs.Flash.{sector_limit}
 use Rattle.jlp.specs.declared.Jlp.{Jlp}
-use Rattle.jlp.specs.Window.{ramWords}
-use Rattle.jlp.specs.Accelerators.{freshJlp}
-use Rattle.tables.specs.Tables.{tables, permissionsAt, flipsAt, tablesSize, tablesPayload, sectorsOf, jlpOf, unsupported, lacksRam, flashWords, oversized, mislent, tablesRows, tablesRefusal, flipsOne}
-use Rattle.tables.specs.Laws.Tables.{length-tables}
+use Rattle.jlp.specs.Window.{ram_words}
+use Rattle.jlp.specs.Accelerators.{fresh_jlp}
+use Rattle.tables.specs.Tables.{tables, permissions_at, flips_at, tables_size, tables_payload, sectors_of, jlp_of, unsupported, lacks_ram, flash_words, oversized, mislent, tables_rows, tables_refusal, flips_one}
+use Rattle.tables.specs.Laws.Tables.{length_tables}
 
 -- by the field: a flash or none
-module _ (flags : List ℕ) (x : ℕ) (ex : x ≡ jlpField flags) where
-  pub no-sectors : x < 2 → 0 ≡ sectorsOf flags
-  no-sectors h = rw (← ex, lt-leb _ _ h)
+module _ (flags : List ℕ) (x : ℕ) (ex : x ≡ jlp_field flags) where
+  pub no_sectors : x < 2 → 0 ≡ sectors_of flags
+  no_sectors h = rw (← ex, lt-leb _ _ h)
 
-  pub its-sectors : (n : ℕ) → n ≡ flashSize flags → 2 ≤ x → n ≡ sectorsOf flags
-  its-sectors n e h = rw (← ex, le-leb _ _ h) e
+  pub its_sectors : (n : ℕ) → n ≡ flash_size flags → 2 ≤ x → n ≡ sectors_of flags
+  its_sectors n e h = rw (← ex, le-leb _ _ h) e
 
-  pub jlp-is : (n : ℕ) (j : Jlp) → n ≡ sectorsOf flags → j ≡ freshJlp x n → j ≡ jlpOf flags
-  jlp-is n j e f = f ∙ ap (λ (k : ℕ). freshJlp k n) ex ∙ ap (freshJlp (jlpField flags)) e
+  pub jlp_is : (n : ℕ) (j : Jlp) → n ≡ sectors_of flags → j ≡ fresh_jlp x n → j ≡ jlp_of flags
+  jlp_is n j e f = f ∙ ap (λ (k : ℕ). fresh_jlp k n) ex ∙ ap (fresh_jlp (jlp_field flags)) e
 
   -- 13: no flash, too many sectors, and the words lent
-  pub not-asked : (f : ℕ) → x < 2 → false ≡ (oversized flags || mislent flags f)
+  pub not_asked : (f : ℕ) → x < 2 → false ≡ (oversized flags || mislent flags f)
   unfolding oversized mislent
-  not-asked f h = rw (← ex, lt-leb _ _ h)
+  not_asked f h = rw (← ex, lt-leb _ _ h)
 
-  module _ (f n : ℕ) (en : n ≡ flashSize flags) (h : 2 ≤ x) where
-    pub size-over : sectorLimit < n → true ≡ (oversized flags || mislent flags f)
+  module _ (f n : ℕ) (en : n ≡ flash_size flags) (h : 2 ≤ x) where
+    pub size_over : sector_limit < n → true ≡ (oversized flags || mislent flags f)
     unfolding oversized
-    size-over l = rw (← ex, le-leb _ _ h, ← en, lt-ltb _ _ l)
+    size_over l = rw (← ex, le-leb _ _ h, ← en, lt-ltb _ _ l)
 
-    pub lent-decides : (w : ℕ) → n ≤ sectorLimit → w ≡ flashWords flags → not (eqb f w) ≡ (oversized flags || mislent flags f)
+    pub lent_decides : (w : ℕ) → n ≤ sector_limit → w ≡ flash_words flags → not (eqb f w) ≡ (oversized flags || mislent flags f)
     unfolding oversized mislent
-    lent-decides w l e = rw (← ex, le-leb _ _ h, ← en, le-ltb _ _ l) (rw (e, en))
+    lent_decides w l e = rw (← ex, le-leb _ _ h, ← en, le-ltb _ _ l) (rw (e, en))
 
   -- 11
-  pub no-jlp : (m : ℕ) → x ≡ 0 → false ≡ lacksRam flags m
-  unfolding lacksRam
-  no-jlp m h = rw (← ex, eq-eqb _ _ h)
+  pub no_jlp : (m : ℕ) → x ≡ 0 → false ≡ lacks_ram flags m
+  unfolding lacks_ram
+  no_jlp m h = rw (← ex, eq-eqb _ _ h)
 
-  pub words-decide : (m : ℕ) → (x ≡ 0 → ⊥) → ltb m ramWords ≡ lacksRam flags m
-  unfolding lacksRam
-  words-decide m h = rw (← ex, ne_eqb _ _ h)
+  pub words_decide : (m : ℕ) → (x ≡ 0 → ⊥) → ltb m ram_words ≡ lacks_ram flags m
+  unfolding lacks_ram
+  words_decide m h = rw (← ex, ne_eqb _ _ h)
 
-pub ruleset sectors = (no-sectors, its-sectors)
+pub ruleset sectors = (no_sectors, its_sectors)
 
-pub ruleset thirteens = (not-asked, size-over, lent-decides)
+pub ruleset thirteens = (not_asked, size_over, lent_decides)
 
 -- 10: the flag, and the flips where it is not set
 module _ (flags flips : List ℕ) (y : ℕ) (ey : y ≡ get_or flags 4 0) where
-  pub mapper-set : y % 2 ≡ 1 → true ≡ unsupported flags flips
+  pub mapper_set : y % 2 ≡ 1 → true ≡ unsupported flags flips
   unfolding unsupported
-  mapper-set h = simp (← ey, div-one, eq-eqb _ _ h)
+  mapper_set h = simp (← ey, div-one, eq-eqb _ _ h)
 
-  pub flips-decide : (c : Bool) → (y % 2 ≡ 1 → ⊥) → c ≡ flipsOne flips → c ≡ unsupported flags flips
+  pub flips_decide : (c : Bool) → (y % 2 ≡ 1 → ⊥) → c ≡ flips_one flips → c ≡ unsupported flags flips
   unfolding unsupported
-  flips-decide c no-mapper ec = simp (← ey, div-one, ne_eqb _ _ no-mapper, ec)
+  flips_decide c no-mapper ec = simp (← ey, div-one, ne_eqb _ _ no-mapper, ec)
 
-pub ruleset tens = (mapper-set, flips-decide)
+pub ruleset tens = (mapper_set, flips_decide)
 
 -- the rows
 module _ (flags flips : List ℕ) (m f : ℕ) (r : Refusal) (b : Bool) (eb : b ≡ unsupported flags flips) where
-  pub refused-10 : b ≡ true → r ≡ refuse 10 0 → r ≡ tablesRefusal flags flips m f
-  unfolding tablesRows
-  refused-10 h e = rw (← eb, h) e
+  pub refused_10 : b ≡ true → r ≡ refuse 10 0 → r ≡ tables_refusal flags flips m f
+  unfolding tables_rows
+  refused_10 h e = rw (← eb, h) e
 
-  module _ (h : b ≡ false) (d : Bool) (ed : d ≡ lacksRam flags m) where
-    pub refused-11 : d ≡ true → r ≡ refuse 11 0 → r ≡ tablesRefusal flags flips m f
-    unfolding tablesRows
-    refused-11 k e = rw (← eb, h, ← ed, k) e
+  module _ (h : b ≡ false) (d : Bool) (ed : d ≡ lacks_ram flags m) where
+    pub refused_11 : d ≡ true → r ≡ refuse 11 0 → r ≡ tables_refusal flags flips m f
+    unfolding tables_rows
+    refused_11 k e = rw (← eb, h, ← ed, k) e
 
     module _ (k : d ≡ false) (c : Bool) (ec : c ≡ (oversized flags || mislent flags f)) where
-      pub refused-13 : c ≡ true → r ≡ refuse 13 0 → r ≡ tablesRefusal flags flips m f
-      unfolding tablesRows
-      refused-13 l e = rw (← eb, h, ← ed, k, ← ec, l) e
+      pub refused_13 : c ≡ true → r ≡ refuse 13 0 → r ≡ tables_refusal flags flips m f
+      unfolding tables_rows
+      refused_13 l e = rw (← eb, h, ← ed, k, ← ec, l) e
 
-      pub refused_none : c ≡ false → r ≡ noRefusal → r ≡ tablesRefusal flags flips m f
-      unfolding tablesRows
+      pub refused_none : c ≡ false → r ≡ no_refusal → r ≡ tables_refusal flags flips m f
+      unfolding tables_rows
       refused_none l e = rw (← eb, h, ← ed, k, ← ec, l) e
 
-pub ruleset ends = (refused-10, refused-11, refused-13, refused_none)
+pub ruleset ends = (refused_10, refused_11, refused_13, refused_none)
 
 -- a buffer without room for the tables, and one with: each in its part
 module _ (out m p f : List ℕ) (em : length m ≡ paragraphs) (ep : length p ≡ paragraphs) (ef : length f ≡ paragraphs) where
-  pub no_room : length out < tablesSize → out ≡ putFront (tablesPayload (tables m p f)) out
-  no_room h = put-short (tablesPayload (tables m p f)) out (omega (arith, length-tables (tables m p f) em ep ef))
+  pub no_room : length out < tables_size → out ≡ put_front (tables_payload (tables m p f)) out
+  no_room h = put_short (tables_payload (tables m p f)) out (omega (arith, length_tables (tables m p f) em ep ef))
 
   module _ (y₁ y₂ y₃ : List ℕ) where
     abbrev out₁ : List ℕ
-    out₁ = put_mid 0 permissionsAt out y₁
+    out₁ = put_mid 0 permissions_at out y₁
 
     abbrev out₂ : List ℕ
-    out₂ = put_mid permissionsAt (flipsAt - permissionsAt) out₁ y₂
+    out₂ = put_mid permissions_at (flips_at - permissions_at) out₁ y₂
 
     abbrev out₃ : List ℕ
-    out₃ = put_mid flipsAt (tablesSize - flipsAt) out₂ y₃
+    out₃ = put_mid flips_at (tables_size - flips_at) out₂ y₃
 
-    pub tables-written :
-        tablesSize ≤ length out → y₁ ≡ putFront (bytes16 m) (part out 0 permissionsAt) → y₂ ≡ putFront p (part out₁ permissionsAt flipsAt)
-        → y₃ ≡ putFront (bytes16 f) (part out₂ flipsAt tablesSize) → out₃ ≡ putFront (tablesPayload (tables m p f)) out
-    unfolding tablesPayload
-    tables-written h e₁ e₂ e₃ =
-        let lm : permissionsAt ≡ length (bytes16 m) = omega (arith, length-bytes16 m) in
-        let lf : tablesSize - flipsAt ≡ length (bytes16 f) = omega (arith, length-bytes16 f) in
-        let lp : flipsAt ≡ length (bytes16 m ++ p) = omega (arith, length-append (bytes16 m) p) in
-        let w₁ : Wrote out out₁ (bytes16 m) = wrote-put out out [] 0 permissionsAt y₁ (bytes16 m) (wrote_none out) refl lm (omega arith) e₁ in
-        let w₂ : Wrote out out₂ (bytes16 m ++ p) = wrote-put out out₁ (bytes16 m) permissionsAt _ y₂ p w₁ lm (sym ep) (omega arith) e₂ in
-        let w₃ : Wrote out out₃ ((bytes16 m ++ p) ++ bytes16 f) = wrote-put out out₂ (bytes16 m ++ p) flipsAt _ y₃ (bytes16 f) w₂ lp lf (omega arith) e₃ in
-        put-wrote out out₃ _ (rw append_assoc at w₃)
+    pub tables_written :
+        tables_size ≤ length out → y₁ ≡ put_front (bytes16 m) (part out 0 permissions_at) → y₂ ≡ put_front p (part out₁ permissions_at flips_at)
+        → y₃ ≡ put_front (bytes16 f) (part out₂ flips_at tables_size) → out₃ ≡ put_front (tables_payload (tables m p f)) out
+    unfolding tables_payload
+    tables_written h e₁ e₂ e₃ =
+        let lm : permissions_at ≡ length (bytes16 m) = omega (arith, length_bytes16 m) in
+        let lf : tables_size - flips_at ≡ length (bytes16 f) = omega (arith, length_bytes16 f) in
+        let lp : flips_at ≡ length (bytes16 m ++ p) = omega (arith, length-append (bytes16 m) p) in
+        let w₁ : Wrote out out₁ (bytes16 m) = wrote_put out out [] 0 permissions_at y₁ (bytes16 m) (wrote_none out) refl lm (omega arith) e₁ in
+        let w₂ : Wrote out out₂ (bytes16 m ++ p) = wrote_put out out₁ (bytes16 m) permissions_at _ y₂ p w₁ lm (sym ep) (omega arith) e₂ in
+        let w₃ : Wrote out out₃ ((bytes16 m ++ p) ++ bytes16 f) = wrote_put out out₂ (bytes16 m ++ p) flips_at _ y₃ (bytes16 f) w₂ lp lf (omega arith) e₃ in
+        put_wrote out out₃ _ (rw append_assoc at w₃)

@@ -9,23 +9,23 @@ use Rattle.tables.proofs.size.Reads as size
 use Rattle.tables.proofs.write.Reads as write
 use Rattle.tables.proofs.refused.Reads as refused
 
-pub one-cartridge-of : OneAnswer cartridge-of.Learnt
-one-cartridge-of κs a y z e f = same
+pub one_cartridge_of : OneAnswer cartridge-of.Learnt
+one_cartridge_of κs a y z e f = same
 
-pub one-jlp-of : OneAnswer jlp-of.Learnt
-one-jlp-of κs a y z e f = same
+pub one_jlp_of : OneAnswer jlp-of.Learnt
+one_jlp_of κs a y z e f = same
 
-pub one-flash-words : OneAnswer flash-words.Learnt
-one-flash-words κs a y z e f = same
+pub one_flash_words : OneAnswer flash-words.Learnt
+one_flash_words κs a y z e f = same
 
-pub one-no-cartridge : OneAnswer no-cartridge.Learnt
-one-no-cartridge κs a y z e f = same
+pub one_no_cartridge : OneAnswer no-cartridge.Learnt
+one_no_cartridge κs a y z e f = same
 
 pub one_size : OneAnswer size.Learnt
 one_size κs a y z e f p q = same p.0 q.0
 
-pub one-write : OneLent write.Learnt (λ κs e. e.0.now)
-one-write κs a y z e f = same
+pub one_write : OneLent write.Learnt (λ κs e. e.0.now)
+one_write κs a y z e f = same
 
-pub one-refused : OneAnswer refused.Learnt
-one-refused κs a y z e f = same
+pub one_refused : OneAnswer refused.Learnt
+one_refused κs a y z e f = same

@@ -1,9 +1,9 @@
 // The payload of a tables block, both ways: the cartridge of its tables, and tables written; and refusals 10, 11 and 13.
 ghost use Rattle.std.specs.Prelude.{◌≤◌, ◌≡◌, ◌||◌, length};
-ghost use Rattle.basics.specs.Lists.{putFront};
+ghost use Rattle.basics.specs.Lists.{put_front};
 ghost use Rattle.places.specs.Limits.{paragraphs};
-ghost use Rattle.cart.specs.Cartridges.{noCartridge};
-ghost use Rattle.tables.specs.Tables.{tables, tablesPayload, tablesSize, wordsAt, bytes_at, sectorsOf, jlpOf, cartridgeOf, flipsOne, unsupported, lacksRam, flashWords, oversized, mislent, tablesRefusal};
+ghost use Rattle.cart.specs.Cartridges.{no_cartridge};
+ghost use Rattle.tables.specs.Tables.{tables, tables_payload, tables_size, words_at, bytes_at, sectors_of, jlp_of, cartridge_of, flips_one, unsupported, lacks_ram, flash_words, oversized, mislent, tables_refusal};
 
 use basics::{Refusal, byte_at, put_bytes, put_words, word_at};
 use cart::Cartridge;
@@ -19,8 +19,8 @@ pub const TABLES_SIZE: usize = FLIPS_AT + 2 * PARAGRAPHS;
 
 // A table of words, and of bytes, that stands at a place of the payload.
 fn words_at(t: &[u8], at: usize) -> [u16; PARAGRAPHS]
-    requires { at ≤ tablesSize }
-    ensures { result ≡ wordsAt t.now at }
+    requires { at ≤ tables_size }
+    ensures { result ≡ words_at t.now at }
 {
     let mut w = [0u16; PARAGRAPHS];
     for i in 0..PARAGRAPHS {
@@ -30,7 +30,7 @@ fn words_at(t: &[u8], at: usize) -> [u16; PARAGRAPHS]
 }
 
 fn bytes_at(t: &[u8], at: usize) -> [u8; PARAGRAPHS]
-    requires { at ≤ tablesSize }
+    requires { at ≤ tables_size }
     ensures { result ≡ bytes_at t.now at }
 {
     let mut w = [0u8; PARAGRAPHS];
@@ -42,7 +42,7 @@ fn bytes_at(t: &[u8], at: usize) -> [u8; PARAGRAPHS]
 
 // The sectors of flash that flags give: field 2 or 3 has some.
 fn sectors_of(flags: &[u8]) -> u16
-    ensures { result ≡ sectorsOf flags.now }
+    ensures { result ≡ sectors_of flags.now }
 {
     if header::jlp_field(flags) < 2 {
         return 0;
@@ -52,14 +52,14 @@ fn sectors_of(flags: &[u8]) -> u16
 
 // The accelerators that are loaded with these flags.
 pub fn jlp_of(flags: &[u8]) -> Jlp
-    ensures { result ≡ jlpOf flags.now }
+    ensures { result ≡ jlp_of flags.now }
 {
     jlp::fresh(header::jlp_field(flags), sectors_of(flags))
 }
 
 // The cartridge of these accelerators and a tables block's payload.
 pub fn cartridge_of(j: Jlp, t: &[u8]) -> Cartridge
-    ensures { result ≡ cartridgeOf j t.now }
+    ensures { result ≡ cartridge_of j t.now }
 {
     let mapping = words_at(t, 0);
     let permissions = bytes_at(t, PERMISSIONS_AT);
@@ -69,7 +69,7 @@ pub fn cartridge_of(j: Jlp, t: &[u8]) -> Cartridge
 
 // The cartridge of a refused load.
 pub fn no_cartridge() -> Cartridge
-    ensures { result ≡ noCartridge }
+    ensures { result ≡ no_cartridge }
 {
     let words = [0u16; PARAGRAPHS];
     let bytes = [0u8; PARAGRAPHS];
@@ -79,7 +79,7 @@ pub fn no_cartridge() -> Cartridge
 // The tables, at the front of a buffer that has room for them: each into its own part.
 fn put_tables(out: &mut [u8], mapping: &[u16], permissions: &[u8], flips: &[u16])
     requires { (length mapping.now ≡ paragraphs) × (length permissions.now ≡ paragraphs) × (length flips.now ≡ paragraphs) }
-    ensures { out.new ≡ putFront (tablesPayload (tables mapping.now permissions.now flips.now)) out.old }
+    ensures { out.new ≡ put_front (tables_payload (tables mapping.now permissions.now flips.now)) out.old }
 {
     if out.len() < TABLES_SIZE {
         return;
@@ -92,7 +92,7 @@ fn put_tables(out: &mut [u8], mapping: &[u16], permissions: &[u8], flips: &[u16]
 // How many bytes the payload of these tables has.
 fn size_of(mapping: &[u16], permissions: &[u8], flips: &[u16]) -> usize
     requires { (length mapping.now ≡ paragraphs) × (length permissions.now ≡ paragraphs) × (length flips.now ≡ paragraphs) }
-    ensures { (result ≡ length (tablesPayload (tables mapping.now permissions.now flips.now))) × (result ≡ tablesSize) }
+    ensures { (result ≡ length (tables_payload (tables mapping.now permissions.now flips.now))) × (result ≡ tables_size) }
 {
     TABLES_SIZE
 }
@@ -102,7 +102,7 @@ pub fn size<'a>(
     permissions: &'a [u8; PARAGRAPHS],
     flips: &'a [u16; PARAGRAPHS],
 ) -> usize
-    ensures { (result ≡ length (tablesPayload (tables mapping.now permissions.now flips.now))) × (result ≡ tablesSize) }
+    ensures { (result ≡ length (tables_payload (tables mapping.now permissions.now flips.now))) × (result ≡ tables_size) }
 {
     size_of(mapping, permissions, flips)
 }
@@ -113,14 +113,14 @@ pub fn write<'a>(
     permissions: &'a [u8; PARAGRAPHS],
     flips: &'a [u16; PARAGRAPHS],
 )
-    ensures { out.new ≡ putFront (tablesPayload (tables mapping.now permissions.now flips.now)) out.old }
+    ensures { out.new ≡ put_front (tables_payload (tables mapping.now permissions.now flips.now)) out.old }
 {
     put_tables(out, mapping, permissions, flips)
 }
 
 // PFE in chapter 1.
 fn has_flip(flips: &[u16; PARAGRAPHS]) -> bool
-    ensures { result ≡ flipsOne flips.now }
+    ensures { result ≡ flips_one flips.now }
 {
     for y in 0..CHAPTER_PAGES {
         if flips[CHAPTER_PAGES + y] / 8 % 2 == 1 {
@@ -142,7 +142,7 @@ fn is_unsupported(flags: &[u8], flips: &[u16; PARAGRAPHS]) -> bool
 
 // Refusal 11.
 fn lacks_ram(flags: &[u8], m: usize) -> bool
-    ensures { result ≡ lacksRam flags.now m }
+    ensures { result ≡ lacks_ram flags.now m }
 {
     if header::jlp_field(flags) == 0 {
         return false;
@@ -152,7 +152,7 @@ fn lacks_ram(flags: &[u8], m: usize) -> bool
 
 // The words of the flash that the size asks.
 pub fn flash_words(flags: &[u8]) -> usize
-    ensures { result ≡ flashWords flags.now }
+    ensures { result ≡ flash_words flags.now }
 {
     flash::SECTOR_WORDS * header::flash_size(flags) as usize
 }
@@ -172,7 +172,7 @@ fn misfits(flags: &[u8], f: usize) -> bool
 
 // What is refused of flags and flip table, with m words of RAM and f of flash lent.
 pub fn refused(flags: &[u8], flips: &[u16; PARAGRAPHS], m: usize, f: usize) -> Refusal
-    ensures { result ≡ tablesRefusal flags.now flips.now m f }
+    ensures { result ≡ tables_refusal flags.now flips.now m f }
 {
     if is_unsupported(flags, flips) {
         return basics::refuse(10, 0);

@@ -24,20 +24,20 @@ use denote.Steps.{owned, peeks, heard, nothing}
 use denote.Triple.Statement.{Contract}
 use denote.Triple.Spec.{triple_of}
 use Rattle.text.proofs.Reader.TheLaws as reader-laws
-use Rattle.text.specs.contracts.next_line as next-line
+use Rattle.text.specs.contracts.next_line as next_line_lem
 
 -- the types of the locals: a place, the text as it was passed and as it is read off the reader, and the reader
-abbrev pub placeTy : Ty
-placeTy = ty_int w64
+abbrev pub place_ty : Ty
+place_ty = ty_int w64
 
-abbrev pub textTy : Ty
-textTy = slice_ty (ty_ref (named 0) imm (ty_int w8))
+abbrev pub text_ty : Ty
+text_ty = slice_ty (ty_ref (named 0) imm (ty_int w8))
 
 abbrev pub slice_of : Ty
 slice_of = slice_ty (ty_ref erased imm (ty_int w8))
 
-abbrev pub readerTy : Ty
-readerTy = reader-laws.mir erased
+abbrev pub reader_ty : Ty
+reader_ty = reader-laws.mir erased
 
 -- after a call whose contract says φ of its result: the result r with φ r, what it owns, and the tokens; what is said of last values is let go
 pub gets : {M : Type 1} {𝓤 : Ura M} {𝓛 : Logic 𝓤} {K : Type 0} {Γ : List (Item 𝓤)} {G : Goal 𝓤 𝓛.H} → K → Soaks G
@@ -50,29 +50,29 @@ gets {𝓤 = 𝓤} {𝓛 = 𝓛} t soaks R u token {X} lasts φ k =
 
 -- what `next_line` promises
 abbrev pub Next : {M : Type 1} {𝓤 : Ura M} (𝓛 : Logic 𝓤) → (Memory → SProp 𝓤) → (Routine → Fun 𝓤) → Contract 𝓤
-Next 𝓛 mem run = triple_of 𝓛 next-line.signature (next-line.spec 𝓛 mem run)
+Next 𝓛 mem run = triple_of 𝓛 next_line_lem.signature (next_line_lem.spec 𝓛 mem run)
 
 module _ {M : Type 1} {𝓤 : Ura M} (𝓛 : Logic 𝓤) (κ : Lft) (q : Share) (s : Bor (List ℕ)) where
   -- the text's machine value, what it owns, and the lifetime's token; the reader's machine value at a place
-  abbrev pub textVal : Val
-  textVal = slice_val s.ref_ptr (length s.now)
+  abbrev pub text_val : Val
+  text_val = slice_val s.ref_ptr (length s.now)
 
   abbrev pub Text : Fml
-  Text = (ShrSlice (named 0) κ u8).own_val s (textVal ∷ [])
+  Text = (ShrSlice (named 0) κ u8).own_val s (text_val ∷ [])
 
   abbrev pub Token : Item 𝓤
   Token = ‵ (flft κ q) ⊛ ‵ ftrue
 
-  abbrev pub readerVal : ℕ → Val
-  readerVal n = vstruct (vcons textVal (vcons (vint w64 n) vnil))
+  abbrev pub reader_val : ℕ → Val
+  reader_val n = vstruct (vcons text_val (vcons (vint w64 n) vnil))
 
   -- what the text owns is had twice, and stands with a place as two parameters
   abbrev pub Placed : ℕ → Fml
-  Placed n = owns (ShrSlice (named 0) κ u8 ∷ usize ∷ []) (s, (n, tt)) (textVal ∷ [], (vint w64 n ∷ [], tt))
+  Placed n = owns (ShrSlice (named 0) κ u8 ∷ usize ∷ []) (s, (n, tt)) (text_val ∷ [], (vint w64 n ∷ [], tt))
 
   pub placed : (n : ℕ) → n < 2 ^ 64 → ent 𝓤 (sem 𝓛 Text) (sep 𝓤 (sem 𝓛 (Placed n)) (sem 𝓛 Text))
   placed n ok =
-      qed 𝓛 (‵ Text ∷ []) ∵ use1 𝓛 (‵ Text ⊛ ‵ Text) ((shr_slice_copy 𝓛 (named 0) κ u8).twice s (textVal ∷ [])) $ split ! $
+      qed 𝓛 (‵ Text ∷ []) ∵ use1 𝓛 (‵ Text ⊛ ‵ Text) ((shr_slice_copy 𝓛 (named 0) κ u8).twice s (text_val ∷ [])) $ split ! $
       nothing ! $ owned ! usize (Is usize) (uint_Makes 𝓛 w64) n _ (refl, ok) $ fjoin ! $ move ! (1 ∷ 0 ∷ []) $ fjoin ! $ frame ! $ done !
 
   -- what a call with no `requires` asks
@@ -81,10 +81,10 @@ module _ {M : Type 1} {𝓤 : Ura M} (𝓛 : Logic 𝓤) (κ : Lft) (q : Share) 
 
   -- the call that moves the reader on
   module _ (mem : Memory → SProp 𝓤) (run : Routine → Fun 𝓤) where
-    abbrev pub to-next : ℕ → (Next 𝓛 mem run).Ghost
-    to-next n = (((κ, tt), (q, tt), tt, (s, (n, tt)), (textVal ∷ [], (vint w64 n ∷ [], tt))), tt)
+    abbrev pub to_next : ℕ → (Next 𝓛 mem run).Ghost
+    to_next n = (((κ, tt), (q, tt), tt, (s, (n, tt)), (text_val ∷ [], (vint w64 n ∷ [], tt))), tt)
 
-    pub goes-next : (n : ℕ) → n < 2 ^ 64 → ent 𝓤 (⋆ 𝓛 (Token ∷ ‵ Text ∷ [])) (sep 𝓤 ((Next 𝓛 mem run).pre (to-next n)) (sem 𝓛 Text))
-    goes-next n ok =
+    pub goes_next : (n : ℕ) → n < 2 ^ 64 → ent 𝓤 (⋆ 𝓛 (Token ∷ ‵ Text ∷ [])) (sep 𝓤 ((Next 𝓛 mem run).pre (to_next n)) (sem 𝓛 Text))
+    goes_next n ok =
         qed 𝓛 (Token ∷ ‵ Text ∷ []) ∵ move ! (1 ∷ []) $ use1 𝓛 (‵ (Placed n) ⊛ ‵ Text) (placed n ok) $ split ! $ move ! (2 ∷ 0 ∷ []) $
-        use2 𝓛 (raw ((Next 𝓛 mem run).pre (to-next n))) (plainly (Placed n)) $ frame ! $ done !
+        use2 𝓛 (raw ((Next 𝓛 mem run).pre (to_next n))) (plainly (Placed n)) $ frame ! $ done !

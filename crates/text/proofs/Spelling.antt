@@ -33,9 +33,9 @@ module _ (s t : List ℕ) (i : ℕ) (x : Bool) (so : x ≡ same (drop i s) (drop
   unfolding same
   other_byte l m h = sym (so ∙ rw (drop-cons s i 0 l, drop-cons t i 0 m, ne_eqb (get_or s i 0) (get_or t i 0) h))
 
-  pub same-longer : i < length s → i ≤ length t → length t ≤ i → false ≡ x
+  pub same_longer : i < length s → i ≤ length t → length t ≤ i → false ≡ x
   unfolding same
-  same-longer l m h = let e : i ≡ length t = omega arith in sym (so ∙ rw (drop-cons s i 0 l) (rw (e, drop-length)))
+  same_longer l m h = let e : i ≡ length t = omega arith in sym (so ∙ rw (drop-cons s i 0 l) (rw (e, drop-length)))
 
   pub same_end : i ≤ length s → length s ≤ i → i ≤ length t → eqb i (length t) ≡ x
   same_end l h m =

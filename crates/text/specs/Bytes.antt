@@ -17,12 +17,12 @@ abbrev pub cr : ℕ
 cr = code "\r"
 
 -- a CR before LF: a byte, and the next, which is 0 where the text ends
-abbrev pub crLf : ℕ → ℕ → Bool
-crLf b next = eqb b cr && eqb next lf
+abbrev pub cr_lf : ℕ → ℕ → Bool
+cr_lf b next = eqb b cr && eqb next lf
 
 -- 0x20 to 0x7E, tab, LF, and CR only before LF
 abbrev pub allowed : ℕ → ℕ → Bool
-allowed b next = (leb 0x20 b && leb b 0x7E) || eqb b tab || eqb b lf || crLf b next
+allowed b next = (leb 0x20 b && leb b 0x7E) || eqb b tab || eqb b lf || cr_lf b next
 
 -- how many bytes stand before the first that passes a test of it and of the next; all of them where none passes
 unfoldable pub until : (ℕ → ℕ → Bool) → List ℕ → ℕ
@@ -33,5 +33,5 @@ abbrev pub foreign : ℕ → ℕ → Bool
 foreign b next = not (allowed b next)
 
 -- the place of the first byte that is not allowed; the text's length where each is
-abbrev pub firstForeign : List ℕ → ℕ
-firstForeign s = until foreign s
+abbrev pub first_foreign : List ℕ → ℕ
+first_foreign s = until foreign s

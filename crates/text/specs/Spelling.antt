@@ -15,12 +15,12 @@ abbrev pub is : String → List ℕ → Bool
 is t s = same s (text t)
 
 -- a hex digit's value, in either case; 16 for any other byte
-abbrev pub digitOf : ℕ → ℕ
-digitOf b =
+abbrev pub digit_of : ℕ → ℕ
+digit_of b =
     cond (leb (code "0") b && leb b (code "9")) (b - code "0")
     (cond (leb (code "A") b && leb b (code "F")) (b - code "A" + 10)
     (cond (leb (code "a") b && leb b (code "f")) (b - code "a" + 10) 16))
 
 -- the hex digit of a value below 16 as it is written, in upper case (02, W-213)
-unfoldable pub upperDigit : ℕ → ℕ
-upperDigit d = cond (ltb d 10) (code "0" + d) (code "A" + (d - 10))
+unfoldable pub upper_digit : ℕ → ℕ
+upper_digit d = cond (ltb d 10) (code "0" + d) (code "A" + (d - 10))

@@ -1,8 +1,8 @@
 // Texts: the bytes that may stand in one, its lines, its spelling, and hex digits. A CFG is one (01, "What a CFG may say").
 ghost use Rattle.std.specs.Prelude.{◌%◌, ◌≤◌, ◌≡◌};
-ghost use Rattle.text.specs.Bytes.{crLf, allowed, firstForeign};
-ghost use Rattle.text.specs.Lines.{line_of, ends, lineEnd, pastEnd, nextLine};
-ghost use Rattle.text.specs.Spelling.{same, digitOf, upperDigit};
+ghost use Rattle.text.specs.Bytes.{cr_lf, allowed, first_foreign};
+ghost use Rattle.text.specs.Lines.{line_of, ends, line_end, past_end, next_line};
+ghost use Rattle.text.specs.Spelling.{same, digit_of, upper_digit};
 
 // A reader: a text, and the place in it where the next line starts. A loop that reads line by line holds one, tests it and
 // moves it on to `next_line`.
@@ -14,7 +14,7 @@ pub struct Reader<'a> {
 
 // Whether a byte and the next are CR LF; `next` is 0 where the text ends.
 pub fn is_cr_lf(b: u8, next: u8) -> bool
-    ensures { result ≡ crLf b next }
+    ensures { result ≡ cr_lf b next }
 {
     basics::both(b == b'\r', next == b'\n')
 }
@@ -31,7 +31,7 @@ pub fn is_allowed(b: u8, next: u8) -> bool
 
 // The place of the first byte that may not stand where it does, or the text's length.
 pub fn first_foreign(text: &[u8]) -> usize
-    ensures { result ≡ firstForeign text.now }
+    ensures { result ≡ first_foreign text.now }
 {
     let mut i = 0;
     while i < text.len() {
@@ -67,7 +67,7 @@ pub fn is_end(b: u8, next: u8) -> bool
 
 // The line cutter: where the line that stands at `at` ends.
 pub fn line_end(text: &[u8], at: usize) -> usize
-    ensures { result ≡ lineEnd text.now at }
+    ensures { result ≡ line_end text.now at }
 {
     let mut i = at;
     while i < text.len() {
@@ -81,7 +81,7 @@ pub fn line_end(text: &[u8], at: usize) -> usize
 
 // Where the line after one that ends at `end` starts.
 pub fn past_end(text: &[u8], end: usize) -> usize
-    ensures { result ≡ pastEnd text.now end }
+    ensures { result ≡ past_end text.now end }
 {
     if text.len() <= end {
         return end;
@@ -94,7 +94,7 @@ pub fn past_end(text: &[u8], end: usize) -> usize
 
 // Where the line after the one that stands at `at` starts.
 pub fn next_line(text: &[u8], at: usize) -> usize
-    ensures { result ≡ nextLine text.now at }
+    ensures { result ≡ next_line text.now at }
 {
     past_end(text, line_end(text, at))
 }
@@ -118,7 +118,7 @@ pub fn same_text(s: &[u8], t: &[u8]) -> bool
 
 // A hex digit's value, in either case; 16 for any other byte. A row for each digit is looked up in a table, and no test is guessed.
 pub fn digit_of(b: u8) -> u32
-    ensures { (result ≡ digitOf b) × (result ≤ 16) }
+    ensures { (result ≡ digit_of b) × (result ≤ 16) }
 {
     match b {
         b'0' => 0,
@@ -149,7 +149,7 @@ pub fn digit_of(b: u8) -> u32
 
 // The hex digit of a number's lowest four bits, in upper case.
 pub fn upper_digit(n: u32) -> u8
-    ensures { result ≡ upperDigit (n % 16) }
+    ensures { result ≡ upper_digit (n % 16) }
 {
     let d = (n % 16) as u8;
     if d < 10 {

@@ -3,17 +3,17 @@
 use Rattle.std.specs.Prelude.{◌≡◌, List, [], ◌∷◌, true, ℕ, get_or}
 use Rattle.basics.specs.Laws.Octets.{Bytes}
 use Rattle.places.specs.Limits.{lent}
-use Rattle.hunk.specs.Hunk.{address, countsIn}
-use Rattle.blocks.specs.Blocks.{payloadIn, isHunk, endMark}
-use Rattle.blocks.specs.Images.{blocksIn, stopOf}
-use Rattle.load.specs.Load.{loadingOf, loadRamOf}
+use Rattle.hunk.specs.Hunk.{address, counts_in}
+use Rattle.blocks.specs.Blocks.{payload_in, is_hunk, end_mark}
+use Rattle.blocks.specs.Images.{blocks_in, stop_of}
+use Rattle.load.specs.Load.{loading_of, load_ram_of}
 
 -- two hunks with the same address and the same cuts: their data blocks, one after the other, have as many words
 pub record Recoded (x y : List ℕ) : Type 0 where
-  pub hunk : isHunk x ≡ true
-  pub other-hunk : isHunk y ≡ true
-  pub address : address (payloadIn x) ≡ address (payloadIn y)
-  pub cuts : countsIn (payloadIn x) ≡ countsIn (payloadIn y)
+  pub hunk : is_hunk x ≡ true
+  pub other_hunk : is_hunk y ≡ true
+  pub address : address (payload_in x) ≡ address (payload_in y)
+  pub cuts : counts_in (payload_in x) ≡ counts_in (payload_in y)
 
 -- blocks in the same order, each the same or such a hunk
 pub data SameBlocks : List (List ℕ) → List (List ℕ) → Type 0 where
@@ -25,7 +25,7 @@ pub data SameBlocks : List (List ℕ) → List (List ℕ) → Type 0 where
 -- header is not asked)
 pub record Alike (image other ram : List ℕ) (f : ℕ) : Type 0 where
   pub bytes : Bytes other
-  pub loads : (loadingOf other (lent ram) f).refusal.number ≡ 0
-  pub ended : get_or other (stopOf other) 0 ≡ endMark
-  pub blocks : SameBlocks (blocksIn image) (blocksIn other)
-  pub words : loadRamOf other ram f ≡ loadRamOf image ram f
+  pub loads : (loading_of other (lent ram) f).refusal.number ≡ 0
+  pub ended : get_or other (stop_of other) 0 ≡ end_mark
+  pub blocks : SameBlocks (blocks_in image) (blocks_in other)
+  pub words : load_ram_of other ram f ≡ load_ram_of image ram f

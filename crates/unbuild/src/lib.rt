@@ -3,15 +3,15 @@
 mod source;
 
 ghost use Rattle.std.specs.Prelude.{◌≡◌};
-ghost use Rattle.places.specs.Limits.{lent, lentLimit};
+ghost use Rattle.places.specs.Limits.{lent, lent_limit};
 ghost use Rattle.tables.specs.Tables.{tables};
-ghost use Rattle.load.specs.Load.{loadRamOf, loadingOf};
-ghost use Rattle.rebuild.specs.Code.Retraced.{retracedOf};
-ghost use Rattle.unbuild.specs.Behind.{binBehind, cfgBehind, unbuildable};
+ghost use Rattle.load.specs.Load.{load_ram_of, loading_of};
+ghost use Rattle.rebuild.specs.Code.Retraced.{retraced_of};
+ghost use Rattle.unbuild.specs.Behind.{bin_behind, cfg_behind, unbuildable};
 ghost use Rattle.unbuild.specs.Code.Answers.{Answered, AnswersBy, Plain, refusalAccelerated};
-ghost use Rattle.unbuild.specs.Content.{imageJlp, imageTables, wholeRam};
-ghost use Rattle.unbuild.specs.Laws.Two.{wholeOnes};
-ghost use Rattle.unbuild.specs.Unbuild.{binAfter, cfgAfter, unbuildingOf};
+ghost use Rattle.unbuild.specs.Content.{image_jlp, image_tables, whole_ram};
+ghost use Rattle.unbuild.specs.Laws.Two.{whole_ones};
+ghost use Rattle.unbuild.specs.Unbuild.{bin_after, cfg_after, unbuilding_of};
 
 use basics::Refusal;
 use cart::Cartridge;
@@ -30,7 +30,7 @@ pub struct Unbuilding {
 
 // A load with no flash lent.
 fn load_into(image: &[u8], ram: &mut [u16]) -> Loading
-    ensures { (result ≡ loadingOf image.now (lent ram.old) 0) × (ram.new ≡ loadRamOf image.now ram.old 0) }
+    ensures { (result ≡ loading_of image.now (lent ram.old) 0) × (ram.new ≡ load_ram_of image.now ram.old 0) }
 {
     let flash = [0u16; 0];
     load::load(image, ram, &flash)
@@ -38,7 +38,7 @@ fn load_into(image: &[u8], ram: &mut [u16]) -> Loading
 
 // What is retraced of a cartridge as it was loaded, and of the words of two RAMs.
 fn retrace_cartridge(c: Cartridge, zeros: &[u16], ones: &[u16]) -> Retraced
-    ensures { result ≡ retracedOf (tables c.initial_mapping c.initial_permissions c.flips) zeros.now ones.now }
+    ensures { result ≡ retraced_of (tables c.initial_mapping c.initial_permissions c.flips) zeros.now ones.now }
 {
     let mapping = c.initial_mapping;
     let permissions = c.initial_permissions;
@@ -48,8 +48,8 @@ fn retrace_cartridge(c: Cartridge, zeros: &[u16], ones: &[u16]) -> Retraced
 
 // Of an image that was loaded into zeros: the words that its hunks, laid over ones, leave as they were are those that it does not name.
 fn retrace_loaded(image: &[u8], l: Loading, zeros: &[u16], ones: &mut [u16]) -> Retraced
-    requires { (Plain image.now) × (l ≡ loadingOf image.now lentLimit 0) × (ones.old ≡ wholeOnes) }
-    ensures { (result ≡ retracedOf (imageTables image.now) zeros.now ones.new) × (ones.new ≡ loadRamOf image.now wholeOnes 0) }
+    requires { (Plain image.now) × (l ≡ loading_of image.now lent_limit 0) × (ones.old ≡ whole_ones) }
+    ensures { (result ≡ retraced_of (image_tables image.now) zeros.now ones.new) × (ones.new ≡ load_ram_of image.now whole_ones 0) }
 {
     load::lay_hunks(image, ones);
     let c = l.cartridge;
@@ -65,8 +65,8 @@ fn unbuild_loaded(
     bin: &mut [u8],
     cfg: &mut [u8],
 ) -> Unbuilding
-    requires { (Plain image.now) × (l ≡ loadingOf image.now lentLimit 0) × (zeros.now ≡ loadRamOf image.now wholeRam 0) × (ones.old ≡ wholeOnes) }
-    ensures { AnswersBy (unbuildable image.now) (binBehind image.now) (cfgBehind image.now) bin.old cfg.old result bin.new cfg.new }
+    requires { (Plain image.now) × (l ≡ loading_of image.now lent_limit 0) × (zeros.now ≡ load_ram_of image.now whole_ram 0) × (ones.old ≡ whole_ones) }
+    ensures { AnswersBy (unbuildable image.now) (bin_behind image.now) (cfg_behind image.now) bin.old cfg.old result bin.new cfg.new }
 {
     let k = retrace_loaded(image, l, zeros, ones);
     write_source(k, zeros, bin, cfg)
@@ -80,7 +80,7 @@ fn unload_into(
     bin: &mut [u8],
     cfg: &mut [u8],
 ) -> Unbuilding
-    requires { (imageJlp image.now ≡ 0) × (zeros.old ≡ wholeRam) × (ones.old ≡ wholeOnes) }
+    requires { (image_jlp image.now ≡ 0) × (zeros.old ≡ whole_ram) × (ones.old ≡ whole_ones) }
     ensures { Answered image.now bin.old cfg.old result bin.new cfg.new }
 {
     let l = load_into(image, zeros);
@@ -92,7 +92,7 @@ fn unload_into(
 }
 
 fn unload(image: &[u8], bin: &mut [u8], cfg: &mut [u8]) -> Unbuilding
-    requires { imageJlp image.now ≡ 0 }
+    requires { image_jlp image.now ≡ 0 }
     ensures { Answered image.now bin.old cfg.old result bin.new cfg.new }
 {
     let mut zeros = [0u16; LENT_LIMIT];
@@ -102,7 +102,7 @@ fn unload(image: &[u8], bin: &mut [u8], cfg: &mut [u8]) -> Unbuilding
 
 // The JLP field; 0 of an image that ends before it.
 fn jlp_of(image: &[u8]) -> u8
-    ensures { result ≡ imageJlp image.now }
+    ensures { result ≡ image_jlp image.now }
 {
     let from = basics::least(header::FLAGS_AT, image.len());
     header::jlp_field(&image[from..])
@@ -121,9 +121,9 @@ fn refusal_accelerated(image: &[u8]) -> Refusal
 
 // A BIN and a CFG from an image, each into the front of a lent buffer; before all else what a load into 524,288 words refuses, 13 by its size.
 pub fn unbuild(image: &[u8], bin: &mut [u8], cfg: &mut [u8]) -> Unbuilding
-    ensures { (result ≡ unbuildingOf image.now bin.old cfg.old)
-        × (bin.new ≡ binAfter image.now bin.old cfg.old)
-        × (cfg.new ≡ cfgAfter image.now bin.old cfg.old) }
+    ensures { (result ≡ unbuilding_of image.now bin.old cfg.old)
+        × (bin.new ≡ bin_after image.now bin.old cfg.old)
+        × (cfg.new ≡ cfg_after image.now bin.old cfg.old) }
 {
     if jlp_of(image) != 0 {
         return refuse(refusal_accelerated(image));

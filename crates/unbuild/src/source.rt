@@ -1,10 +1,10 @@
 // The BIN and the CFG of what was retraced: 31, 32, 29, or both written.
 ghost use Rattle.std.specs.Prelude.{◌≤◌, ◌*◌, max, ◌≡◌, false, not, length, take};
-ghost use Rattle.basics.specs.Lists.{putFront};
-ghost use Rattle.places.specs.Limits.{binLimit};
-ghost use Rattle.canon.specs.Laws.Bin.{binSize};
-ghost use Rattle.ledger.specs.Held.{planIn, words_in};
-ghost use Rattle.sheet.specs.Code.Sheets.{sheetOf, sheetSize};
+ghost use Rattle.basics.specs.Lists.{put_front};
+ghost use Rattle.places.specs.Limits.{bin_limit};
+ghost use Rattle.canon.specs.Laws.Bin.{bin_size};
+ghost use Rattle.ledger.specs.Held.{plan_in, words_in};
+ghost use Rattle.sheet.specs.Code.Sheets.{sheet_of, sheet_size};
 ghost use Rattle.unbuild.specs.Code.Answers.{AnswersBy, bare, bin_in, cfgIn};
 
 use crate::Unbuilding;
@@ -28,7 +28,7 @@ pub(crate) fn refuse(r: Refusal) -> Unbuilding
 
 // How many bytes the BIN has.
 fn size_of(s: Sketch) -> usize
-    ensures { result ≡ 2 * max 1 (binSize (planIn s.kinds s.pages)) }
+    ensures { result ≡ 2 * max 1 (bin_size (plan_in s.kinds s.pages)) }
 {
     let kinds = s.kinds;
     let pages = s.pages;
@@ -37,7 +37,7 @@ fn size_of(s: Sketch) -> usize
 
 // The BIN, and the CFG, each at the front of its buffer, where there is room.
 fn write_bin(s: Sketch, ram: &[u16], bin: &mut [u8])
-    ensures { bin.new ≡ putFront (bin_in s ram.now) bin.old }
+    ensures { bin.new ≡ put_front (bin_in s ram.now) bin.old }
 {
     let kinds = s.kinds;
     let pages = s.pages;
@@ -45,8 +45,8 @@ fn write_bin(s: Sketch, ram: &[u16], bin: &mut [u8])
 }
 
 fn write_cfg(s: Sheet, cfg: &mut [u8])
-    requires { s.length ≤ sheetSize }
-    ensures { cfg.new ≡ putFront (take s.length s.bytes) cfg.old }
+    requires { s.length ≤ sheet_size }
+    ensures { cfg.new ≡ put_front (take s.length s.bytes) cfg.old }
 {
     let n = s.length;
     let bytes = s.bytes;
@@ -55,7 +55,7 @@ fn write_cfg(s: Sheet, cfg: &mut [u8])
 
 // 29, where either buffer is too short; else both are written.
 fn write_both(s: Sketch, l: Listing, ram: &[u16], bin: &mut [u8], cfg: &mut [u8]) -> Unbuilding
-    requires { length (bin_in s ram.now) ≤ binLimit }
+    requires { length (bin_in s ram.now) ≤ bin_limit }
     ensures { AnswersBy false (bin_in s ram.now) (cfgIn l) bin.old cfg.old result bin.new cfg.new }
 {
     let n = size_of(s);

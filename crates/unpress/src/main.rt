@@ -1,7 +1,7 @@
 // Goes back from an image to its BIN and its CFG: the image's name and the two to write are the arguments. Prints what the desk reads:
 // `result=written` with the bytes of both, `result=refused` with number and place, or `result=stopped` with the file and the reason.
 ghost use Rattle.std.specs.Prelude.{◌+◌, ◌≡◌, length};
-ghost use Rattle.places.specs.Limits.{binLimit, cfgLimit, imageLimit};
+ghost use Rattle.places.specs.Limits.{bin_limit, cfg_limit, image_limit};
 
 use files::Seen;
 use places::{BIN_LIMIT, CFG_LIMIT, IMAGE_LIMIT};
@@ -11,19 +11,19 @@ use unbuild::Unbuilding;
 const IMAGE_ROOM: usize = IMAGE_LIMIT + 1;
 
 fn image_room() -> [u8; IMAGE_ROOM]
-    ensures { imageLimit + 1 ≡ length result }
+    ensures { image_limit + 1 ≡ length result }
 {
     [0; IMAGE_ROOM]
 }
 
 fn bin_room() -> [u8; BIN_LIMIT]
-    ensures { binLimit ≡ length result }
+    ensures { bin_limit ≡ length result }
 {
     [0; BIN_LIMIT]
 }
 
 fn cfg_room() -> [u8; CFG_LIMIT]
-    ensures { cfgLimit ≡ length result }
+    ensures { cfg_limit ≡ length result }
 {
     [0; CFG_LIMIT]
 }

@@ -1,7 +1,7 @@
 // Runs 001's vectors, and the vector files that the independent second program makes (second/README.md), and compares:
 // a line for each family, and the first case that differs; the last line says whether every file was there and had cases.
 ghost use Rattle.std.specs.Prelude.{◌≡◌, ◌+◌, length};
-ghost use Rattle.places.specs.Limits.{lentLimit};
+ghost use Rattle.places.specs.Limits.{lent_limit};
 
 use cases::fill::put;
 use cases::record::{end_of, front};
@@ -42,7 +42,7 @@ fn buffer_room() -> [u8; 1200000]
 const WORD_ROOM: usize = LENT_LIMIT + 257;
 
 fn word_room() -> [u16; WORD_ROOM]
-    ensures { lentLimit + 257 ≡ length result }
+    ensures { lent_limit + 257 ≡ length result }
 {
     [0; WORD_ROOM]
 }

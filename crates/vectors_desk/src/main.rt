@@ -1,7 +1,7 @@
 // Runs the second program's vector files (second/README.md) of what the desk does with whole files, and compares: names, dates and
 // labels, salvage, lists of accesses, back to BIN and CFG. It prints what `vectors` prints of the other families.
 ghost use Rattle.std.specs.Prelude.{◌≡◌, length};
-ghost use Rattle.places.specs.Limits.{imageLimit};
+ghost use Rattle.places.specs.Limits.{image_limit};
 
 use cases::fill::put;
 use cases::record::{end_of, front};
@@ -29,7 +29,7 @@ const FAMILIES: usize = 6;
 
 // Room for any buffer.
 fn buffer_room() -> [u8; IMAGE_LIMIT]
-    ensures { imageLimit ≡ length result }
+    ensures { image_limit ≡ length result }
 {
     [0; IMAGE_LIMIT]
 }

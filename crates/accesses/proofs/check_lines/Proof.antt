@@ -2,7 +2,7 @@
 use Prim.Native.Nat.{◌-◌}
 use lib.ListN.{length}
 use borrow.Author.Rules.{rules}
-use Rattle.accesses.proofs.Checks.{Checking, checking-none, checking-more, checked-wrong, checked-all, further}
+use Rattle.accesses.proofs.Checks.{Checking, checking_none, checking_more, checked_wrong, checked_all, further}
 use Rattle.accesses.proofs.check_lines.Statement.{statement}
 use Rattle.accesses.proofs.check_lines.Tie as tie
 
@@ -13,19 +13,19 @@ abbrev decreases-loop : tie.decreases-loop
 decreases-loop list at₀ lines₀ reads₀ at lines reads = length list - at
 
 loop-holds : tie.Need-loop-init invariant-loop decreases-loop
-loop-holds c = search (rules, checking-none)
+loop-holds c = search (rules, checking_none)
 
 returns : tie.Need-returns invariant-loop decreases-loop
-returns c = search (rules, checked-wrong)
+returns c = search (rules, checked_wrong)
 
 loop-less : tie.Need-loop-smaller invariant-loop decreases-loop
 loop-less c = search (rules, further)
 
 loop-again : tie.Need-loop-preserved invariant-loop decreases-loop
-loop-again c = search (rules, checking-more)
+loop-again c = search (rules, checking_more)
 
 returns-2 : tie.Need-returns-2 invariant-loop decreases-loop
-returns-2 c = search (rules, checked-all)
+returns-2 c = search (rules, checked_all)
 
 pub check-lines-spec : {M : Type 1} → statement M
 check-lines-spec =

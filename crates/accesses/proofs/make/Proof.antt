@@ -1,11 +1,11 @@
 -- `accesses::make` meets its contract: a law for each of what a line may say.
 use borrow.Author.Rules.{rules}
-use Rattle.accesses.proofs.Steps.{malformed-done, read_done, write_done, reset-done}
+use Rattle.accesses.proofs.Steps.{malformed_done, read_done, write_done, reset_done}
 use Rattle.accesses.proofs.make.Statement.{statement}
 use Rattle.accesses.proofs.make.Tie as tie
 
 returns : tie.Need-returns
-returns c = malformed-done _ _ _ _ _ _ _ _ _ _ c.enum_told.given.1
+returns c = malformed_done _ _ _ _ _ _ _ _ _ _ c.enum_told.given.1
 
 returns-2 : tie.Need-returns-2
 returns-2 c =
@@ -26,7 +26,7 @@ returns-4 : tie.Need-returns-4
 returns-4 c =
     let arm = c.before.before.before in
     let start = arm.before.before.before.before in
-    reset-done _ _ _ _ _ _ _ _ _ start.args.s _ _ (search rules) start.requires c.reset.ensures
+    reset_done _ _ _ _ _ _ _ _ _ start.args.s _ _ (search rules) start.requires c.reset.ensures
 
 pub make_spec : {M : Type 1} → statement M
 make_spec =

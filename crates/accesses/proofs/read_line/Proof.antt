@@ -1,14 +1,14 @@
 -- `accesses::read_line` meets its contract: the line is spelt otherwise, or has no four digits, or says a read.
 use borrow.Author.Rules.{rules}
-use Rattle.accesses.proofs.Lines.{read-other, read-said, read_none}
+use Rattle.accesses.proofs.Lines.{read_other, read_said, read_none}
 use Rattle.accesses.proofs.read_line.Statement.{statement}
 use Rattle.accesses.proofs.read_line.Tie as tie
 
 returns : tie.Need-returns
-returns c = search (rules, read-other)
+returns c = search (rules, read_other)
 
 returns-2 : tie.Need-returns-2
-returns-2 c = search (rules, read-said)
+returns-2 c = search (rules, read_said)
 
 returns-3 : tie.Need-returns-3
 returns-3 c = search (rules, read_none)

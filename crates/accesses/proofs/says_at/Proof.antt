@@ -1,11 +1,11 @@
 -- `accesses::says_at` meets its contract: the line is cut, and read.
 use borrow.Author.Rules.{rules}
-use Rattle.accesses.proofs.Lines.{said_at, line-within}
+use Rattle.accesses.proofs.Lines.{said_at, line_within}
 use Rattle.accesses.proofs.says_at.Statement.{statement}
 use Rattle.accesses.proofs.says_at.Tie as tie
 
 part-line-says-end : tie.Need-slice-bounds-line-says-end
-part-line-says-end c = search (rules, line-within)
+part-line-says-end c = search (rules, line_within)
 
 returns : tie.Need-returns
 returns c = search (rules, said_at)

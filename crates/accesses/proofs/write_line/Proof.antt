@@ -1,17 +1,17 @@
 -- `accesses::write_line` meets its contract: the line is spelt otherwise before the address or before the value, or its numbers decide.
 use borrow.Author.Rules.{rules}
-use Rattle.accesses.proofs.Lines.{write-other, write-third, write-said}
+use Rattle.accesses.proofs.Lines.{write_other, write_third, write_said}
 use Rattle.accesses.proofs.write_line.Statement.{statement}
 use Rattle.accesses.proofs.write_line.Tie as tie
 
 returns : tie.Need-returns
-returns c = search (rules, write-other)
+returns c = search (rules, write_other)
 
 returns-2 : tie.Need-returns-2
-returns-2 c = search (rules, write-third)
+returns-2 c = search (rules, write_third)
 
 returns-3 : tie.Need-returns-3
-returns-3 c = search (rules, write-said)
+returns-3 c = search (rules, write_said)
 
 pub write-line-spec : {M : Type 1} → statement M
 write-line-spec =

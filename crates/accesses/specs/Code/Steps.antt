@@ -2,8 +2,8 @@
 use Rattle.std.specs.Prelude.{ℕ, ◌+◌, ◌≤◌, List, map, ◌≡◌, Bool, true, false, cond, ltb, length, set}
 use Rattle.std.proofs.Math.Option.{Option, none, some}
 use Rattle.basics.specs.declared.Refusal.{Refusal}
-use Rattle.basics.specs.Lists.{putFront}
-use Rattle.basics.specs.Refusals.{noRefusal}
+use Rattle.basics.specs.Lists.{put_front}
+use Rattle.basics.specs.Refusals.{no_refusal}
 use Rattle.places.specs.Places.{console}
 use Rattle.switches.specs.Flips.{Active}
 use Rattle.jlp.specs.declared.Jlp.{Jlp}
@@ -22,8 +22,8 @@ use Rattle.accesses.specs.declared.Number.TheVariants.{Is, Not}
 use Rattle.accesses.specs.declared.Ran.{Ran}
 use Rattle.accesses.specs.declared.Says.{Says}
 use Rattle.accesses.specs.declared.Says.TheVariants.{Malformed, Read, Write, Reset}
-use Rattle.accesses.specs.Line.{digitsAt, word_at}
-use Rattle.accesses.specs.Accesses.{malformedLine, reads_of}
+use Rattle.accesses.specs.Line.{digits_at, word_at}
+use Rattle.accesses.specs.Accesses.{malformed_line, reads_of}
 use Rattle.cart.specs.Reads.{heard}
 
 -- what a line says
@@ -33,21 +33,21 @@ says (some (Run.Read a)) = Read a
 says (some (Run.Write a v)) = Write a v
 says (some Run.Reset) = Reset
 
-abbrev pub isMalformed : Says → Bool
-isMalformed Malformed = true
-isMalformed (Read a) = false
-isMalformed (Write a v) = false
-isMalformed Reset = false
+abbrev pub is_malformed : Says → Bool
+is_malformed Malformed = true
+is_malformed (Read a) = false
+is_malformed (Write a v) = false
+is_malformed Reset = false
 
-abbrev pub readsSaid : Says → ℕ
-readsSaid Malformed = 0
-readsSaid (Read a) = 1
-readsSaid (Write a v) = 0
-readsSaid Reset = 0
+abbrev pub reads_said : Says → ℕ
+reads_said Malformed = 0
+reads_said (Read a) = 1
+reads_said (Write a v) = 0
+reads_said Reset = 0
 
 -- the checking pass: the first malformed line, or how many lines and reads there are
-unfoldable pub checkedOf : List ℕ → Checked
-checkedOf list = cond (ltb 0 (malformedLine list)) (Wrong (malformedLine list)) (Good (length (lines_of list)) (reads_of list))
+unfoldable pub checked_of : List ℕ → Checked
+checked_of list = cond (ltb 0 (malformed_line list)) (Wrong (malformed_line list)) (Good (length (lines_of list)) (reads_of list))
 
 -- a world of initial and active tables, the flip table, the number of readable paragraphs, the accelerators, the flash and the RAM
 abbrev pub tabled : Active → Active → List ℕ → ℕ → Jlp → List ℕ → List ℕ → World
@@ -71,12 +71,12 @@ made w s = record { jlp = (stepped w s).cartridge.jlp; reply = answered w s }
 
 -- four digits as a number, and a write of two
 abbrev pub number_of : List ℕ → ℕ → Number
-number_of l i = cond (digitsAt l i) (Is (word_at l i)) Not
+number_of l i = cond (digits_at l i) (Is (word_at l i)) Not
 
-abbrev pub writeBy : Number → Number → Says
-writeBy (Is a) (Is v) = Write (console a) v
-writeBy (Is a) Not = Malformed
-writeBy Not v = Malformed
+abbrev pub write_by : Number → Number → Says
+write_by (Is a) (Is v) = Write (console a) v
+write_by (Is a) Not = Malformed
+write_by Not v = Malformed
 
 -- an answer in the buffer
 abbrev pub count_of : Reply → ℕ
@@ -92,16 +92,16 @@ Fits h k room = k + count_of h ≤ room
 
 -- a list that is not refused, with room for all its answers, and a number of its lines
 pub record Runnable (list : List ℕ) (n room : ℕ) : Type 0 where
-  pub good : malformedLine list ≡ 0
+  pub good : malformed_line list ≡ 0
   pub lines : n ≤ length (lines_of list)
   pub fits : reads_of list ≤ room
 
 -- a refused run, and one of these accesses
-abbrev pub refusedWith : Cartridge → Refusal → ℕ → Ran
-refusedWith c r n = record { refusal = r; cartridge = c; lines = 0; length = n }
+abbrev pub refused_with : Cartridge → Refusal → ℕ → Ran
+refused_with c r n = record { refusal = r; cartridge = c; lines = 0; length = n }
 
-abbrev pub ranTo : World → List Run.Access → Ran
-ranTo w xs = record { refusal = noRefusal; cartridge = (after w xs).cartridge; lines = length xs; length = length (map heard (answers w xs)) }
+abbrev pub ran_to : World → List Run.Access → Ran
+ran_to w xs = record { refusal = no_refusal; cartridge = (after w xs).cartridge; lines = length xs; length = length (map heard (answers w xs)) }
 
-abbrev pub answersTo : World → List Run.Access → List ℕ → List ℕ
-answersTo w xs out = putFront (map heard (answers w xs)) out
+abbrev pub answers_to : World → List Run.Access → List ℕ → List ℕ
+answers_to w xs out = put_front (map heard (answers w xs)) out

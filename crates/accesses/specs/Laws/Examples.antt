@@ -7,8 +7,8 @@ use Rattle.text.specs.Bytes.{text}
 use Rattle.text.specs.Spelling.{same}
 use Rattle.text.specs.Lines.{lines_of}
 use Rattle.cart.specs.Run.{Access, Read, Write, Reset}
-use Rattle.accesses.specs.Line.{digitsAt, word_at, isReset, isRead, isWrite, lineSays}
-use Rattle.accesses.specs.Accesses.{accessesIn, malformedFrom, malformedLine, readsIn, reads_of}
+use Rattle.accesses.specs.Line.{digits_at, word_at, is_reset, is_read, is_write, line_says}
+use Rattle.accesses.specs.Accesses.{accesses_in, malformed_from, malformed_line, reads_in, reads_of}
 
 pub record Example : Type 0 where
   pub line : String
@@ -43,8 +43,8 @@ examples =
     ("op=x ; again" says none) ∷
     []
 
-pub lines : map (λ e. lineSays (text e.line)) examples ≡ map (λ e. e.says) examples
-unfolding same digitsAt word_at isReset isRead isWrite lineSays
+pub lines : map (λ e. line_says (text e.line)) examples ≡ map (λ e. e.says) examples
+unfolding same digits_at word_at is_reset is_read is_write line_says
 lines = refl
 
 -- a list: how many lines it has, the first malformed one, and how many reads
@@ -69,9 +69,9 @@ lists =
     ("op=x\r\r\n" has (1 ∷ 1 ∷ 0 ∷ [])) ∷
     []
 
-abbrev countsOf : List ℕ → List ℕ
-countsOf list = length (lines_of list) ∷ malformedLine list ∷ reads_of list ∷ []
+abbrev counts_of : List ℕ → List ℕ
+counts_of list = length (lines_of list) ∷ malformed_line list ∷ reads_of list ∷ []
 
-pub counts : map (λ e. countsOf (text e.list)) lists ≡ map (λ e. e.counts) lists
-unfolding same digitsAt word_at isReset isRead isWrite lineSays lines_of accessesIn malformedFrom readsIn
+pub counts : map (λ e. counts_of (text e.list)) lists ≡ map (λ e. e.counts) lists
+unfolding same digits_at word_at is_reset is_read is_write line_says lines_of accesses_in malformed_from reads_in
 counts = refl

@@ -3,7 +3,7 @@ use Prim.Native.Nat.{◌-◌}
 use native.Mathlib.Omega.{arith}
 use lib.ListN.{length, length-set}
 use borrow.Author.Rules.{rules}
-use Rattle.basics.specs.Laws.Puts.{Wording, word-short, word_none, word_more, word-all}
+use Rattle.basics.specs.Laws.Puts.{Wording, word_short, word_none, word_more, word_all}
 use Rattle.basics.proofs.put_words.Statement.{statement}
 use Rattle.basics.proofs.put_words.Tie as tie
 
@@ -23,10 +23,10 @@ loop-again : tie.Need-loop-preserved invariant-loop decreases-loop
 loop-again c = search (rules, word_more)
 
 returns : tie.Need-returns invariant-loop decreases-loop
-returns c = search (rules, word-short)
+returns c = search (rules, word_short)
 
 returns-2 : tie.Need-returns-2 invariant-loop decreases-loop
-returns-2 c = search (rules, word-all)
+returns-2 c = search (rules, word_all)
 
 pub put-words-spec : {M : Type 1} → statement M
 put-words-spec =

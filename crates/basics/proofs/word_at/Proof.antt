@@ -1,11 +1,11 @@
 -- `basics::word_at` meets its contract: past the end both bytes are 0.
 use borrow.Author.Rules.{rules}
-use Rattle.basics.specs.Laws.Bytes.{at16-past}
+use Rattle.basics.specs.Laws.Bytes.{at16_past}
 use Rattle.basics.proofs.word_at.Statement.{statement}
 use Rattle.basics.proofs.word_at.Tie as tie
 
 returns : tie.Need-returns
-returns c = search (rules, at16-past)
+returns c = search (rules, at16_past)
 
 shared-slice-read-wide16 : tie.Need-shared-slice-read-wide16
 shared-slice-read-wide16 c = search rules

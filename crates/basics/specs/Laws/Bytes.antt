@@ -5,38 +5,38 @@ use Rattle.std.proofs.Math.ListN.{get_or-eq_default}
 use Rattle.basics.specs.Bytes.{at16, bytes16}
 
 -- past the end
-pub at16-past : (s : List ℕ) (at : ℕ) → length s ≤ at → 0 ≡ at16 s at
-at16-past s at h = omega (arith, get_or-eq_default s 0 h, get_or-eq_default s 0 {n = at + 1} (omega arith))
+pub at16_past : (s : List ℕ) (at : ℕ) → length s ≤ at → 0 ≡ at16 s at
+at16_past s at h = omega (arith, get_or-eq_default s 0 h, get_or-eq_default s 0 {n = at + 1} (omega arith))
 
-pub low-high : (w : ℕ) → w % 256 + 256 * (w / 256) ≡ w
-low-high w = omega arith
+pub low_high : (w : ℕ) → w % 256 + 256 * (w / 256) ≡ w
+low_high w = omega arith
 
-pub length-bytes16 : (ws : List ℕ) → length (bytes16 ws) ≡ 2 * length ws
+pub length_bytes16 : (ws : List ℕ) → length (bytes16 ws) ≡ 2 * length ws
 unfolding bytes16
-length-bytes16 [] = refl
-length-bytes16 (w ∷ ws) = omega (arith, length-bytes16 ws)
+length_bytes16 [] = refl
+length_bytes16 (w ∷ ws) = omega (arith, length_bytes16 ws)
 
-pub bytes16-append : (xs ys : List ℕ) → bytes16 (xs ++ ys) ≡ bytes16 xs ++ bytes16 ys
+pub bytes16_append : (xs ys : List ℕ) → bytes16 (xs ++ ys) ≡ bytes16 xs ++ bytes16 ys
 unfolding bytes16
-bytes16-append [] ys = refl
-bytes16-append (x ∷ xs) ys = ap {B = List ℕ} (λ r. x % 256 ∷ x / 256 ∷ r) (bytes16-append xs ys)
+bytes16_append [] ys = refl
+bytes16_append (x ∷ xs) ys = ap {B = List ℕ} (λ r. x % 256 ∷ x / 256 ∷ r) (bytes16_append xs ys)
 
 -- the bytes of word i
-pub bytes16-low : (ws : List ℕ) (i : ℕ) → get_or (bytes16 ws) (2 * i) 0 ≡ get_or ws i 0 % 256
+pub bytes16_low : (ws : List ℕ) (i : ℕ) → get_or (bytes16 ws) (2 * i) 0 ≡ get_or ws i 0 % 256
 unfolding bytes16
-bytes16-low [] i = refl
-bytes16-low (w ∷ ws) zero = refl
-bytes16-low (w ∷ ws) (suc i) =
+bytes16_low [] i = refl
+bytes16_low (w ∷ ws) zero = refl
+bytes16_low (w ∷ ws) (suc i) =
     let two : 2 * suc i ≡ suc (suc (2 * i)) = omega arith in
-    ap (λ (k : ℕ). get_or (w % 256 ∷ w / 256 ∷ bytes16 ws) k 0) two ∙ bytes16-low ws i
+    ap (λ (k : ℕ). get_or (w % 256 ∷ w / 256 ∷ bytes16 ws) k 0) two ∙ bytes16_low ws i
 
-pub bytes16-high : (ws : List ℕ) (i : ℕ) → get_or (bytes16 ws) (2 * i + 1) 0 ≡ get_or ws i 0 / 256
+pub bytes16_high : (ws : List ℕ) (i : ℕ) → get_or (bytes16 ws) (2 * i + 1) 0 ≡ get_or ws i 0 / 256
 unfolding bytes16
-bytes16-high [] i = refl
-bytes16-high (w ∷ ws) zero = refl
-bytes16-high (w ∷ ws) (suc i) =
+bytes16_high [] i = refl
+bytes16_high (w ∷ ws) zero = refl
+bytes16_high (w ∷ ws) (suc i) =
     let two : 2 * suc i + 1 ≡ suc (suc (2 * i + 1)) = omega arith in
-    ap (λ (k : ℕ). get_or (w % 256 ∷ w / 256 ∷ bytes16 ws) k 0) two ∙ bytes16-high ws i
+    ap (λ (k : ℕ). get_or (w % 256 ∷ w / 256 ∷ bytes16 ws) k 0) two ∙ bytes16_high ws i
 
 pub four_bytes : (x : ℕ) → x % 65536 % 256 + 256 * (x % 65536 / 256) + 65536 * (x / 65536 % 256 + 256 * (x / 65536 / 256)) ≡ x
 four_bytes x = omega arith

@@ -3,15 +3,15 @@ use Rattle.std.specs.Prelude.{ℕ, List, ◌++◌, [], ◌∷◌, map, ◌≡◌
 use Rattle.std.proofs.Common.{append_assoc, append-nil, ap, ◌∙◌, sym}
 use Rattle.basics.specs.Lists.{flat, joined, Each, none, also}
 
-pub joined-append : {A : Type 0} (f : A → List ℕ) (xs ys : List A) → joined f (xs ++ ys) ≡ joined f xs ++ joined f ys
+pub joined_append : {A : Type 0} (f : A → List ℕ) (xs ys : List A) → joined f (xs ++ ys) ≡ joined f xs ++ joined f ys
 unfolding joined
-joined-append f [] ys = refl
-joined-append f (x ∷ xs) ys = ap (◌++◌ (f x)) (joined-append f xs ys) ∙ sym (append_assoc (f x) (joined f xs) (joined f ys))
+joined_append f [] ys = refl
+joined_append f (x ∷ xs) ys = ap (◌++◌ (f x)) (joined_append f xs ys) ∙ sym (append_assoc (f x) (joined f xs) (joined f ys))
 
 -- one more
-pub joined-more : {A : Type 0} (f : A → List ℕ) (xs : List A) (x : A) → joined f (xs ++ (x ∷ [])) ≡ joined f xs ++ f x
+pub joined_more : {A : Type 0} (f : A → List ℕ) (xs : List A) (x : A) → joined f (xs ++ (x ∷ [])) ≡ joined f xs ++ f x
 unfolding joined
-joined-more f xs x = joined-append f xs (x ∷ []) ∙ ap (◌++◌ (joined f xs)) (append-nil (f x))
+joined_more f xs x = joined_append f xs (x ∷ []) ∙ ap (◌++◌ (joined f xs)) (append-nil (f x))
 
 pub flat_map : {A : Type 0} (f : A → List ℕ) (xs : List A) → flat (map f xs) ≡ joined f xs
 unfolding joined

@@ -16,8 +16,8 @@ pub get_d_part : {A : Type 0} (s : List A) (a e i : ℕ) (d : A) → a + i < e �
 get_d_part s a e i d h = get_or-take (e - a) (drop a s) i d (omega arith) ∙ get_or-drop a s i d
 
 -- what the code's `&s[a..]` lends
-pub part-rest : {A : Type 0} (s : List A) (a : ℕ) → part s a (length s) ≡ drop a s
-part-rest s a = ap (λ (n : ℕ). take n (drop a s)) (sym (length-drop a s)) ∙ take-length (drop a s)
+pub part_rest : {A : Type 0} (s : List A) (a : ℕ) → part s a (length s) ≡ drop a s
+part_rest s a = ap (λ (n : ℕ). take n (drop a s)) (sym (length-drop a s)) ∙ take-length (drop a s)
 
 module _ (a : ℕ) (w : ℕ → ℕ) (m : List ℕ) where
   -- a loop that stores: none, and one more
@@ -29,10 +29,10 @@ module _ (a : ℕ) (w : ℕ → ℕ) (m : List ℕ) where
   unfolding laid
   laid_more n t v e f = simp (add-one, e, f)
 
-  pub length-laid : (n : ℕ) → length (laid a n w m) ≡ length m
+  pub length_laid : (n : ℕ) → length (laid a n w m) ≡ length m
   unfolding laid
-  length-laid zero = refl
-  length-laid (suc n) = simp (length-set, length-laid n)
+  length_laid zero = refl
+  length_laid (suc n) = simp (length-set, length_laid n)
 
   -- a place that is named holds its word, and any other place what it held
   pub laid_out : (n p : ℕ) → (p < a) ⊎ (a + n ≤ p) → get_or (laid a n w m) p 0 ≡ get_or m p 0
@@ -48,7 +48,7 @@ module _ (a : ℕ) (w : ℕ → ℕ) (m : List ℕ) where
   laid_in (suc n) i h s = last (eq-or-lt_of_le (omega arith)) (λ l. laid_in n i l s)
     where
       last : (i ≡ n) ⊎ (i < n) → (i < n → get_or (laid a n w m) (a + i) 0 ≡ w i) → get_or (set (laid a n w m) (a + n) (w n)) (a + i) 0 ≡ w i
-      last (inl e) k = rw e (get_or-set_same (laid a n w m) (a + n) (w n) 0 (rw length-laid (omega arith)))
+      last (inl e) k = rw e (get_or-set_same (laid a n w m) (a + n) (w n) 0 (rw length_laid (omega arith)))
       last (inr l) k = get_or-set_other (laid a n w m) (a + n) (a + i) (w n) 0 (λ e. omega arith) ∙ k l
 
 -- equal words are laid alike
@@ -58,16 +58,16 @@ laid_same a zero v w m h = refl
 laid_same a (suc n) v w m h = rw (laid_same a n v w m (λ i l. h i (omega arith)), h n (omega arith))
 
 -- words laid in two goes
-pub laid-add : (a n k : ℕ) (w : ℕ → ℕ) (m : List ℕ) → laid a (n + k) w m ≡ laid (a + n) k (λ i. w (n + i)) (laid a n w m)
+pub laid_add : (a n k : ℕ) (w : ℕ → ℕ) (m : List ℕ) → laid a (n + k) w m ≡ laid (a + n) k (λ i. w (n + i)) (laid a n w m)
 unfolding laid
-laid-add a n zero w m = let e : n + 0 ≡ n = omega arith in rw e
-laid-add a n (suc k) w m =
+laid_add a n zero w m = let e : n + 0 ≡ n = omega arith in rw e
+laid_add a n (suc k) w m =
     let e : n + suc k ≡ suc (n + k) = omega arith in
     let f : a + (n + k) ≡ a + n + k = omega arith in
-    rw (e, laid-add a n k w m, f)
+    rw (e, laid_add a n k w m, f)
 
-pub drop-one : (s : List ℕ) (i j : ℕ) → i < length s → j ≡ suc i → drop i s ≡ get_or s i 0 ∷ drop j s
-drop-one s i j h e = rw e (drop-cons s i 0 h)
+pub drop_one : (s : List ℕ) (i j : ℕ) → i < length s → j ≡ suc i → drop i s ≡ get_or s i 0 ∷ drop j s
+drop_one s i j h e = rw e (drop-cons s i 0 h)
 
 pub none_left : (ws : List ℕ) → length ws ≡ 0 → [] ≡ ws
 none_left [] e = refl

@@ -3,13 +3,13 @@ use Rattle.std.specs.Prelude.{List, [], ◌∷◌, ◌++◌, ◌≡◌, refl, �
 use Rattle.std.proofs.Common.{ap, inr, inl}
 use Rattle.basics.specs.Rows.{Row, Gives, first_of, here, later, Silent, none, also}
 
-pub gives-first : {A : Type 0} {rs : List (Row A)} {a : A} (d : A) → Gives rs a → first_of rs d ≡ a
-gives-first d (here e) = rw e
-gives-first d (later e g) = rw e (gives-first d g)
+pub gives_first : {A : Type 0} {rs : List (Row A)} {a : A} (d : A) → Gives rs a → first_of rs d ≡ a
+gives_first d (here e) = rw e
+gives_first d (later e g) = rw e (gives_first d g)
 
-pub silent-first : {A : Type 0} {rs : List (Row A)} (d : A) → Silent rs → first_of rs d ≡ d
-silent-first d none = refl
-silent-first d (also e s) = rw e (silent-first d s)
+pub silent_first : {A : Type 0} {rs : List (Row A)} (d : A) → Silent rs → first_of rs d ≡ d
+silent_first d none = refl
+silent_first d (also e s) = rw e (silent_first d s)
 
 -- a table answers by a row, or none of its rows holds
 pub first_by : {A : Type 0} (rs : List (Row A)) (d : A) → (Gives rs (first_of rs d)) ⊎ (Silent rs)
@@ -22,35 +22,35 @@ first_by ((false, a) ∷ rs) d = go (first_by rs d)
     go (inr s) = inr (also refl s)
 
 -- tables one behind the other
-pub first-append : {A : Type 0} (rs qs : List (Row A)) (d : A) → first_of (rs ++ qs) d ≡ first_of rs (first_of qs d)
-first-append [] qs d = refl
-first-append ((b, a) ∷ rs) qs d = ap (cond b a) (first-append rs qs d)
+pub first_append : {A : Type 0} (rs qs : List (Row A)) (d : A) → first_of (rs ++ qs) d ≡ first_of rs (first_of qs d)
+first_append [] qs d = refl
+first_append ((b, a) ∷ rs) qs d = ap (cond b a) (first_append rs qs d)
 
-pub silent-append : {A : Type 0} {rs qs : List (Row A)} → Silent rs → Silent qs → Silent (rs ++ qs)
-silent-append none q = q
-silent-append (also e s) q = also e (silent-append s q)
+pub silent_append : {A : Type 0} {rs qs : List (Row A)} → Silent rs → Silent qs → Silent (rs ++ qs)
+silent_append none q = q
+silent_append (also e s) q = also e (silent_append s q)
 
-pub silent-left : {A : Type 0} (rs qs : List (Row A)) → Silent (rs ++ qs) → Silent rs
-silent-left [] qs s = none
-silent-left (r ∷ rs) qs (also e s) = also e (silent-left rs qs s)
+pub silent_left : {A : Type 0} (rs qs : List (Row A)) → Silent (rs ++ qs) → Silent rs
+silent_left [] qs s = none
+silent_left (r ∷ rs) qs (also e s) = also e (silent_left rs qs s)
 
-pub silent-right : {A : Type 0} (rs qs : List (Row A)) → Silent (rs ++ qs) → Silent qs
-silent-right [] qs s = s
-silent-right (r ∷ rs) qs (also e s) = silent-right rs qs s
+pub silent_right : {A : Type 0} (rs qs : List (Row A)) → Silent (rs ++ qs) → Silent qs
+silent_right [] qs s = s
+silent_right (r ∷ rs) qs (also e s) = silent_right rs qs s
 
-pub gives-append : {A : Type 0} {rs : List (Row A)} {a : A} (qs : List (Row A)) → Gives rs a → Gives (rs ++ qs) a
-gives-append qs (here e) = here e
-gives-append qs (later e g) = later e (gives-append qs g)
+pub gives_append : {A : Type 0} {rs : List (Row A)} {a : A} (qs : List (Row A)) → Gives rs a → Gives (rs ++ qs) a
+gives_append qs (here e) = here e
+gives_append qs (later e g) = later e (gives_append qs g)
 
-pub silent-gives : {A : Type 0} {rs qs : List (Row A)} {a : A} → Silent rs → Gives qs a → Gives (rs ++ qs) a
-silent-gives none g = g
-silent-gives (also e s) g = later e (silent-gives s g)
+pub silent_gives : {A : Type 0} {rs qs : List (Row A)} {a : A} → Silent rs → Gives qs a → Gives (rs ++ qs) a
+silent_gives none g = g
+silent_gives (also e s) g = later e (silent_gives s g)
 
 -- an answer of two tables is the first's, or the second's where the first is silent
-pub gives-cases : {A : Type 0} {a : A} (rs qs : List (Row A)) → Gives (rs ++ qs) a → (Gives rs a) ⊎ ((Silent rs) × (Gives qs a))
-gives-cases [] qs g = inr (none, g)
-gives-cases ((b, c) ∷ rs) qs (here e) = inl (here e)
-gives-cases {A = A} {a = a} ((b, c) ∷ rs) qs (later e g) = go (gives-cases rs qs g)
+pub gives_cases : {A : Type 0} {a : A} (rs qs : List (Row A)) → Gives (rs ++ qs) a → (Gives rs a) ⊎ ((Silent rs) × (Gives qs a))
+gives_cases [] qs g = inr (none, g)
+gives_cases ((b, c) ∷ rs) qs (here e) = inl (here e)
+gives_cases {A = A} {a = a} ((b, c) ∷ rs) qs (later e g) = go (gives_cases rs qs g)
   where
     go : (Gives rs a) ⊎ ((Silent rs) × (Gives qs a)) → (Gives ((b, c) ∷ rs) a) ⊎ ((Silent ((b, c) ∷ rs)) × (Gives qs a))
     go (inl h) = inl (later e h)

@@ -14,8 +14,8 @@ cases {A = A} b holds fails = go b refl
     go true e = holds e
     go false e = fails e
 
-pub true-is-not-false : {A : Type 0} {b : Bool} → b ≡ true → b ≡ false → A
-true-is-not-false p q = let z : ◌≡◌ {A = ℕ} 0 1 = cc in absurd (omega arith)
+pub true_is_not_false : {A : Type 0} {b : Bool} → b ≡ true → b ≡ false → A
+true_is_not_false p q = let z : ◌≡◌ {A = ℕ} 0 1 = cc in absurd (omega arith)
 
 -- tests joined
 pub and_left : (a b : Bool) → a && b ≡ true → a ≡ true
@@ -24,14 +24,14 @@ and_left false b e = e
 
 pub and_right : (a b : Bool) → a && b ≡ true → b ≡ true
 and_right true b e = e
-and_right false b e = true-is-not-false e refl
+and_right false b e = true_is_not_false e refl
 
-pub and-true : (a b : Bool) → a ≡ true → b ≡ true → a && b ≡ true
-and-true a b e f = rw (e, f)
+pub and_true : (a b : Bool) → a ≡ true → b ≡ true → a && b ≡ true
+and_true a b e f = rw (e, f)
 
-pub and-false : (a b : Bool) → b ≡ false → a && b ≡ false
-and-false true b e = e
-and-false false b e = refl
+pub and_false : (a b : Bool) → b ≡ false → a && b ≡ false
+and_false true b e = e
+and_false false b e = refl
 
 pub or_left : (a b : Bool) → a ≡ true → a || b ≡ true
 or_left a b e = rw e
@@ -44,21 +44,21 @@ pub or_cases : (a b : Bool) → a || b ≡ true → (a ≡ true) ⊎ (b ≡ true
 or_cases true b e = inl refl
 or_cases false b e = inr e
 
-pub or-false-left : (a b : Bool) → a || b ≡ false → a ≡ false
-or-false-left true b e = e
-or-false-left false b e = refl
+pub or_false_left : (a b : Bool) → a || b ≡ false → a ≡ false
+or_false_left true b e = e
+or_false_left false b e = refl
 
-pub or-false-right : (a b : Bool) → a || b ≡ false → b ≡ false
-or-false-right true b e = true-is-not-false refl e
-or-false-right false b e = e
+pub or_false_right : (a b : Bool) → a || b ≡ false → b ≡ false
+or_false_right true b e = true_is_not_false refl e
+or_false_right false b e = e
 
 pub or_assoc : (a b c : Bool) → a || (b || c) ≡ a || b || c
 or_assoc true b c = refl
 or_assoc false b c = refl
 
-pub or-none : (a : Bool) → a || false ≡ a
-or-none true = refl
-or-none false = refl
+pub or_none : (a : Bool) → a || false ≡ a
+or_none true = refl
+or_none false = refl
 
 -- two tests that follow from each other are one
 pub same_test : (a b : Bool) → (a ≡ true → b ≡ true) → (b ≡ true → a ≡ true) → a ≡ b
@@ -74,8 +74,8 @@ compare m n =
     let d : m ≡ n → ⊥ = eqb-false m n e in
     inr (cases (ltb m n) (λ l. inl (ltb-true m n l)) (λ l. let k : n ≤ m = ltb-false m n l in inr (omega arith))))
 
-pub cond-true : {A : Type 0} (b : Bool) (x y : A) → b ≡ true → cond b x y ≡ x
-cond-true b x y e = rw e
+pub cond_true : {A : Type 0} (b : Bool) (x y : A) → b ≡ true → cond b x y ≡ x
+cond_true b x y e = rw e
 
 pub not-false : (b : Bool) → not b ≡ false → b ≡ true
 not-false true e = refl
@@ -85,6 +85,6 @@ pub not-true : (b : Bool) → not b ≡ true → b ≡ false
 not-true true e = sym e
 not-true false e = refl
 
-pub not-cond : (b : Bool) (x y : ℕ) → cond b x y ≡ cond (not b) y x
-not-cond true x y = refl
-not-cond false x y = refl
+pub not_cond : (b : Bool) (x y : ℕ) → cond b x y ≡ cond (not b) y x
+not_cond true x y = refl
+not_cond false x y = refl

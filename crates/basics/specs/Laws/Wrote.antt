@@ -11,16 +11,16 @@ pub record Wrote (out₀ out x : List ℕ) : Type 0 where
 pub wrote_none : (out : List ℕ) → Wrote out out []
 wrote_none out = record { fits = omega arith; is = refl }
 
-pub wrote-long : (out₀ out x : List ℕ) → Wrote out₀ out x → length out ≡ length out₀
-wrote-long out₀ out x c =
+pub wrote_long : (out₀ out x : List ℕ) → Wrote out₀ out x → length out ≡ length out₀
+wrote_long out₀ out x c =
     ap length c.is ∙ length-append x (drop (length x) out₀) ∙ omega (arith, length-drop (length x) out₀, c.fits)
 
-pub wrote-all : (out₀ out x : List ℕ) → Wrote out₀ out x → length x ≡ length out₀ → out ≡ x
-wrote-all out₀ out x c e = c.is ∙ ap (◌++◌ x) (drop_of_length-le out₀ {i = length x} (omega arith)) ∙ append-nil x
+pub wrote_all : (out₀ out x : List ℕ) → Wrote out₀ out x → length x ≡ length out₀ → out ≡ x
+wrote_all out₀ out x c e = c.is ∙ ap (◌++◌ x) (drop_of_length-le out₀ {i = length x} (omega arith)) ∙ append-nil x
 
 -- one store at the end of what is written
-pub wrote-set : (out₀ out x : List ℕ) (i v w : ℕ) → Wrote out₀ out x → i ≡ length x → i < length out₀ → v ≡ w → Wrote out₀ (set out i v) (x ++ (w ∷ []))
-wrote-set out₀ out x i v w c ei h ev =
+pub wrote_set : (out₀ out x : List ℕ) (i v w : ℕ) → Wrote out₀ out x → i ≡ length x → i < length out₀ → v ≡ w → Wrote out₀ (set out i v) (x ++ (w ∷ []))
+wrote_set out₀ out x i v w c ei h ev =
     let k : length x < length out₀ = omega arith in
     let l : length (x ++ (w ∷ [])) ≡ suc (length x) = length-append x (w ∷ []) ∙ omega arith in
     record {
@@ -33,9 +33,9 @@ wrote-set out₀ out x i v w c ei h ev =
     }
 
 -- a part that was lent, just after what is written, comes back as y
-pub wrote-part : (out₀ out x : List ℕ) (a k : ℕ) (ys y : List ℕ) → Wrote out₀ out x → a ≡ length x → k ≡ length y → a + k ≤ length out₀ → ys ≡ y
+pub wrote_part : (out₀ out x : List ℕ) (a k : ℕ) (ys y : List ℕ) → Wrote out₀ out x → a ≡ length x → k ≡ length y → a + k ≤ length out₀ → ys ≡ y
     → Wrote out₀ (put_mid a k out ys) (x ++ y)
-wrote-part out₀ out x a k ys y c ea ek h ey =
+wrote_part out₀ out x a k ys y c ea ek h ey =
     let l : length (x ++ y) ≡ length x + length y = length-append x y in
     record {
       fits = omega arith;

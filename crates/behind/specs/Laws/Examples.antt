@@ -5,11 +5,11 @@ use Rattle.basics.specs.Counts.{all, any, count}
 use Rattle.basics.specs.Tables.{made}
 use Rattle.cart.specs.Reads.{silent}
 use Rattle.plan.specs.Fewest.{fewest, starts}
-use Rattle.plan.specs.Image.{base, chapterFlip, chapterPermissions, coveredOf, holdsPage, holdsPlain, pageAt, size, turns}
-use Rattle.plan.specs.Plan.{Plan, hasPage, hasPages, hasPlain, rangeIs}
-use Rattle.plan.specs.Valid.{allowed, mayFlip, quiet}
-use Rattle.behind.specs.Behind.{absent, baseBehind, behind, chapterBehind, hasEntries, hidden}
-use Rattle.behind.specs.Builds.{planTables}
+use Rattle.plan.specs.Image.{base, chapter_flip, chapter_permissions, covered_of, holds_page, holds_plain, page_at, size, turns}
+use Rattle.plan.specs.Plan.{Plan, has_page, has_pages, has_plain, range_is}
+use Rattle.plan.specs.Valid.{allowed, may_flip, quiet}
+use Rattle.behind.specs.Behind.{absent, base_behind, behind, chapter_behind, has_entries, hidden}
+use Rattle.behind.specs.Builds.{plan_tables}
 
 abbrev pub sixteen : Plan
 sixteen x =
@@ -19,29 +19,29 @@ sixteen x =
     }
 
 abbrev pub again : Plan
-again = behind (planTables sixteen) (coveredOf sixteen)
+again = behind (plan_tables sixteen) (covered_of sixteen)
 
 pub record Seventeen : Type 0 where
   pub written : fewest sixteen ≡ 18
-  pub page-zero : hasPage again (16 * 5 + 0) ≡ false
-  pub page-one : hasPage again (16 * 5 + 1) ≡ true
+  pub page_zero : has_page again (16 * 5 + 0) ≡ false
+  pub page_one : has_page again (16 * 5 + 1) ≡ true
   pub fewer : fewest again ≡ 17
 
-written-so : fewest sixteen ≡ 18
+written_so : fewest sixteen ≡ 18
 unfolding fewest starts count
-written-so = refl
+written_so = refl
 
-zero-so : hasPage again (16 * 5 + 0) ≡ false
-unfolding all any count made quiet silent mayFlip allowed rangeIs hasPlain hasPages size pageAt base chapterFlip turns chapterPermissions holdsPlain holdsPage hasEntries absent hidden chapterBehind baseBehind
-zero-so = refl
+zero_so : has_page again (16 * 5 + 0) ≡ false
+unfolding all any count made quiet silent may_flip allowed range_is has_plain has_pages size page_at base chapter_flip turns chapter_permissions holds_plain holds_page has_entries absent hidden chapter_behind base_behind
+zero_so = refl
 
-one-so : hasPage again (16 * 5 + 1) ≡ true
-unfolding all any count made quiet silent mayFlip allowed rangeIs hasPlain hasPages size pageAt base chapterFlip turns chapterPermissions holdsPlain holdsPage hasEntries absent hidden chapterBehind baseBehind
-one-so = refl
+one_so : has_page again (16 * 5 + 1) ≡ true
+unfolding all any count made quiet silent may_flip allowed range_is has_plain has_pages size page_at base chapter_flip turns chapter_permissions holds_plain holds_page has_entries absent hidden chapter_behind base_behind
+one_so = refl
 
-fewer-so : fewest again ≡ 17
-unfolding fewest starts all any count made quiet silent mayFlip allowed rangeIs hasPlain hasPages size pageAt base chapterFlip turns chapterPermissions holdsPlain holdsPage hasEntries absent hidden chapterBehind baseBehind
-fewer-so = refl
+fewer_so : fewest again ≡ 17
+unfolding fewest starts all any count made quiet silent may_flip allowed range_is has_plain has_pages size page_at base chapter_flip turns chapter_permissions holds_plain holds_page has_entries absent hidden chapter_behind base_behind
+fewer_so = refl
 
 pub seventeen : Seventeen
-seventeen = record { written = written-so; page-zero = zero-so; page-one = one-so; fewer = fewer-so }
+seventeen = record { written = written_so; page_zero = zero_so; page_one = one_so; fewer = fewer_so }

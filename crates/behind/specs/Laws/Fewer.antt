@@ -4,104 +4,104 @@ use Rattle.std.specs.Prelude.{◌%◌, ◌*◌, ◌+◌, ◌-◌, ◌/◌, ◌<�
 use Rattle.std.proofs.Common.{◌∙◌, ap₂, sym, inl, inr, ⊎_elim, arith, eqb-true, le-leb, leb-true}
 use Rattle.std.proofs.lemmas.Bool.{eqb-false}
 use Rattle.basics.specs.Counts.{count}
-use Rattle.basics.specs.Laws.Counts.{count_add, count-but, count-imp, count_most, count_same}
-use Rattle.basics.specs.Laws.Tests.{cases, true-is-not-false}
-use Rattle.switches.specs.Flips.{firstK}
+use Rattle.basics.specs.Laws.Counts.{count_add, count_but, count_imp, count_most, count_same}
+use Rattle.basics.specs.Laws.Tests.{cases, true_is_not_false}
+use Rattle.switches.specs.Flips.{first_k}
 use Rattle.plan.specs.Fewest.{fewest, starts}
-use Rattle.plan.specs.Laws.Runs.{Laid, begun, kept, laid-starts, more}
-use Rattle.plan.specs.Plan.{Plan, hasPage, kinds}
-use Rattle.behind.specs.Laws.Alike.{moved-count}
-use Rattle.behind.specs.Laws.Chapter.{Full, full_is, plain-not}
-use Rattle.behind.specs.Laws.Counts.{count-all}
+use Rattle.plan.specs.Laws.Runs.{Laid, begun, kept, laid_starts, more}
+use Rattle.plan.specs.Plan.{Plan, has_page, kinds}
+use Rattle.behind.specs.Laws.Alike.{moved_count}
+use Rattle.behind.specs.Laws.Chapter.{Full, full_is, plain_not}
+use Rattle.behind.specs.Laws.Counts.{count_all}
 use Rattle.behind.specs.Laws.Star.{full, star}
 
 -- a place by its chapter
-pub kind-at : (r : Plan) (p x k : ℕ) → p / 16 ≡ x → p % 16 ≡ k → kinds r p ≡ (r x).kind k
-kind-at r p x k e f = ap₂ (λ (a b : ℕ). (r a).kind b) e f
+pub kind_at_lem : (r : Plan) (p x k : ℕ) → p / 16 ≡ x → p % 16 ≡ k → kinds r p ≡ (r x).kind k
+kind_at_lem r p x k e f = ap₂ (λ (a b : ℕ). (r a).kind b) e f
 
-pub page-at : (r : Plan) (n x y : ℕ) → n / 16 ≡ x → n % 16 ≡ y → hasPage r n ≡ (r x).page y
-page-at r n x y e f = ap₂ (λ (a b : ℕ). (r a).page b) e f
+pub page_at_lem : (r : Plan) (n x y : ℕ) → n / 16 ≡ x → n % 16 ≡ y → has_page r n ≡ (r x).page y
+page_at_lem r n x y e f = ap₂ (λ (a b : ℕ). (r a).page b) e f
 
 -- page 0 made plain in the chapters that are full
 module _ (q : Plan) where
   abbrev FirstOf : ℕ → Type 0
-  FirstOf p = (full (q (p / 16)) ≡ true) × (p % 16 ≡ firstK (p / 16))
+  FirstOf p = (full (q (p / 16)) ≡ true) × (p % 16 ≡ first_k (p / 16))
 
-  star-laid : (p : ℕ) → Laid (kinds (star q)) (kinds q) FirstOf p
-  star-laid p = cases (full (q (p / 16))) (λ e. changed e (full_is (q (p / 16)) e)) (λ e. kept (same e))
+  star_laid : (p : ℕ) → Laid (kinds (star q)) (kinds q) FirstOf p
+  star_laid p = cases (full (q (p / 16))) (λ e. changed e (full_is (q (p / 16)) e)) (λ e. kept (same e))
     where
       same : full (q (p / 16)) ≡ false → (star q (p / 16)).kind (p % 16) ≡ (q (p / 16)).kind (p % 16)
       same e = rw e
 
       changed : full (q (p / 16)) ≡ true → Full (q (p / 16)) → Laid (kinds (star q)) (kinds q) FirstOf p
       changed e f =
-          let z : kinds q p ≡ 0 = plain-not (q (p / 16)) f.none (p % 16) (omega arith) in
-          cases (eqb (p % 16) (firstK (p / 16))) (λ k. begun z (e, eqb-true (p % 16) (firstK (p / 16)) k))
+          let z : kinds q p ≡ 0 = plain_not (q (p / 16)) f.none (p % 16) (omega arith) in
+          cases (eqb (p % 16) (first_k (p / 16))) (λ k. begun z (e, eqb-true (p % 16) (first_k (p / 16)) k))
           (λ k.
-          let d : p % 16 ≡ firstK (p / 16) → ⊥ = eqb-false (p % 16) (firstK (p / 16)) k in
-          cases (leb (firstK (p / 16)) (p % 16))
+          let d : p % 16 ≡ first_k (p / 16) → ⊥ = eqb-false (p % 16) (first_k (p / 16)) k in
+          cases (leb (first_k (p / 16)) (p % 16))
           (λ l.
-          let m : firstK (p / 16) ≤ p % 16 = leb-true (firstK (p / 16)) (p % 16) l in
-          let n : firstK (p / 16) < p % 16 = omega arith in
-          let u : (star q (p / 16)).kind (p % 16 - 1) ≡ 1 = rw (e, le-leb (firstK (p / 16)) (p % 16 - 1) (omega arith)) in
+          let m : first_k (p / 16) ≤ p % 16 = leb-true (first_k (p / 16)) (p % 16) l in
+          let n : first_k (p / 16) < p % 16 = omega arith in
+          let u : (star q (p / 16)).kind (p % 16 - 1) ≡ 1 = rw (e, le-leb (first_k (p / 16)) (p % 16 - 1) (omega arith)) in
           let w : (star q (p / 16)).kind (p % 16) ≡ 1 = rw (e, l) in
-          more z (λ r. omega arith) (kind-at (star q) (p - 1) (p / 16) (p % 16 - 1) (omega arith) (omega arith) ∙ u ∙ sym w))
+          more z (λ r. omega arith) (kind_at_lem (star q) (p - 1) (p / 16) (p % 16 - 1) (omega arith) (omega arith) ∙ u ∙ sym w))
           (λ l. let u : (star q (p / 16)).kind (p % 16) ≡ 0 = rw (e, l) in kept (u ∙ sym z)))
 
-  star-starts : (p : ℕ) → starts (kinds (star q)) p ≡ true → (starts (kinds q) p ≡ true) ⊎ (FirstOf p)
-  star-starts p e = laid-starts star-laid p e
+  star_starts : (p : ℕ) → starts (kinds (star q)) p ≡ true → (starts (kinds q) p ≡ true) ⊎ (FirstOf p)
+  star_starts p e = laid_starts star_laid p e
 
   module _ (x : ℕ) where
-    chapter-of : (k : ℕ) → k < 16 → (16 * x + k) / 16 ≡ x
-    chapter-of k h = omega arith
+    chapter_of_lem : (k : ℕ) → k < 16 → (16 * x + k) / 16 ≡ x
+    chapter_of_lem k h = omega arith
 
     place_of : (k : ℕ) → k < 16 → (16 * x + k) % 16 ≡ k
     place_of k h = omega arith
 
-    pub pages-in : (r : Plan) → count (λ y. hasPage r (16 * x + y)) 16 ≡ count (r x).page 16
-    pages-in r = count_same (λ y. hasPage r (16 * x + y)) (r x).page 16 (λ y h. page-at r (16 * x + y) x y (chapter-of y h) (place_of y h))
+    pub pages_in : (r : Plan) → count (λ y. has_page r (16 * x + y)) 16 ≡ count (r x).page 16
+    pages_in r = count_same (λ y. has_page r (16 * x + y)) (r x).page 16 (λ y h. page_at_lem r (16 * x + y) x y (chapter_of_lem y h) (place_of y h))
 
-    abbrev startsIn : Plan → ℕ
-    startsIn r = count (λ k. starts (kinds r) (16 * x + k)) 16
+    abbrev starts_in : Plan → ℕ
+    starts_in r = count (λ k. starts (kinds r) (16 * x + k)) 16
 
-    kept_in : full (q x) ≡ false → startsIn (star q) ≤ startsIn q
+    kept_in : full (q x) ≡ false → starts_in (star q) ≤ starts_in q
     kept_in e =
-        count-imp (λ k. starts (kinds (star q)) (16 * x + k)) (λ k. starts (kinds q) (16 * x + k)) 16
-        (λ k h t. ⊎_elim (λ s. s) (λ f. true-is-not-false (rw (chapter-of k h) at f.0) e) (star-starts (16 * x + k) t))
+        count_imp (λ k. starts (kinds (star q)) (16 * x + k)) (λ k. starts (kinds q) (16 * x + k)) 16
+        (λ k h t. ⊎_elim (λ s. s) (λ f. true_is_not_false (rw (chapter_of_lem k h) at f.0) e) (star_starts (16 * x + k) t))
 
-    one_in : startsIn (star q) ≤ startsIn q + 1
+    one_in : starts_in (star q) ≤ starts_in q + 1
     one_in =
-        count-but (λ k. starts (kinds (star q)) (16 * x + k)) (λ k. starts (kinds q) (16 * x + k)) (firstK x) 16
-        (λ k h t. ⊎_elim (λ s. inl s) (λ f. inr (rw (chapter-of k h, place_of k h) at f.1)) (star-starts (16 * x + k) t))
+        count_but (λ k. starts (kinds (star q)) (16 * x + k)) (λ k. starts (kinds q) (16 * x + k)) (first_k x) 16
+        (λ k h t. ⊎_elim (λ s. inl s) (λ f. inr (rw (chapter_of_lem k h, place_of k h) at f.1)) (star_starts (16 * x + k) t))
 
-    fewer-in : startsIn (star q) + count (star q x).page 16 ≤ startsIn q + count (q x).page 16
-    fewer-in =
+    fewer_in : starts_in (star q) + count (star q x).page 16 ≤ starts_in q + count (q x).page 16
+    fewer_in =
         cases (full (q x))
         (λ e.
-        let m : count (star q x).page 16 ≡ 15 = rw e (moved-count x 15) in
-        let n : count (q x).page 16 ≡ 16 = count-all (q x).page 16 (full_is (q x) e).pages in
+        let m : count (star q x).page 16 ≡ 15 = rw e (moved_count x 15) in
+        let n : count (q x).page 16 ≡ 16 = count_all (q x).page 16 (full_is (q x) e).pages in
         omega (arith, one_in))
         (λ e. let m : count (star q x).page 16 ≡ count (q x).page 16 = rw e in omega (arith, kept_in e))
 
-  fewer-to : (n : ℕ) →
-      count (starts (kinds (star q))) (16 * n) + count (hasPage (star q)) (16 * n) ≤ count (starts (kinds q)) (16 * n) + count (hasPage q) (16 * n)
-  fewer-to zero = omega (arith, count_most (starts (kinds (star q))) 0, count_most (hasPage (star q)) 0)
-  fewer-to (suc n) =
+  fewer_to : (n : ℕ) →
+      count (starts (kinds (star q))) (16 * n) + count (has_page (star q)) (16 * n) ≤ count (starts (kinds q)) (16 * n) + count (has_page q) (16 * n)
+  fewer_to zero = omega (arith, count_most (starts (kinds (star q))) 0, count_most (has_page (star q)) 0)
+  fewer_to (suc n) =
       let e : 16 * suc n ≡ 16 * n + 16 = omega arith in
       rw e
       (omega (
         arith,
-        fewer-to n,
-        fewer-in n,
+        fewer_to n,
+        fewer_in n,
         count_add (starts (kinds (star q))) (16 * n) 16,
         count_add (starts (kinds q)) (16 * n) 16,
-        count_add (hasPage (star q)) (16 * n) 16,
-        count_add (hasPage q) (16 * n) 16,
-        pages-in n (star q),
-        pages-in n q,
+        count_add (has_page (star q)) (16 * n) 16,
+        count_add (has_page q) (16 * n) 16,
+        pages_in n (star q),
+        pages_in n q,
       ))
 
   -- no more fewest
-  pub star-fewer : fewest (star q) ≤ fewest q
+  pub star_fewer : fewest (star q) ≤ fewest q
   unfolding fewest
-  star-fewer = fewer-to 16
+  star_fewer = fewer_to 16

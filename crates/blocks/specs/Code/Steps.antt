@@ -1,42 +1,42 @@
 -- The parts of a frame's reading and of a block's judgement.
 use Rattle.std.specs.Prelude.{ℕ, ◌+◌, List, Bool, cond, not, ◌&&◌, ◌||◌, length, get_or, eqb, ltb}
 use Rattle.basics.specs.Lists.{part}
-use Rattle.basics.specs.Refusals.{refuse, noRefusal}
-use Rattle.sums.specs.Crc.{dowcrcOf}
+use Rattle.basics.specs.Refusals.{refuse, no_refusal}
+use Rattle.sums.specs.Crc.{dowcrc_of}
 use Rattle.hunk.specs.declared.Checked.{Checked}
 use Rattle.hunk.specs.declared.Checked.TheVariants.{Whole, Broken}
-use Rattle.tables.specs.Tables.{tablesSize}
-use Rattle.metadata.specs.Records.{isCut}
+use Rattle.tables.specs.Tables.{tables_size}
+use Rattle.metadata.specs.Records.{is_cut}
 use Rattle.blocks.specs.declared.Frame.{Frame}
 use Rattle.blocks.specs.declared.Frame.TheVariants.{Cut, Framed}
 use Rattle.blocks.specs.declared.Judged.{Judged}
-use Rattle.blocks.specs.Blocks.{frameSize, startSize, sumSaid, payloadIn, tablesType, hunkType, metadataType}
+use Rattle.blocks.specs.Blocks.{frame_size, start_size, sum_said, payload_in, tables_type, hunk_type, metadata_type}
 use Rattle.blocks.specs.Frames.{next_of}
 
 -- a block of type t whose frame lies in the image
-unfoldable pub framedAt : List ℕ → ℕ → ℕ → Frame
-framedAt s p t =
-    cond (not (eqb (dowcrcOf (part s p (p + startSize))) (get_or s (p + startSize) 0))
+unfoldable pub framed_at : List ℕ → ℕ → ℕ → Frame
+framed_at s p t =
+    cond (not (eqb (dowcrc_of (part s p (p + start_size))) (get_or s (p + start_size) 0))
     || ltb (length s) (next_of s p)) Cut (Framed t (next_of s p))
 
 -- 6, 12 and 8, of a block of type t
-unfoldable pub sumBy : ℕ → ℕ → List ℕ → Bool
-sumBy t sum x = (eqb t tablesType || eqb t hunkType) && not (eqb sum (sumSaid x))
+unfoldable pub sum_by : ℕ → ℕ → List ℕ → Bool
+sum_by t sum x = (eqb t tables_type || eqb t hunk_type) && not (eqb sum (sum_said x))
 
-unfoldable pub metadataBy : ℕ → ℕ → List ℕ → Bool
-metadataBy t sum x = eqb t metadataType && (not (eqb sum (sumSaid x)) || isCut (payloadIn x))
+unfoldable pub metadata_by : ℕ → ℕ → List ℕ → Bool
+metadata_by t sum x = eqb t metadata_type && (not (eqb sum (sum_said x)) || is_cut (payload_in x))
 
-unfoldable pub tablesBy : ℕ → ℕ → Bool → Bool
-tablesBy t n earlier = eqb t tablesType && (not (eqb n tablesSize) || earlier)
+unfoldable pub tables_by : ℕ → ℕ → Bool → Bool
+tables_by t n earlier = eqb t tables_type && (not (eqb n tables_size) || earlier)
 
 -- a block that is refused, and one that is not
-abbrev pub badOf : ℕ → ℕ → Judged
-badOf number place = record { refusal = refuse number place; words = 0 }
+abbrev pub bad_of : ℕ → ℕ → Judged
+bad_of number place = record { refusal = refuse number place; words = 0 }
 
-abbrev pub goodOf : ℕ → Judged
-goodOf words = record { refusal = noRefusal; words = words }
+abbrev pub good_of : ℕ → Judged
+good_of words = record { refusal = no_refusal; words = words }
 
 -- a hunk, by its check
-abbrev pub checkedOf : Checked → Judged
-checkedOf (Whole n) = goodOf n
-checkedOf (Broken k) = badOf 9 (frameSize + k)
+abbrev pub checked_of : Checked → Judged
+checked_of (Whole n) = good_of n
+checked_of (Broken k) = bad_of 9 (frame_size + k)

@@ -6,16 +6,16 @@ use Rattle.std.proofs.Common.{arith, zero-add, add-zero, eq-eqb}
 use Rattle.std.proofs.Math.ListN.{length-drop}
 use Rattle.basics.specs.declared.Refusal.{Refusal}
 use Rattle.basics.specs.Rows.{Row, Gives, Silent, none, also}
-use Rattle.basics.specs.Refusals.{refuse, firstRefusal, passes}
+use Rattle.basics.specs.Refusals.{refuse, first_refusal, passes}
 use Rattle.basics.specs.Laws.Tests.{cases}
-use Rattle.basics.specs.Laws.Refusals.{Refusing, refused-exactly, accepted-exactly}
-use Rattle.hunk.specs.Hunk.{hunkOf, words_of}
-use Rattle.hunk.specs.Laws.Refusals.{break-within}
-use Rattle.hunk.specs.Laws.Walk.{words-few}
-use Rattle.blocks.specs.Blocks.{payloadIn, isHunk}
+use Rattle.basics.specs.Laws.Refusals.{Refusing, refused_exactly, accepted_exactly}
+use Rattle.hunk.specs.Hunk.{hunk_of, words_of}
+use Rattle.hunk.specs.Laws.Refusals.{break_within}
+use Rattle.hunk.specs.Laws.Walk.{words_few}
+use Rattle.blocks.specs.Blocks.{payload_in, is_hunk}
 use Rattle.blocks.specs.declared.Judged.{Judged}
-use Rattle.blocks.specs.Judged.{isEncrypted, wrongSum, wrongMetadata, wrongTables, wrongHunk, breakIn, judgeRows, judgedOf}
-use Rattle.blocks.specs.Images.{wordCount}
+use Rattle.blocks.specs.Judged.{is_encrypted, wrong_sum, wrong_metadata, wrong_tables, wrong_hunk, break_in, judge_rows, judged_of}
+use Rattle.blocks.specs.Images.{word_count}
 
 -- what is judged of a block by itself, for the block where it stands at p
 abbrev pub standing : ℕ → Judged → Judged
@@ -25,65 +25,65 @@ standing p j = cond (passes j.refusal) j (record { refusal = refuse j.refusal.nu
 abbrev rows_at : Bool → Bool → Bool → Bool → Bool → ℕ → ℕ → List (Row Refusal)
 rows_at a b m c d k p = (a, refuse 7 p) ∷ (b, refuse 6 p) ∷ (m, refuse 12 p) ∷ (c, refuse 8 p) ∷ (d, refuse 9 (p + k)) ∷ []
 
-rows-move : (a b m c d h : Bool) (k n p : ℕ)
-    → record { refusal = firstRefusal (rows_at a b m c d k p); words = cond (passes (firstRefusal (rows_at a b m c d k p)) && h) n 0 }
-    ≡ standing p (record { refusal = firstRefusal (rows_at a b m c d k 0); words = cond (passes (firstRefusal (rows_at a b m c d k 0)) && h) n 0 })
-rows-move true b m c d h k n p = rw add-zero
-rows-move false true m c d h k n p = rw add-zero
-rows-move false false true c d h k n p = rw add-zero
-rows-move false false false true d h k n p = rw add-zero
-rows-move false false false false true h k n p = rw zero-add
-rows-move false false false false false h k n p = refl
+rows_move : (a b m c d h : Bool) (k n p : ℕ)
+    → record { refusal = first_refusal (rows_at a b m c d k p); words = cond (passes (first_refusal (rows_at a b m c d k p)) && h) n 0 }
+    ≡ standing p (record { refusal = first_refusal (rows_at a b m c d k 0); words = cond (passes (first_refusal (rows_at a b m c d k 0)) && h) n 0 })
+rows_move true b m c d h k n p = rw add-zero
+rows_move false true m c d h k n p = rw add-zero
+rows_move false false true c d h k n p = rw add-zero
+rows_move false false false true d h k n p = rw add-zero
+rows_move false false false false true h k n p = rw zero-add
+rows_move false false false false false h k n p = refl
 
-rows-within : (a b m c d : Bool) (k : ℕ) → (firstRefusal (rows_at a b m c d k 0)).place ≤ k
-rows-within true b m c d k = omega arith
-rows-within false true m c d k = omega arith
-rows-within false false true c d k = omega arith
-rows-within false false false true d k = omega arith
-rows-within false false false false true k = omega arith
-rows-within false false false false false k = omega arith
+rows_within : (a b m c d : Bool) (k : ℕ) → (first_refusal (rows_at a b m c d k 0)).place ≤ k
+rows_within true b m c d k = omega arith
+rows_within false true m c d k = omega arith
+rows_within false false true c d k = omega arith
+rows_within false false false true d k = omega arith
+rows_within false false false false true k = omega arith
+rows_within false false false false false k = omega arith
 
 -- a place that is named lies in the block, or is its end
-pub judged-within : (m : ℕ) (earlier : Bool) (sum : ℕ) (x : List ℕ) → 8 ≤ length x → (judgedOf m earlier 0 sum x).refusal.place ≤ length x
-unfolding judgedOf judgeRows
-judged-within m earlier sum x h =
+pub judged_within : (m : ℕ) (earlier : Bool) (sum : ℕ) (x : List ℕ) → 8 ≤ length x → (judged_of m earlier 0 sum x).refusal.place ≤ length x
+unfolding judged_of judge_rows
+judged_within m earlier sum x h =
     omega
-    (arith, rows-within (isEncrypted x) (wrongSum sum x) (wrongMetadata sum x) (wrongTables earlier x) (wrongHunk m x) (breakIn m x), break-within (payloadIn x) m, length-drop 8 x)
+    (arith, rows_within (is_encrypted x) (wrong_sum sum x) (wrong_metadata sum x) (wrong_tables earlier x) (wrong_hunk m x) (break_in m x), break_within (payload_in x) m, length-drop 8 x)
 
 module _ (m : ℕ) (earlier : Bool) (p sum : ℕ) (x : List ℕ) where
-  pub judged-standing : judgedOf m earlier p sum x ≡ standing p (judgedOf m earlier 0 sum x)
-  unfolding judgedOf judgeRows
-  judged-standing =
-      rows-move (isEncrypted x) (wrongSum sum x) (wrongMetadata sum x) (wrongTables earlier x) (wrongHunk m x) (isHunk x) (breakIn m x) (length (words_of (payloadIn x))) p
+  pub judged_standing : judged_of m earlier p sum x ≡ standing p (judged_of m earlier 0 sum x)
+  unfolding judged_of judge_rows
+  judged_standing =
+      rows_move (is_encrypted x) (wrong_sum sum x) (wrong_metadata sum x) (wrong_tables earlier x) (wrong_hunk m x) (is_hunk x) (break_in m x) (length (words_of (payload_in x))) p
 
-  pub judge-refusing : Refusing (judgeRows m earlier p sum x)
-  unfolding judgeRows
-  judge-refusing = ((λ z. omega arith), ((λ z. omega arith), ((λ z. omega arith), ((λ z. omega arith), ((λ z. omega arith), tt)))))
+  pub judge_refusing : Refusing (judge_rows m earlier p sum x)
+  unfolding judge_rows
+  judge_refusing = ((λ z. omega arith), ((λ z. omega arith), ((λ z. omega arith), ((λ z. omega arith), ((λ z. omega arith), tt)))))
 
-  pub judge-refuses : ((judgedOf m earlier p sum x).refusal.number ≡ 0 → ⊥) → Gives (judgeRows m earlier p sum x) (judgedOf m earlier p sum x).refusal
-  unfolding judgedOf
-  judge-refuses n = (refused-exactly (judgeRows m earlier p sum x) judge-refusing (firstRefusal (judgeRows m earlier p sum x)) n).0 refl
+  pub judge_refuses : ((judged_of m earlier p sum x).refusal.number ≡ 0 → ⊥) → Gives (judge_rows m earlier p sum x) (judged_of m earlier p sum x).refusal
+  unfolding judged_of
+  judge_refuses n = (refused_exactly (judge_rows m earlier p sum x) judge_refusing (first_refusal (judge_rows m earlier p sum x)) n).0 refl
 
   -- what a block that passes says
   pub record Passed : Type 0 where
-    pub silent : Silent (judgeRows m earlier p sum x)
-    pub tables : wrongTables earlier x ≡ false
-    pub words : (judgedOf m earlier p sum x).words ≡ wordCount (cond (isHunk x) (hunkOf (payloadIn x) ∷ []) [])
-    pub few : (judgedOf m earlier p sum x).words ≤ length x - 8
+    pub silent : Silent (judge_rows m earlier p sum x)
+    pub tables : wrong_tables earlier x ≡ false
+    pub words : (judged_of m earlier p sum x).words ≡ word_count (cond (is_hunk x) (hunk_of (payload_in x) ∷ []) [])
+    pub few : (judged_of m earlier p sum x).words ≤ length x - 8
 
-  no-tables : Silent (judgeRows m earlier p sum x) → wrongTables earlier x ≡ false
-  unfolding judgeRows
-  no-tables (also a (also b (also m (also c (also d none))))) = c
+  no_tables : Silent (judge_rows m earlier p sum x) → wrong_tables earlier x ≡ false
+  unfolding judge_rows
+  no_tables (also a (also b (also m (also c (also d none))))) = c
 
-  pub passed : (judgedOf m earlier p sum x).refusal.number ≡ 0 → Passed
-  unfolding judgedOf wordCount
+  pub passed : (judged_of m earlier p sum x).refusal.number ≡ 0 → Passed
+  unfolding judged_of word_count
   passed e =
-      let s : Silent (judgeRows m earlier p sum x) = (accepted-exactly (judgeRows m earlier p sum x) judge-refusing).0 e in
+      let s : Silent (judge_rows m earlier p sum x) = (accepted_exactly (judge_rows m earlier p sum x) judge_refusing).0 e in
       record {
         silent = s;
-        tables = no-tables s;
-        words = cases (isHunk x) (λ h. rw (eq-eqb _ _ e, h) (omega arith)) (λ h. rw (eq-eqb _ _ e, h));
+        tables = no_tables s;
+        words = cases (is_hunk x) (λ h. rw (eq-eqb _ _ e, h) (omega arith)) (λ h. rw (eq-eqb _ _ e, h));
         few =
-            cases (isHunk x) (λ h. rw (eq-eqb _ _ e, h) (omega (arith, words-few (payloadIn x), length-drop 8 x)))
+            cases (is_hunk x) (λ h. rw (eq-eqb _ _ e, h) (omega (arith, words_few (payload_in x), length-drop 8 x)))
             (λ h. rw (eq-eqb _ _ e, h) (omega arith));
       }

@@ -1,6 +1,6 @@
 -- `build::uid_of` meets its contract: the bytes of the two sums.
 use borrow.Author.Rules.{rules}
-use Rattle.build.specs.Building.{uidOf}
+use Rattle.build.specs.Building.{uid_of}
 use Rattle.build.proofs.uid_of.Statement.{statement}
 use Rattle.build.proofs.uid_of.Tie as tie
 use Rattle.build.proofs.uid_of.Reads as reads
@@ -45,7 +45,7 @@ array-read-t30 : tie.Need-array-read-t30
 array-read-t30 c = search rules
 
 returns : tie.Need-returns
-unfolding uidOf
+unfolding uid_of
 returns c = rw (c.before.before.bytes_of.ensures, c.bytes-of2.ensures, c.before.before.before.crc32.ensures, c.before.crc322.ensures)
 
 pub uid-of-spec : {M : Type 1} → statement M

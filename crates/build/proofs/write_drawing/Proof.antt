@@ -1,6 +1,6 @@
 -- `build::write_drawing` meets its contract.
 use borrow.Author.Rules.{rules}
-use Rattle.build.specs.Laws.Press.{drawn-written}
+use Rattle.build.specs.Laws.Press.{drawn_written}
 use Rattle.build.proofs.write_drawing.Statement.{statement}
 use Rattle.build.proofs.write_drawing.Tie as tie
 use Rattle.build.proofs.write_drawing.Reads as reads
@@ -22,7 +22,7 @@ returns c =
     let near = c.before.before.before.before.before in
     let mid = near.before.before.before.before.before in
     let far = mid.before.before.before.before.before in
-    drawn-written _ _ _ _ _ far.before.args.d _ mid.before.before.before.flag-bytes.ensures c.before.before.write.ensures
+    drawn_written _ _ _ _ _ far.before.args.d _ mid.before.before.before.flag-bytes.ensures c.before.before.write.ensures
 
 pub write-drawing-spec : {M : Type 1} → statement M
 write-drawing-spec = tie.close (tie.spec flag-bytes-requires write-requires same_length returns)

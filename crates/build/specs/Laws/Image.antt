@@ -5,81 +5,81 @@ use Rattle.std.proofs.Common.{◌∙◌, arith, length-append}
 use Rattle.std.proofs.Math.Bool.{false}
 use Rattle.basics.specs.Lists.{joined, flat}
 use Rattle.basics.specs.Rows.{Silent}
-use Rattle.basics.specs.Laws.Tables.{length-table}
+use Rattle.basics.specs.Laws.Tables.{length_table}
 use Rattle.basics.specs.Laws.Tests.{cases}
-use Rattle.basics.specs.Laws.Counts.{any-nothing}
-use Rattle.places.specs.Limits.{locutusParagraphs, imageLimit}
+use Rattle.basics.specs.Laws.Counts.{any_nothing}
+use Rattle.places.specs.Limits.{locutus_paragraphs, image_limit}
 use Rattle.switches.specs.Flips.{PFE}
-use Rattle.tables.specs.Tables.{unsupported, tablesRows, flipsOne}
-use Rattle.tables.specs.Laws.Refusals.{field-none}
-use Rattle.blocks.specs.Blocks.{frameSize, metadataType}
-use Rattle.blocks.specs.Laws.ReadBack.{length-block}
-use Rattle.label.specs.Label.{labelBlock, labelBlocks, wrongLabel}
-use Rattle.label.specs.Laws.Label.{label-fits}
-use Rattle.save.specs.Chosen.{paragraphHunk, imageFor, Sized}
-use Rattle.save.specs.Laws.Chosen.{Lies, length-image, length-with}
-use Rattle.save.specs.Laws.Within.{image-most}
+use Rattle.tables.specs.Tables.{unsupported, tables_rows, flips_one}
+use Rattle.tables.specs.Laws.Refusals.{field_none}
+use Rattle.blocks.specs.Blocks.{frame_size, metadata_type}
+use Rattle.blocks.specs.Laws.ReadBack.{length_block}
+use Rattle.label.specs.Label.{label_block, label_blocks, wrong_label}
+use Rattle.label.specs.Laws.Label.{label_fits}
+use Rattle.save.specs.Chosen.{paragraph_hunk, image_for, Sized}
+use Rattle.save.specs.Laws.Chosen.{Lies, length_image, length_with}
+use Rattle.save.specs.Laws.Within.{image_most}
 use Rattle.lines.specs.declared.Line.{Line}
 use Rattle.rules.specs.Accepted.{Accepted}
 use Rattle.rules.specs.Laws.Rules.{good}
-use Rattle.layout.specs.Layout.{mappingAt, permissionsAt, flipEntry, needed, covered, paragraphWords, flipTable}
-use Rattle.layout.specs.Laws.Uses.{length-words, covered-inside}
-use Rattle.layout.specs.Laws.Tables.{unflipped, flip-entry}
-use Rattle.build.specs.Building.{flagBytes, uidOf, tablesFor, hunksFor, imageOn}
+use Rattle.layout.specs.Layout.{mapping_at, permissions_at, flip_entry, needed, covered, paragraph_words, flip_table}
+use Rattle.layout.specs.Laws.Uses.{length_words, covered_inside}
+use Rattle.layout.specs.Laws.Tables.{unflipped, flip_entry_lem}
+use Rattle.build.specs.Building.{flag_bytes, uid_of, tables_for, hunks_for, image_on}
 
 -- the bytes of a label's blocks
-pub length-one : (label : List ℕ) → length (flat (labelBlock label ∷ [])) ≡ frameSize + length label
+pub length_one : (label : List ℕ) → length (flat (label_block label ∷ [])) ≡ frame_size + length label
 unfolding joined
-length-one label = length-append (labelBlock label) [] ∙ omega (arith, length-block metadataType label)
+length_one label = length-append (label_block label) [] ∙ omega (arith, length_block metadata_type label)
 
-length-put : (label : List ℕ) → length (flat (labelBlocks label)) ≤ frameSize + length label
+length_put : (label : List ℕ) → length (flat (label_blocks label)) ≤ frame_size + length label
 unfolding joined
-length-put label = cases (eqb (length label) 0) (λ e. rw e (omega arith)) (λ e. rw e (omega (arith, length-one label)))
+length_put label = cases (eqb (length label) 0) (λ e. rw e (omega arith)) (λ e. rw e (omega (arith, length_one label)))
 
 module _ (bin cfg : List ℕ) (lines : List Line) where
-  pub sized : Sized flagBytes (uidOf bin cfg) (tablesFor lines)
-  unfolding uidOf
+  pub sized : Sized flag_bytes (uid_of bin cfg) (tables_for lines)
+  unfolding uid_of
   sized =
       record {
         flags_long = refl;
-        uid-long = refl;
-        mapping-long = length-table 256 (mappingAt lines 0);
-        permissions-long = length-table 256 (permissionsAt lines 0);
-        flips-long = length-table 256 (λ n. flipEntry lines (n / 16) (n % 16));
+        uid_long = refl;
+        mapping_long = length_table 256 (mapping_at lines 0);
+        permissions_long = length_table 256 (permissions_at lines 0);
+        flips_long = length_table 256 (λ n. flip_entry lines (n / 16) (n % 16));
       }
 
-  pub lie : (n : ℕ) → needed lines ≤ n → (q : ℕ) → q < locutusParagraphs → covered lines q ≡ true → Lies n (paragraphHunk q (paragraphWords bin lines q))
-  lie n h q b e = record { whole = length-words bin lines q; within = omega (arith, covered-inside lines q e) }
+  pub lie : (n : ℕ) → needed lines ≤ n → (q : ℕ) → q < locutus_paragraphs → covered lines q ≡ true → Lies n (paragraph_hunk q (paragraph_words bin lines q))
+  lie n h q b e = record { whole = length_words bin lines q; within = omega (arith, covered_inside lines q e) }
 
   -- the label's block comes to the length of the image
-  pub length-labelled : (label : List ℕ)
-      → length (imageOn bin cfg label lines) ≡ length (imageFor flagBytes (uidOf bin cfg) (tablesFor lines) (hunksFor bin lines)) + length (flat (labelBlocks label))
-  length-labelled label =
+  pub length_labelled : (label : List ℕ)
+      → length (image_on bin cfg label lines) ≡ length (image_for flag_bytes (uid_of bin cfg) (tables_for lines) (hunks_for bin lines)) + length (flat (label_blocks label))
+  length_labelled label =
       omega
-      (arith, length-with flagBytes (uidOf bin cfg) (tablesFor lines) (labelBlocks label) (hunksFor bin lines), length-image flagBytes (uidOf bin cfg) (tablesFor lines) (hunksFor bin lines))
+      (arith, length_with flag_bytes (uid_of bin cfg) (tables_for lines) (label_blocks label) (hunks_for bin lines), length_image flag_bytes (uid_of bin cfg) (tables_for lines) (hunks_for bin lines))
 
-  plain-most : length (imageFor flagBytes (uidOf bin cfg) (tablesFor lines) (hunksFor bin lines)) ≤ 1600000
-  plain-most = image-most flagBytes (uidOf bin cfg) (tablesFor lines) sized (covered lines) (paragraphWords bin lines) (length-words bin lines)
+  plain_most : length (image_for flag_bytes (uid_of bin cfg) (tables_for lines) (hunks_for bin lines)) ≤ 1600000
+  plain_most = image_most flag_bytes (uid_of bin cfg) (tables_for lines) sized (covered lines) (paragraph_words bin lines) (length_words bin lines)
 
-  pub plain-limit : length (imageFor flagBytes (uidOf bin cfg) (tablesFor lines) (hunksFor bin lines)) ≤ imageLimit
-  plain-limit = omega (arith, plain-most)
+  pub plain_limit : length (image_for flag_bytes (uid_of bin cfg) (tables_for lines) (hunks_for bin lines)) ≤ image_limit
+  plain_limit = omega (arith, plain_most)
 
-  pub within-limit : (label : List ℕ) → wrongLabel label ≡ false → length (imageOn bin cfg label lines) ≤ imageLimit
-  within-limit label right = omega (arith, plain-most, length-labelled label, length-put label, label-fits label right)
+  pub within_limit : (label : List ℕ) → wrong_label label ≡ false → length (image_on bin cfg label lines) ≤ image_limit
+  within_limit label right = omega (arith, plain_most, length_labelled label, length_put label, label_fits label right)
 
   module _ (accepted : Accepted bin lines) where
     -- no PFE in chapter 1
-    unset : (y : ℕ) → y < 16 → PFE (get_or (flipTable lines) (16 + y) 0) ≡ false
+    unset : (y : ℕ) → y < 16 → PFE (get_or (flip_table lines) (16 + y) 0) ≡ false
     unset y b =
-        let e : flipEntry lines ((16 + y) / 16) ((16 + y) % 16) ≡ 0 = unflipped (good accepted) ((16 + y) / 16) ((16 + y) % 16) (omega arith) in
-        rw (flip-entry lines (16 + y) (omega arith), e)
+        let e : flip_entry lines ((16 + y) / 16) ((16 + y) % 16) ≡ 0 = unflipped (good accepted) ((16 + y) / 16) ((16 + y) % 16) (omega arith) in
+        rw (flip_entry_lem lines (16 + y) (omega arith), e)
 
-    fine : unsupported flagBytes (flipTable lines) ≡ false
+    fine : unsupported flag_bytes (flip_table lines) ≡ false
     unfolding unsupported
     fine =
-        let f : flipsOne (flipTable lines) ≡ false = any-nothing 16 _ unset in
+        let f : flips_one (flip_table lines) ≡ false = any_nothing 16 _ unset in
         rw f
 
     -- and no JLP field, so that any number of words may be lent, of RAM and of flash
-    pub supported : (m f : ℕ) → Silent (tablesRows flagBytes (flipTable lines) m f)
-    supported m f = field-none flagBytes (flipTable lines) m f refl fine
+    pub supported : (m f : ℕ) → Silent (tables_rows flag_bytes (flip_table lines) m f)
+    supported m f = field_none flag_bytes (flip_table lines) m f refl fine

@@ -6,24 +6,24 @@ use Rattle.basics.specs.Laws.Tests.{and_left, and_right, cases}
 use Rattle.plan.specs.Laws.Runs.{Starts}
 use Rattle.canon.specs.Canonical.{reach}
 
-pub reach-most : (kind : ℕ → ℕ) (p n : ℕ) → reach kind p n ≤ n
+pub reach_most : (kind : ℕ → ℕ) (p n : ℕ) → reach kind p n ≤ n
 unfolding reach
-reach-most kind p zero = omega arith
-reach-most kind p (suc n) =
-    cases (eqb (reach kind p n) n && eqb (kind (p + n)) (kind p)) (λ e. rw e (omega arith)) (λ e. rw e (omega (arith, reach-most kind p n)))
+reach_most kind p zero = omega arith
+reach_most kind p (suc n) =
+    cases (eqb (reach kind p n) n && eqb (kind (p + n)) (kind p)) (λ e. rw e (omega arith)) (λ e. rw e (omega (arith, reach_most kind p n)))
 
-pub reach-same : (kind : ℕ → ℕ) (p n i : ℕ) → i < reach kind p n → kind (p + i) ≡ kind p
+pub reach_same : (kind : ℕ → ℕ) (p n i : ℕ) → i < reach kind p n → kind (p + i) ≡ kind p
 unfolding reach
-reach-same kind p zero i h = absurd (omega arith)
-reach-same kind p (suc n) i h =
+reach_same kind p zero i h = absurd (omega arith)
+reach_same kind p (suc n) i h =
     cases (eqb (reach kind p n) n && eqb (kind (p + n)) (kind p))
     (λ e.
     let a : reach kind p n ≡ n = eqb-true (reach kind p n) n (and_left _ _ e) in
     let b : kind (p + n) ≡ kind p = eqb-true (kind (p + n)) (kind p) (and_right (eqb (reach kind p n) n) _ e) in
     let l : i < suc n = rw e at h in
     cases (eqb i n) (λ z. ap (λ (j : ℕ). kind (p + j)) (eqb-true i n z) ∙ b)
-    (λ z. reach-same kind p n i (omega (arith, eqb-false i n z))))
-    (λ e. reach-same kind p n i (rw e at h))
+    (λ z. reach_same kind p n i (omega (arith, eqb-false i n z))))
+    (λ e. reach_same kind p n i (rw e at h))
 
 pub reach_far : (kind : ℕ → ℕ) (p n m : ℕ) → m ≤ n → ((i : ℕ) → i < m → kind (p + i) ≡ kind p) → m ≤ reach kind p n
 unfolding reach
@@ -33,7 +33,7 @@ reach_far kind p (suc n) m h same =
     (λ z.
     let e : m ≡ suc n = eqb-true m (suc n) z in
     let a : n ≤ reach kind p n = reach_far kind p n n (omega arith) (λ i l. same i (omega arith)) in
-    rw (eq-eqb (reach kind p n) n (omega (arith, reach-most kind p n)), eq-eqb (kind (p + n)) (kind p) (same n (omega arith))) (omega arith))
+    rw (eq-eqb (reach kind p n) n (omega (arith, reach_most kind p n)), eq-eqb (kind (p + n)) (kind p) (same n (omega arith))) (omega arith))
     (λ z.
     let a : m ≤ reach kind p n = reach_far kind p n m (omega (arith, eqb-false m (suc n) z)) same in
     cases (eqb (reach kind p n) n && eqb (kind (p + n)) (kind p)) (λ e. rw e (omega arith)) (λ e. rw e a))

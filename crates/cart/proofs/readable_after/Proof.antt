@@ -1,6 +1,6 @@
 -- `cart::readable_after` meets its contract: none, or all.
 use Rattle.std.proofs.Common.{rules}
-use Rattle.cart.proofs.Laws.{after_none, after-all}
+use Rattle.cart.proofs.Laws.{after_none, after_all_lem}
 use Rattle.cart.proofs.readable_after.Statement.{statement}
 use Rattle.cart.proofs.readable_after.Tie as tie
 
@@ -8,7 +8,7 @@ returns : tie.Need-returns
 returns c = search (rules, after_none)
 
 returns-2 : tie.Need-returns-2
-returns-2 c = search (rules, after-all)
+returns-2 c = search (rules, after_all_lem)
 
 pub readable-after-spec : {M : Type 1} → statement M
 readable-after-spec =

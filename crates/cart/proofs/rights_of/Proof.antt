@@ -1,7 +1,7 @@
 -- `cart::rights_of` meets its contract: the row that the low three bits choose has the rights of the byte.
 use Rattle.std.proofs.Common.{◌≡◌, ℕ, ◌+◌, ◌*◌, ◌/◌, ◌%◌, ◌<◌, mod-lt, arith, rules}
 use Rattle.cart.specs.declared.Rights.{Rights}
-use Rattle.cart.specs.Cells.{rightsOf}
+use Rattle.cart.specs.Cells.{rights_of}
 use Rattle.cart.proofs.rights_of.Statement.{statement}
 use Rattle.cart.proofs.rights_of.Tie as tie
 
@@ -9,7 +9,7 @@ parity : (x q k : ℕ) → x ≡ 2 * q + k → x % 2 ≡ k % 2
 parity x q k e = omega arith
 
 -- row k has the rights of every byte whose low three bits are k
-row : (x k : ℕ) (r : Rights) → x % 8 ≡ k → r ≡ rightsOf k → r ≡ rightsOf x
+row : (x k : ℕ) (r : Rights) → x % 8 ≡ k → r ≡ rights_of k → r ≡ rights_of x
 row x k r e h =
     rw (
       parity x (4 * (x / 8)) k (omega arith),
@@ -27,7 +27,7 @@ is-7 k l h a b c = omega arith
 
 last_row : (x : ℕ) (r : Rights)
     → (x % 8 ≡ 0 → ⊥) → (x % 8 ≡ 1 → ⊥) → (x % 8 ≡ 2 → ⊥) → (x % 8 ≡ 3 → ⊥) → (x % 8 ≡ 4 → ⊥) → (x % 8 ≡ 5 → ⊥) → (x % 8 ≡ 6 → ⊥)
-    → r ≡ rightsOf 7 → r ≡ rightsOf x
+    → r ≡ rights_of 7 → r ≡ rights_of x
 last_row x r e₀ e₁ e₂ e₃ e₄ e₅ e₆ h =
     row x 7 r (is-7 (x % 8) (above-3 (x % 8) e₀ e₁ e₂ e₃) (mod-lt x {m = 8} (omega arith)) e₄ e₅ e₆) h
 

@@ -7,10 +7,10 @@ use Rattle.switches.specs.declared.Request.TheVariants.{Entry, Nothing}
 use Rattle.switches.specs.Flips.{acts}
 use Rattle.switches.specs.Banks.{banked}
 
-abbrev pub bankedOnly : List ℕ → Register → Register
-bankedOnly permissions (HalfPage p) = cond (banked permissions p) (HalfPage p) Elsewhere
-bankedOnly permissions Elsewhere = Elsewhere
+abbrev pub banked_only : List ℕ → Register → Register
+banked_only permissions (HalfPage p) = cond (banked permissions p) (HalfPage p) Elsewhere
+banked_only permissions Elsewhere = Elsewhere
 
-abbrev pub actingOnly : List ℕ → Request → Request
-actingOnly flips (Entry n) = cond (acts flips n) (Entry n) Nothing
-actingOnly flips Nothing = Nothing
+abbrev pub acting_only : List ℕ → Request → Request
+acting_only flips (Entry n) = cond (acts flips n) (Entry n) Nothing
+acting_only flips Nothing = Nothing

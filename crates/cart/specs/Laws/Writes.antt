@@ -11,157 +11,157 @@ use Rattle.switches.specs.declared.Register.TheVariants.{HalfPage, Elsewhere}
 use Rattle.switches.specs.declared.Request.{Request}
 use Rattle.switches.specs.declared.Request.TheVariants.{Entry, Nothing}
 use Rattle.switches.specs.Flips.{Active, asks, acts}
-use Rattle.switches.specs.Banks.{registerAt, banked}
+use Rattle.switches.specs.Banks.{register_at, banked}
 use Rattle.flash.specs.Flash.{memories}
 use Rattle.jlp.specs.declared.Jlp.{Jlp}
-use Rattle.jlp.specs.Window.{inRam}
+use Rattle.jlp.specs.Window.{in_ram}
 use Rattle.jlp.specs.Accelerators.{takes}
 use Rattle.cart.specs.declared.Cell.{Cell}
 use Rattle.cart.specs.declared.Taker.{Taker}
 use Rattle.cart.specs.declared.Taker.TheVariants.{Accelerators, Bank, Flip, Ram}
-use Rattle.cart.specs.Cells.{cell_at, windowCell}
-use Rattle.cart.specs.Code.Takers.{bankedOnly, actingOnly}
-use Rattle.cart.specs.Writes.{storedWord, stored, windowTaker, bankTaker, flipTaker, mappedTaker, takerOf, leftBy, memoriesBy, assignedBy, readableBy, leaves, leavesRam, leavesFlash, assigned, leavesReadable}
+use Rattle.cart.specs.Cells.{cell_at, window_cell}
+use Rattle.cart.specs.Code.Takers.{banked_only, acting_only}
+use Rattle.cart.specs.Writes.{stored_word, stored, window_taker, bank_taker, flip_taker, mapped_taker, taker_of, left_by, memories_by, assigned_by, readable_by, leaves, leaves_ram, leaves_flash, assigned, leaves_readable}
 
 -- shut by its rights; past the n words that are lent; open, to the word w
 module _ (c : Cell) (ram : List ℕ) (v : ℕ) where
-  pub store-shut : not c.rights.write ≡ true → ram ≡ stored c ram v
+  pub store_shut : not c.rights.write ≡ true → ram ≡ stored c ram v
   unfolding stored
-  store-shut r = rw (not-true c.rights.write r)
+  store_shut r = rw (not-true c.rights.write r)
 
   module _ (n : ℕ) (h : n ≡ lent ram) (r : not c.rights.write ≡ false) where
-    pub store-past : n ≤ c.location.0 → ram ≡ stored c ram v
+    pub store_past : n ≤ c.location.0 → ram ≡ stored c ram v
     unfolding stored
-    store-past l = rw (not-false c.rights.write r, ← h, le-ltb _ _ l)
+    store_past l = rw (not-false c.rights.write r, ← h, le-ltb _ _ l)
 
-    pub store-open : (w : ℕ) → c.location.0 < n → w ≡ storedWord c.rights.narrow (slice_index ram c.location.0) v → slice_set ram c.location.0 w ≡ stored c ram v
+    pub store_open : (w : ℕ) → c.location.0 < n → w ≡ stored_word c.rights.narrow (slice_index ram c.location.0) v → slice_set ram c.location.0 w ≡ stored c ram v
     unfolding stored
-    store-open w l e = rw (not-false c.rights.write r, ← h, lt-ltb _ _ l, e)
+    store_open w l e = rw (not-false c.rights.write r, ← h, lt-ltb _ _ l, e)
 
-pub ruleset stores = (store-shut, store-past, store-open)
+pub ruleset stores = (store_shut, store_past, store_open)
 
 -- a register whose half-page may be switched, may not, and none
 module _ (permissions : List ℕ) (r q : Register) (e : r ≡ q) where
-  pub bank-may : (h : ℕ) (b : Bool) → r ≡ HalfPage h → b ≡ banked permissions h → b ≡ true → HalfPage h ≡ bankedOnly permissions q
-  bank-may h b f g t = rw (← e, f, ← g, t)
+  pub bank_may : (h : ℕ) (b : Bool) → r ≡ HalfPage h → b ≡ banked permissions h → b ≡ true → HalfPage h ≡ banked_only permissions q
+  bank_may h b f g t = rw (← e, f, ← g, t)
 
-  pub bank-not : (h : ℕ) (b : Bool) → r ≡ HalfPage h → b ≡ banked permissions h → b ≡ false → Elsewhere ≡ bankedOnly permissions q
-  bank-not h b f g t = rw (← e, f, ← g, t)
+  pub bank_not : (h : ℕ) (b : Bool) → r ≡ HalfPage h → b ≡ banked permissions h → b ≡ false → Elsewhere ≡ banked_only permissions q
+  bank_not h b f g t = rw (← e, f, ← g, t)
 
-  pub bank-none : r ≡ Elsewhere → Elsewhere ≡ bankedOnly permissions q
-  bank-none f = rw (← e, f)
+  pub bank_none : r ≡ Elsewhere → Elsewhere ≡ banked_only permissions q
+  bank_none f = rw (← e, f)
 
-pub ruleset banks = (bank-may, bank-not, bank-none)
+pub ruleset banks = (bank_may, bank_not, bank_none)
 
 -- a request whose entry acts, does not, and none
 module _ (flips : List ℕ) (r q : Request) (e : r ≡ q) where
-  pub flip-may : (n : ℕ) (b : Bool) → r ≡ Entry n → b ≡ acts flips n → b ≡ true → Entry n ≡ actingOnly flips q
-  flip-may n b f g t = rw (← e, f, ← g, t)
+  pub flip_may : (n : ℕ) (b : Bool) → r ≡ Entry n → b ≡ acts flips n → b ≡ true → Entry n ≡ acting_only flips q
+  flip_may n b f g t = rw (← e, f, ← g, t)
 
-  pub flip-not : (n : ℕ) (b : Bool) → r ≡ Entry n → b ≡ acts flips n → b ≡ false → Nothing ≡ actingOnly flips q
-  flip-not n b f g t = rw (← e, f, ← g, t)
+  pub flip_not : (n : ℕ) (b : Bool) → r ≡ Entry n → b ≡ acts flips n → b ≡ false → Nothing ≡ acting_only flips q
+  flip_not n b f g t = rw (← e, f, ← g, t)
 
-  pub flip-none : r ≡ Nothing → Nothing ≡ actingOnly flips q
-  flip-none f = rw (← e, f)
+  pub flip_none : r ≡ Nothing → Nothing ≡ acting_only flips q
+  flip_none f = rw (← e, f)
 
-pub ruleset flips-asked = (flip-may, flip-not, flip-none)
+pub ruleset flips_asked = (flip_may, flip_not, flip_none)
 
 -- so the taker
-flip-by : (flips : List ℕ) (r : Request) (next : Taker) (q : Request) → q ≡ actingOnly flips r → (n : ℕ) → q ≡ Entry n → Flip n ≡ flipTaker flips r next
-flip-by flips (Entry m) next q e n f =
+flip_by : (flips : List ℕ) (r : Request) (next : Taker) (q : Request) → q ≡ acting_only flips r → (n : ℕ) → q ≡ Entry n → Flip n ≡ flip_taker flips r next
+flip_by flips (Entry m) next q e n f =
     cases (acts flips m) (λ b. let g : Entry n ≡ Entry m = sym f ∙ e ∙ rw b in rw b cc) (λ b. let g : Entry n ≡ Nothing = sym f ∙ e ∙ rw b in let z : ◌≡◌ {A = ℕ} 0 1 = cc in absurd (omega arith))
-flip-by flips Nothing next q e n f = let g : Entry n ≡ Nothing = sym f ∙ e in let z : ◌≡◌ {A = ℕ} 0 1 = cc in absurd (omega arith)
+flip_by flips Nothing next q e n f = let g : Entry n ≡ Nothing = sym f ∙ e in let z : ◌≡◌ {A = ℕ} 0 1 = cc in absurd (omega arith)
 
-flip-past : (flips : List ℕ) (r : Request) (next : Taker) (q : Request) → q ≡ actingOnly flips r → q ≡ Nothing → next ≡ flipTaker flips r next
-flip-past flips (Entry m) next q e f =
+flip_past : (flips : List ℕ) (r : Request) (next : Taker) (q : Request) → q ≡ acting_only flips r → q ≡ Nothing → next ≡ flip_taker flips r next
+flip_past flips (Entry m) next q e f =
     cases (acts flips m) (λ b. let g : Nothing ≡ Entry m = sym f ∙ e ∙ rw b in let z : ◌≡◌ {A = ℕ} 0 1 = cc in absurd (omega arith)) (λ b. rw b)
-flip-past flips Nothing next q e f = refl
+flip_past flips Nothing next q e f = refl
 
-bank-by : (permissions : List ℕ) (r : Register) (v : ℕ) (next : Taker) (q : Register) → q ≡ bankedOnly permissions r → (h : ℕ) → q ≡ HalfPage h → Bank h (v % 256) ≡ bankTaker permissions r v next
-bank-by permissions (HalfPage m) v next q e h f =
+bank_by : (permissions : List ℕ) (r : Register) (v : ℕ) (next : Taker) (q : Register) → q ≡ banked_only permissions r → (h : ℕ) → q ≡ HalfPage h → Bank h (v % 256) ≡ bank_taker permissions r v next
+bank_by permissions (HalfPage m) v next q e h f =
     cases (banked permissions m) (λ b. let g : HalfPage h ≡ HalfPage m = sym f ∙ e ∙ rw b in rw b cc) (λ b. let g : HalfPage h ≡ Elsewhere = sym f ∙ e ∙ rw b in let z : ◌≡◌ {A = ℕ} 0 1 = cc in absurd (omega arith))
-bank-by permissions Elsewhere v next q e h f = let g : HalfPage h ≡ Elsewhere = sym f ∙ e in let z : ◌≡◌ {A = ℕ} 0 1 = cc in absurd (omega arith)
+bank_by permissions Elsewhere v next q e h f = let g : HalfPage h ≡ Elsewhere = sym f ∙ e in let z : ◌≡◌ {A = ℕ} 0 1 = cc in absurd (omega arith)
 
-bank-past : (permissions : List ℕ) (r : Register) (v : ℕ) (next : Taker) (q : Register) → q ≡ bankedOnly permissions r → q ≡ Elsewhere → next ≡ bankTaker permissions r v next
-bank-past permissions (HalfPage m) v next q e f =
+bank_past : (permissions : List ℕ) (r : Register) (v : ℕ) (next : Taker) (q : Register) → q ≡ banked_only permissions r → q ≡ Elsewhere → next ≡ bank_taker permissions r v next
+bank_past permissions (HalfPage m) v next q e f =
     cases (banked permissions m) (λ b. let g : Elsewhere ≡ HalfPage m = sym f ∙ e ∙ rw b in let z : ◌≡◌ {A = ℕ} 0 1 = cc in absurd (omega arith)) (λ b. rw b)
-bank-past permissions Elsewhere v next q e f = refl
+bank_past permissions Elsewhere v next q e f = refl
 
 module _ (a : Active) (flips : List ℕ) (at : Console) (v : ℕ) where
-  module _ (q : Request) (e : q ≡ actingOnly flips (asks at v)) where
-    pub flip-takes : (n : ℕ) → q ≡ Entry n → Flip n ≡ flipTaker flips (asks at v) (Ram (cell_at a at))
-    flip-takes n f = flip-by flips (asks at v) (Ram (cell_at a at)) q e n f
+  module _ (q : Request) (e : q ≡ acting_only flips (asks at v)) where
+    pub flip_takes : (n : ℕ) → q ≡ Entry n → Flip n ≡ flip_taker flips (asks at v) (Ram (cell_at a at))
+    flip_takes n f = flip_by flips (asks at v) (Ram (cell_at a at)) q e n f
 
-    pub flip-passes : (c : Cell) → q ≡ Nothing → c ≡ cell_at a at → Ram c ≡ flipTaker flips (asks at v) (Ram (cell_at a at))
-    flip-passes c f g = ap (λ (d : Cell). Ram d) g ∙ flip-past flips (asks at v) (Ram (cell_at a at)) q e f
+    pub flip_passes : (c : Cell) → q ≡ Nothing → c ≡ cell_at a at → Ram c ≡ flip_taker flips (asks at v) (Ram (cell_at a at))
+    flip_passes c f g = ap (λ (d : Cell). Ram d) g ∙ flip_past flips (asks at v) (Ram (cell_at a at)) q e f
 
-  module _ (q : Register) (e : q ≡ bankedOnly a.permissions (registerAt at)) where
-    pub bank-takes : (h : ℕ) → q ≡ HalfPage h → Bank h (v % 256) ≡ mappedTaker a flips at v
-    bank-takes h f = bank-by a.permissions (registerAt at) v _ q e h f
+  module _ (q : Register) (e : q ≡ banked_only a.permissions (register_at at)) where
+    pub bank_takes : (h : ℕ) → q ≡ HalfPage h → Bank h (v % 256) ≡ mapped_taker a flips at v
+    bank_takes h f = bank_by a.permissions (register_at at) v _ q e h f
 
-    pub bank-passes : (t : Taker) → q ≡ Elsewhere → t ≡ flipTaker flips (asks at v) (Ram (cell_at a at)) → t ≡ mappedTaker a flips at v
-    bank-passes t f g = g ∙ bank-past a.permissions (registerAt at) v _ q e f
+    pub bank_passes : (t : Taker) → q ≡ Elsewhere → t ≡ flip_taker flips (asks at v) (Ram (cell_at a at)) → t ≡ mapped_taker a flips at v
+    bank_passes t f g = g ∙ bank_past a.permissions (register_at at) v _ q e f
 
-pub ruleset takers = (flip-takes, flip-passes, bank-takes, bank-passes)
+pub ruleset takers = (flip_takes, flip_passes, bank_takes, bank_passes)
 
 -- in the window, the RAM and the registers
-module _ (at : Console) (b : Bool) (e : b ≡ inRam at) where
-  pub window-ram : (c : Cell) → b ≡ true → c ≡ windowCell at → Ram c ≡ windowTaker at
-  window-ram c t h = rw (← e, t, h)
+module _ (at : Console) (b : Bool) (e : b ≡ in_ram at) where
+  pub window_ram : (c : Cell) → b ≡ true → c ≡ window_cell at → Ram c ≡ window_taker at
+  window_ram c t h = rw (← e, t, h)
 
-  pub window-registers : b ≡ false → Accelerators ≡ windowTaker at
-  window-registers t = rw (← e, t)
+  pub window_registers : b ≡ false → Accelerators ≡ window_taker at
+  window_registers t = rw (← e, t)
 
 -- a write that the accelerators take, and one that they pass on
 module _ (j : Jlp) (a : Active) (flips : List ℕ) (at : Console) (v : ℕ) (b : Bool) (e : b ≡ takes j at v) where
-  pub jlp-takes : (t : Taker) → b ≡ true → t ≡ windowTaker at → t ≡ takerOf j a flips at v
-  jlp-takes t f g = rw (← e, f, g)
+  pub jlp_takes : (t : Taker) → b ≡ true → t ≡ window_taker at → t ≡ taker_of j a flips at v
+  jlp_takes t f g = rw (← e, f, g)
 
-  pub jlp-passes : (t : Taker) → b ≡ false → t ≡ mappedTaker a flips at v → t ≡ takerOf j a flips at v
-  jlp-passes t f g = rw (← e, f) g
+  pub jlp_passes : (t : Taker) → b ≡ false → t ≡ mapped_taker a flips at v → t ≡ taker_of j a flips at v
+  jlp_passes t f g = rw (← e, f) g
 
-pub ruleset accelerates = (window-ram, window-registers, jlp-takes, jlp-passes)
+pub ruleset accelerates = (window_ram, window_registers, jlp_takes, jlp_passes)
 
 -- what a taker leaves and answers, by the case w that the code has found it to be
 module _ (t w : Taker) (e : t ≡ w) where
-  pub shift-assigned : (x : ℕ) → x ≡ assignedBy w → x ≡ assignedBy t
-  shift-assigned x g = rw e g
+  pub shift_assigned : (x : ℕ) → x ≡ assigned_by w → x ≡ assigned_by t
+  shift_assigned x g = rw e g
 
-  pub shift-readable : (a : Active) (flips : List ℕ) (kept x : ℕ) → x ≡ readableBy w a flips kept → x ≡ readableBy t a flips kept
-  shift-readable a flips kept x g = rw e g
+  pub shift_readable : (a : Active) (flips : List ℕ) (kept x : ℕ) → x ≡ readable_by w a flips kept → x ≡ readable_by t a flips kept
+  shift_readable a flips kept x g = rw e g
 
-  pub shift-mapping : (a : Active) (flips x : List ℕ) → x ≡ (leftBy w a flips).mapping → x ≡ (leftBy t a flips).mapping
-  shift-mapping a flips x g = rw e g
+  pub shift_mapping : (a : Active) (flips x : List ℕ) → x ≡ (left_by w a flips).mapping → x ≡ (left_by t a flips).mapping
+  shift_mapping a flips x g = rw e g
 
-  pub shift-permissions : (a : Active) (flips x : List ℕ) → x ≡ (leftBy w a flips).permissions → x ≡ (leftBy t a flips).permissions
-  shift-permissions a flips x g = rw e g
+  pub shift_permissions : (a : Active) (flips x : List ℕ) → x ≡ (left_by w a flips).permissions → x ≡ (left_by t a flips).permissions
+  shift_permissions a flips x g = rw e g
 
-pub ruleset shifts = (shift-assigned, shift-readable, shift-mapping, shift-permissions)
+pub ruleset shifts = (shift_assigned, shift_readable, shift_mapping, shift_permissions)
 
 -- one law for every taker w, of each thing that a write leaves
-module _ (j : Jlp) (a : Active) (flips : List ℕ) (at : Console) (v : ℕ) (t w : Taker) (h : t ≡ takerOf j a flips at v) (e : t ≡ w) where
-  pub by-mapping : (x : List ℕ) → x ≡ (leftBy w a flips).mapping → x ≡ (leaves j a flips at v).mapping
+module _ (j : Jlp) (a : Active) (flips : List ℕ) (at : Console) (v : ℕ) (t w : Taker) (h : t ≡ taker_of j a flips at v) (e : t ≡ w) where
+  pub by_mapping : (x : List ℕ) → x ≡ (left_by w a flips).mapping → x ≡ (leaves j a flips at v).mapping
   unfolding leaves
-  by-mapping x g = rw (← h, e, g)
+  by_mapping x g = rw (← h, e, g)
 
-  pub by-permissions : (x : List ℕ) → x ≡ (leftBy w a flips).permissions → x ≡ (leaves j a flips at v).permissions
+  pub by_permissions : (x : List ℕ) → x ≡ (left_by w a flips).permissions → x ≡ (leaves j a flips at v).permissions
   unfolding leaves
-  by-permissions x g = rw (← h, e, g)
+  by_permissions x g = rw (← h, e, g)
 
-  pub by-ram : (flash ram x : List ℕ) → x ≡ (memoriesBy w j.saves (memories flash ram) at v).ram → x ≡ leavesRam j a flips flash ram at v
-  unfolding leavesRam
-  by-ram flash ram x g = g ∙ ap (λ (u : Taker). (memoriesBy u j.saves (memories flash ram) at v).ram) (sym e ∙ h)
+  pub by_ram : (flash ram x : List ℕ) → x ≡ (memories_by w j.saves (memories flash ram) at v).ram → x ≡ leaves_ram j a flips flash ram at v
+  unfolding leaves_ram
+  by_ram flash ram x g = g ∙ ap (λ (u : Taker). (memories_by u j.saves (memories flash ram) at v).ram) (sym e ∙ h)
 
-  pub by-flash : (flash ram x : List ℕ) → x ≡ (memoriesBy w j.saves (memories flash ram) at v).flash → x ≡ leavesFlash j a flips flash ram at v
-  unfolding leavesFlash
-  by-flash flash ram x g = g ∙ ap (λ (u : Taker). (memoriesBy u j.saves (memories flash ram) at v).flash) (sym e ∙ h)
+  pub by_flash : (flash ram x : List ℕ) → x ≡ (memories_by w j.saves (memories flash ram) at v).flash → x ≡ leaves_flash j a flips flash ram at v
+  unfolding leaves_flash
+  by_flash flash ram x g = g ∙ ap (λ (u : Taker). (memories_by u j.saves (memories flash ram) at v).flash) (sym e ∙ h)
 
-  pub by-readable : (kept x : ℕ) → x ≡ readableBy w a flips kept → x ≡ leavesReadable j a flips kept at v
-  unfolding leavesReadable
-  by-readable kept x g = rw (← h, e, g)
+  pub by_readable : (kept x : ℕ) → x ≡ readable_by w a flips kept → x ≡ leaves_readable j a flips kept at v
+  unfolding leaves_readable
+  by_readable kept x g = rw (← h, e, g)
 
-  pub by-assigned : (x : ℕ) → x ≡ assignedBy w → x ≡ assigned j a flips at v
+  pub by_assigned : (x : ℕ) → x ≡ assigned_by w → x ≡ assigned j a flips at v
   unfolding assigned
-  by-assigned x g = rw (← h, e, g)
+  by_assigned x g = rw (← h, e, g)
 
-pub ruleset writes = (by-mapping, by-permissions, by-ram, by-flash, by-readable, by-assigned)
+pub ruleset writes = (by_mapping, by_permissions, by_ram, by_flash, by_readable, by_assigned)

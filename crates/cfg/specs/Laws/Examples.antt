@@ -1,7 +1,7 @@
 -- CFG files, and what reading each answers: one table under one statement. Bench case 8.
 use Prim.Native.String.{String}
 use Rattle.std.specs.Prelude.{ℕ, List, ◌∷◌, [], map, ◌≡◌, refl}
-use Rattle.basics.specs.Refusals.{refuse, noRefusal}
+use Rattle.basics.specs.Refusals.{refuse, no_refusal}
 use Rattle.text.specs.Bytes.{text, until}
 use Rattle.text.specs.Lines.{lines_of}
 use Rattle.text.specs.Spelling.{same}
@@ -9,10 +9,10 @@ use Rattle.basics.specs.Counts.{count}
 use Rattle.lines.specs.declared.Entry.{Entry}
 use Rattle.lines.specs.declared.Line.{Line}
 use Rattle.lines.specs.declared.Width.TheVariants.{Eight}
-use Rattle.grammar.specs.Grammar.{rom, paged, ram, hexFrom, dollar, oneDigit, bits, ◌>>=◌, romLine, pagedLine, ramLine, mappingLine, memattrLine, headingLine, wordsSay}
+use Rattle.grammar.specs.Grammar.{rom, paged, ram, hex_from, dollar, one_digit, bits, ◌>>=◌, rom_line, paged_line, ram_line, mapping_line, memattr_line, heading_line, words_say}
 use Rattle.grammar.specs.Words.{cut}
 use Rattle.cfg.specs.declared.Reading.{Reading}
-use Rattle.cfg.specs.File.{accepted, refused, reading_of, saysFrom, outsideFrom, entriesFrom}
+use Rattle.cfg.specs.File.{accepted, refused, reading_of, says_from, outside_from, entries_from}
 use Rattle.cfg.specs.Examples.{entries}
 
 -- a file, and what comes back
@@ -49,11 +49,11 @@ examples =
     ("[mapping]\n; nothing\n[memattr]\n" answers refused (refuse 24 0)) ∷
     []
 
-pub each-answers : map (λ (e : Example). reading_of (text e.file)) examples ≡ map (λ (e : Example). e.answer) examples
-unfolding reading_of count until lines_of saysFrom outsideFrom entriesFrom wordsSay mappingLine memattrLine headingLine romLine pagedLine ramLine ◌>>=◌ dollar oneDigit bits hexFrom same cut
-each-answers = refl
+pub each_answers : map (λ (e : Example). reading_of (text e.file)) examples ≡ map (λ (e : Example). e.answer) examples
+unfolding reading_of count until lines_of says_from outside_from entries_from words_say mapping_line memattr_line heading_line rom_line paged_line ram_line ◌>>=◌ dollar one_digit bits hex_from same cut
+each_answers = refl
 
 -- 128 entries pass rule 24, and 129 do not: the line of the 129th is 130, behind that of the section's name (02, W-210)
-pub case8 : ((reading_of (entries 128)).refusal ≡ noRefusal) × ((reading_of (entries 128)).count ≡ 128) × (reading_of (entries 129) ≡ refused (refuse 24 130))
-unfolding reading_of count until lines_of saysFrom outsideFrom entriesFrom wordsSay mappingLine memattrLine headingLine romLine pagedLine ramLine ◌>>=◌ dollar oneDigit bits hexFrom same cut
+pub case8 : ((reading_of (entries 128)).refusal ≡ no_refusal) × ((reading_of (entries 128)).count ≡ 128) × (reading_of (entries 129) ≡ refused (refuse 24 130))
+unfolding reading_of count until lines_of says_from outside_from entries_from words_say mapping_line memattr_line heading_line rom_line paged_line ram_line ◌>>=◌ dollar one_digit bits hex_from same cut
 case8 = (refl, refl, refl)

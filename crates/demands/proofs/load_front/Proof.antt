@@ -2,7 +2,7 @@
 use native.Mathlib.Omega.{arith}
 use lib.ListN.{length-take}
 use borrow.Author.Rules.{rules}
-use Rattle.demands.specs.Laws.Tied.{loads-whole}
+use Rattle.demands.specs.Laws.Tied.{loads_whole}
 use Rattle.demands.proofs.load_front.Statement.{statement}
 use Rattle.demands.proofs.load_front.Tie as tie
 use Rattle.demands.proofs.load_front.Reads as reads
@@ -28,7 +28,7 @@ same-length-2 : tie.Need-same-length-2
 same-length-2 c = search rules
 
 returns-2 : tie.Need-returns-2
-returns-2 c = search (rules, loads-whole)
+returns-2 c = search (rules, loads_whole)
 
 pub load-front-spec : {M : Type 1} → statement M
 load-front-spec =

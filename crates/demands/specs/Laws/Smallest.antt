@@ -1,15 +1,15 @@
 -- The fewest bytes, proved.
 use Rattle.std.specs.Prelude.{length}
-use Rattle.trip.specs.Laws.Smallest.{written-smallest}
+use Rattle.trip.specs.Laws.Smallest.{written_smallest}
 use Rattle.demands.specs.Smallest.{Smallest}
-use Rattle.demands.specs.Laws.Pressed.{pressed-smallest}
+use Rattle.demands.specs.Laws.Pressed.{pressed_smallest}
 
-pub fewest-bytes : Smallest
-fewest-bytes =
+pub fewest_bytes : Smallest
+fewest_bytes =
     record {
       written =
           λ t m z e same right other r.
-          written-smallest t.out t.content z (rw m.answer at e) t.writing t.left m.answer m.leaves t.ram same
+          written_smallest t.out t.content z (rw m.answer at e) t.writing t.left m.answer m.leaves t.ram same
           (length t.flash) right other r;
-      built = λ p q. pressed-smallest p q.pressed q.accepted q.enough;
+      built = λ p q. pressed_smallest p q.pressed q.accepted q.enough;
     }

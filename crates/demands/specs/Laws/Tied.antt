@@ -3,30 +3,30 @@ use Rattle.std.specs.Prelude.{ℕ, ◌≤◌, List, ◌≡◌, length, take}
 use Rattle.std.proofs.Common.{◌∙◌, sym, ap, take_all}
 use Rattle.places.specs.Limits.{lent}
 use Rattle.load.specs.declared.Loading.{Loading}
-use Rattle.load.specs.Load.{loadingOf, loadRamOf}
+use Rattle.load.specs.Load.{loading_of, load_ram_of}
 use Rattle.build.specs.declared.Building.{Building}
 use Rattle.demands.specs.Pressing.{Loads, Pressed}
 
-pub loads-whole :
-    (left ram stored : List ℕ) (f : ℕ) (l : Loading) (long : ℕ) → length left ≤ long → (l ≡ loadingOf left (lent ram) f) × (stored ≡ loadRamOf left ram f)
+pub loads_whole :
+    (left ram stored : List ℕ) (f : ℕ) (l : Loading) (long : ℕ) → length left ≤ long → (l ≡ loading_of left (lent ram) f) × (stored ≡ load_ram_of left ram f)
     → Loads (take long left) ram f l stored
-loads-whole left ram stored f l long h q = rw (take_all long left h) (record { answer = q.0; leaves = q.1 })
+loads_whole left ram stored f l long h q = rw (take_all long left h) (record { answer = q.0; leaves = q.1 })
 
 -- what the records promise determines each answer and each buffer
 module _ (bin cfg label out ram flash : List ℕ) (b c : Building) (left after : List ℕ) (l m : Loading) (stored kept : List ℕ)
     (p : Pressed (record { bin = bin; cfg = cfg; label = label; out = out; ram = ram; flash = flash; building = b; left = left; loading = l; stored = stored }))
     (q : Pressed (record { bin = bin; cfg = cfg; label = label; out = out; ram = ram; flash = flash; building = c; left = after; loading = m; stored = kept })) where
-  pub one-building : b ≡ c
-  one-building = p.answer ∙ sym q.answer
+  pub one_building : b ≡ c
+  one_building = p.answer ∙ sym q.answer
 
   pub one_left : left ≡ after
   one_left = p.leaves ∙ sym q.leaves
 
   front : take b.length left ≡ take c.length after
-  front = ap (λ (x : Building). take x.length left) one-building ∙ ap (take c.length) one_left
+  front = ap (λ (x : Building). take x.length left) one_building ∙ ap (take c.length) one_left
 
-  pub one-loading : l ≡ m
-  one-loading = p.loads.answer ∙ ap (λ (s : List ℕ). loadingOf s (lent ram) (length flash)) front ∙ sym q.loads.answer
+  pub one_loading : l ≡ m
+  one_loading = p.loads.answer ∙ ap (λ (s : List ℕ). loading_of s (lent ram) (length flash)) front ∙ sym q.loads.answer
 
-  pub one-stored : stored ≡ kept
-  one-stored = p.loads.leaves ∙ ap (λ (s : List ℕ). loadRamOf s ram (length flash)) front ∙ sym q.loads.leaves
+  pub one_stored : stored ≡ kept
+  one_stored = p.loads.leaves ∙ ap (λ (s : List ℕ). load_ram_of s ram (length flash)) front ∙ sym q.loads.leaves

@@ -6,21 +6,21 @@ use native.Mathlib.Nat.{min-le_left, min-le_right}
 use native.Mathlib.Omega.{arith}
 use lib.ListN.{length}
 use borrow.Author.Rules.{rules}
-use Rattle.registers.specs.Words.{jlpFrom}
+use Rattle.registers.specs.Words.{jlp_from}
 use Rattle.exports.specs.Runs.{answered}
-use Rattle.exports.specs.Laws.Runs.{answered-none, answered-heard, answered-direct}
+use Rattle.exports.specs.Laws.Runs.{answered_none, answered_heard, answered_direct}
 use Rattle.exports.proofs.luigi_reads.Statement.{statement}
 use Rattle.exports.proofs.luigi_reads.Tie as tie
 
 abbrev invariant-loop : tie.invariant-loop
 invariant-loop mapping permissions accelerators ram at out₀ on i₀ i-end out i =
-    (i ≤ i-end) × (i-end ≤ length at) × (i-end ≤ length out) × (length out ≡ length out₀) × (out ≡ answered (jlpFrom accelerators) mapping permissions ram at i out₀)
+    (i ≤ i-end) × (i-end ≤ length at) × (i-end ≤ length out) × (length out ≡ length out₀) × (out ≡ answered (jlp_from accelerators) mapping permissions ram at i out₀)
 
 abbrev decreases-loop : tie.decreases-loop
 decreases-loop mapping permissions accelerators ram at out₀ on i₀ i-end out i = i-end - i
 
 loop-holds : tie.Need-loop-init invariant-loop decreases-loop
-loop-holds c = search (rules, c.least.ensures, min-le_left, min-le_right, answered-none)
+loop-holds c = search (rules, c.least.ensures, min-le_left, min-le_right, answered_none)
 
 -- what is laid is what was heard, by the short way or by the long one
 loop-again : tie.Need-loop-preserved invariant-loop decreases-loop
@@ -31,8 +31,8 @@ loop-again c =
       (search rules),
       (search rules),
       (⊎_elim
-          (λ w. search (answered-heard, w.2 ∙ w.1.ensures))
-          (λ w. search (answered-direct, w.1, w.0.left, c.before.hear.ensures, turn.before.is-on.ensures))
+          (λ w. search (answered_heard, w.2 ∙ w.1.ensures))
+          (λ w. search (answered_direct, w.1, w.0.left, c.before.hear.ensures, turn.before.is-on.ensures))
           c.if1.branch),
     )
 

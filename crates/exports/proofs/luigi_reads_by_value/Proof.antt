@@ -6,7 +6,7 @@ use native.Mathlib.Omega.{arith}
 use lib.ListN.{length}
 use borrow.Author.Rules.{rules}
 use Rattle.exports.specs.Runs.{answered}
-use Rattle.exports.specs.Laws.Runs.{answered-none, answered-one}
+use Rattle.exports.specs.Laws.Runs.{answered_none, answered_one}
 use Rattle.exports.proofs.luigi_reads_by_value.Statement.{statement}
 use Rattle.exports.proofs.luigi_reads_by_value.Tie as tie
 
@@ -18,7 +18,7 @@ abbrev decreases-loop : tie.decreases-loop
 decreases-loop mapping permissions flips accelerators ram at out₀ c i₀ i-end out i = i-end - i
 
 loop-holds : tie.Need-loop-init invariant-loop decreases-loop
-loop-holds c = search (rules, c.least.ensures, min-le_left, min-le_right, answered-none)
+loop-holds c = search (rules, c.least.ensures, min-le_left, min-le_right, answered_none)
 
 loop-again : tie.Need-loop-preserved invariant-loop decreases-loop
 loop-again c = (
@@ -26,7 +26,7 @@ loop-again c = (
   (search rules),
   (search rules),
   (search rules),
-  (search (answered-one, c.heard.ensures, c.before.read.ensures)),
+  (search (answered_one, c.heard.ensures, c.before.read.ensures)),
 )
 
 returns : tie.Need-returns invariant-loop decreases-loop

@@ -8,7 +8,7 @@ use lib.ListN.{length}
 use borrow.Author.Rules.{rules}
 use Rattle.cart.specs.declared.Cartridge.{Cartridge}
 use Rattle.exports.specs.Runs.{written}
-use Rattle.exports.specs.Laws.Runs.{cartridge-none, ram-none, flash-none, cartridge-one, ram-one, flash-one}
+use Rattle.exports.specs.Laws.Runs.{cartridge_none, ram_none, flash_none, cartridge_one, ram_one, flash_one}
 use Rattle.exports.proofs.luigi_writes_by_value.Statement.{statement}
 use Rattle.exports.proofs.luigi_writes_by_value.Tie as tie
 
@@ -27,9 +27,9 @@ loop-holds c = (
   (search (rules, c.least.ensures, min-le_right)),
   (search rules),
   (search rules),
-  (search cartridge-none),
-  (search ram-none),
-  (search flash-none),
+  (search cartridge_none),
+  (search ram_none),
+  (search flash_none),
 )
 
 loop-again : tie.Need-loop-preserved invariant-loop decreases-loop
@@ -40,13 +40,13 @@ loop-again c =
       (search rules),
       (search rules),
       (search rules),
-      (search (cartridge-one, done.0)),
-      (search (ram-one, done.1)),
-      (search (flash-one, done.2)),
+      (search (cartridge_one, done.0)),
+      (search (ram_one, done.1)),
+      (search (flash_one, done.2)),
     )
 
-ram-last : (c d : Cartridge) (ram flash at v m : List ℕ) (i n : ℕ) → c ≡ d → i ≡ n → m ≡ (written c ram flash at v i).ram → m ≡ (written d ram flash at v n).ram
-ram-last c d ram flash at v m i n p q e = rw (← p, ← q) e
+ram_last : (c d : Cartridge) (ram flash at v m : List ℕ) (i n : ℕ) → c ≡ d → i ≡ n → m ≡ (written c ram flash at v i).ram → m ≡ (written d ram flash at v n).ram
+ram_last c d ram flash at v m i n p q e = rw (← p, ← q) e
 
 flash-last : (c d : Cartridge) (ram flash at v m : List ℕ) (i n : ℕ) → c ≡ d → i ≡ n → m ≡ (written c ram flash at v i).flash → m ≡ (written d ram flash at v n).flash
 flash-last c d ram flash at v m i n p q e = rw (← p, ← q) e
@@ -58,7 +58,7 @@ returns c =
     let i : at-end.loop.i ≡ at-end.before.least.result = omega arith in
     let n = i ∙ at-end.before.least.ensures in (
       rw (← made, ← n, ← at-end.loop.invariant.5) c.active-as.ensures,
-      ram-last _ _ _ _ _ _ _ _ _ made n at-end.loop.invariant.6,
+      ram_last _ _ _ _ _ _ _ _ _ made n at-end.loop.invariant.6,
       flash-last _ _ _ _ _ _ _ _ _ made n at-end.loop.invariant.7,
     )
 

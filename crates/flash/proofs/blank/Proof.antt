@@ -4,17 +4,17 @@ use mathlib.Core.Path.{◌≡◌}
 use lib.ListN.{length}
 use Rattle.basics.specs.Lists.{laid}
 use Rattle.basics.specs.Laws.Lists.{laid_none, laid_more}
-use Rattle.flash.specs.Flash.{sectorWords, erasedWord}
+use Rattle.flash.specs.Flash.{sector_words, erased_word}
 use Rattle.flash.proofs.Laws.{laid_done}
 use borrow.Author.Rules.{rules}
 use Rattle.flash.proofs.blank.Statement.{statement}
 use Rattle.flash.proofs.blank.Tie as tie
 
 abbrev invariant-loop : tie.invariant-loop
-invariant-loop s₀ a i₀ s i = (i ≤ sectorWords) × (length s ≡ length s₀) × (s ≡ laid a i (λ j. erasedWord) s₀)
+invariant-loop s₀ a i₀ s i = (i ≤ sector_words) × (length s ≡ length s₀) × (s ≡ laid a i (λ j. erased_word) s₀)
 
 abbrev decreases-loop : tie.decreases-loop
-decreases-loop s₀ a i₀ s i = sectorWords - i
+decreases-loop s₀ a i₀ s i = sector_words - i
 
 loop-holds : tie.Need-loop-init invariant-loop decreases-loop
 loop-holds c = search (rules, laid_none)

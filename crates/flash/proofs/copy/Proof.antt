@@ -4,17 +4,17 @@ use mathlib.Core.Path.{◌≡◌}
 use lib.ListN.{length, get_or}
 use Rattle.basics.specs.Lists.{laid}
 use Rattle.basics.specs.Laws.Lists.{laid_none, laid_more}
-use Rattle.flash.specs.Flash.{rowWords}
+use Rattle.flash.specs.Flash.{row_words}
 use Rattle.flash.proofs.Laws.{laid_done}
 use borrow.Author.Rules.{rules}
 use Rattle.flash.proofs.copy.Statement.{statement}
 use Rattle.flash.proofs.copy.Tie as tie
 
 abbrev invariant-loop : tie.invariant-loop
-invariant-loop from a to₀ b i₀ to i = (i ≤ rowWords) × (length to ≡ length to₀) × (to ≡ laid b i (λ j. get_or from (a + j) 0) to₀)
+invariant-loop from a to₀ b i₀ to i = (i ≤ row_words) × (length to ≡ length to₀) × (to ≡ laid b i (λ j. get_or from (a + j) 0) to₀)
 
 abbrev decreases-loop : tie.decreases-loop
-decreases-loop from a to₀ b i₀ to i = rowWords - i
+decreases-loop from a to₀ b i₀ to i = row_words - i
 
 loop-holds : tie.Need-loop-init invariant-loop decreases-loop
 loop-holds c = search (rules, laid_none)

@@ -1,6 +1,6 @@
 -- `flash::hear` meets its contract: each return has its law.
 use borrow.Author.Rules.{rules}
-use Rattle.flash.proofs.Laws.{size_low, size-high, hearing}
+use Rattle.flash.proofs.Laws.{size_low, size_high, hearing}
 use Rattle.flash.proofs.hear.Statement.{statement}
 use Rattle.flash.proofs.hear.Tie as tie
 
@@ -11,7 +11,7 @@ returns-2 : tie.Need-returns-2
 returns-2 c = search (rules, hearing)
 
 last-row-requires : tie.Need-last-row-requires
-last-row-requires c κs = search (rules, size_low, size-high)
+last-row-requires c κs = search (rules, size_low, size_high)
 
 returns-3 : tie.Need-returns-3
 returns-3 c = search (rules, hearing)

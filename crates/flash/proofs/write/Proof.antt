@@ -1,11 +1,11 @@
 -- `flash::write` meets its contract: each return has its law.
 use borrow.Author.Rules.{rules}
-use Rattle.flash.proofs.Laws.{fits, write-dropped, write_done}
+use Rattle.flash.proofs.Laws.{fits, write_dropped, write_done}
 use Rattle.flash.proofs.write.Statement.{statement}
 use Rattle.flash.proofs.write.Tie as tie
 
 returns : tie.Need-returns
-returns c = search (rules, write-dropped)
+returns c = search (rules, write_dropped)
 
 copy-requires : tie.Need-copy-requires
 copy-requires c κs = search (rules, fits)

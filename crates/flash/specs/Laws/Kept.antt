@@ -4,112 +4,112 @@ use Rattle.std.proofs.Common.{ap, ◌∙◌, arith, eqb-true}
 use Rattle.std.proofs.lemmas.Bool.{eqb-false}
 use Rattle.basics.specs.Lists.{Each, none, also}
 use Rattle.basics.specs.Laws.Counts.{all_same}
-use Rattle.basics.specs.Laws.Tests.{cases, or-false-left}
+use Rattle.basics.specs.Laws.Tests.{cases, or_false_left}
 use Rattle.places.specs.declared.Console.{Console}
 use Rattle.flash.specs.declared.Command.{Command}
 use Rattle.flash.specs.declared.Command.TheVariants.{Read, Write, Erase, Nothing}
-use Rattle.flash.specs.Flash.{rowWords, sectorRows, erasedWord, rowPlace, ramPlace, rowLent, ramLent, empty_at, rowWord, ramWord, readable, writable, Memories, commandActs, acted, actedAll}
-use Rattle.flash.specs.Laws.Lent.{readable_of, writable-row}
-use Rattle.flash.specs.Laws.Changes.{dropped, erase-out, write-in, write-out, write-full, read-in, length-flash-all, length-ram-all}
+use Rattle.flash.specs.Flash.{row_words, sector_rows, erased_word, row_place, ram_place, row_lent, ram_lent, empty_at, row_word, ram_word, readable, writable, Memories, command_acts, acted, acted_all}
+use Rattle.flash.specs.Laws.Lent.{readable_of, writable_row}
+use Rattle.flash.specs.Laws.Changes.{dropped, erase_out, write_in, write_out, write_full, read_in, length_flash_all, length_ram_all}
 
 -- an erase of the row's sector; a write of the row; either
-abbrev pub erasesRow : ℕ → Command → Bool
-erasesRow row (Read r at) = false
-erasesRow row (Write r at) = false
-erasesRow row (Erase r) = eqb (row / sectorRows) (r / sectorRows)
-erasesRow row Nothing = false
+abbrev pub erases_row : ℕ → Command → Bool
+erases_row row (Read r at) = false
+erases_row row (Write r at) = false
+erases_row row (Erase r) = eqb (row / sector_rows) (r / sector_rows)
+erases_row row Nothing = false
 
-abbrev pub writesRow : ℕ → Command → Bool
-writesRow row (Read r at) = false
-writesRow row (Write r at) = eqb row r
-writesRow row (Erase r) = false
-writesRow row Nothing = false
+abbrev pub writes_row : ℕ → Command → Bool
+writes_row row (Read r at) = false
+writes_row row (Write r at) = eqb row r
+writes_row row (Erase r) = false
+writes_row row Nothing = false
 
-abbrev pub touchesRow : ℕ → Command → Bool
-touchesRow row c = writesRow row c || erasesRow row c
+abbrev pub touches_row : ℕ → Command → Bool
+touches_row row c = writes_row row c || erases_row row c
 
 -- two flashes hold the same row
 abbrev pub SameRow : ℕ → List ℕ → List ℕ → Type 0
-SameRow row s t = (i : ℕ) → i < rowWords → rowWord t row i ≡ rowWord s row i
+SameRow row s t = (i : ℕ) → i < row_words → row_word t row i ≡ row_word s row i
 
 -- a row is written from one address; behind that and some more commands a read to another address gives the words that were written
 abbrev pub ReadBack : ℕ → Memories → ℕ → Console → List Command → Console → Type 0
 ReadBack sectors m row at cs to =
-    (i : ℕ) → i < rowWords → ramWord (acted sectors (actedAll sectors m (Write row at ∷ cs)) (Read row to)).ram to i ≡ ramWord m.ram at i
+    (i : ℕ) → i < row_words → ram_word (acted sectors (acted_all sectors m (Write row at ∷ cs)) (Read row to)).ram to i ≡ ram_word m.ram at i
 
 -- equal words are empty alike
-empty-as : (t : List ℕ) (b : ℕ) (s : List ℕ) (a : ℕ) → ((i : ℕ) → i < rowWords → get_or t (b + i) 0 ≡ get_or s (a + i) 0) → empty_at t b ≡ empty_at s a
+empty_as : (t : List ℕ) (b : ℕ) (s : List ℕ) (a : ℕ) → ((i : ℕ) → i < row_words → get_or t (b + i) 0 ≡ get_or s (a + i) 0) → empty_at t b ≡ empty_at s a
 unfolding empty_at
-empty-as t b s a h = all_same rowWords _ _ (λ i l. ap (λ (w : ℕ). eqb w erasedWord) (h i l))
+empty_as t b s a h = all_same row_words _ _ (λ i l. ap (λ (w : ℕ). eqb w erased_word) (h i l))
 
 -- a row that a command neither writes nor erases stays, and so does one that is not empty and is not erased
 module _ (sectors row : ℕ) where
-  pub row-unwritten : (m : Memories) (r : ℕ) (at : Console) → eqb row r ≡ false → SameRow row m.flash (acted sectors m (Write r at)).flash
-  row-unwritten m r at e i l =
+  pub row_unwritten : (m : Memories) (r : ℕ) (at : Console) → eqb row r ≡ false → SameRow row m.flash (acted sectors m (Write r at)).flash
+  row_unwritten m r at e i l =
       let n : row ≡ r → ⊥ = eqb-false row r e in
-      write-out sectors m.flash m.ram r at (rowPlace row + i) (λ q. n (omega arith))
+      write_out sectors m.flash m.ram r at (row_place row + i) (λ q. n (omega arith))
 
-  pub row-unerased : (m : Memories) (r : ℕ) → eqb (row / sectorRows) (r / sectorRows) ≡ false → SameRow row m.flash (acted sectors m (Erase r)).flash
-  row-unerased m r e i l =
-      let n : row / sectorRows ≡ r / sectorRows → ⊥ = eqb-false (row / sectorRows) (r / sectorRows) e in
-      erase-out sectors m.flash m.ram r (rowPlace row + i) (λ q. n (omega arith))
+  pub row_unerased : (m : Memories) (r : ℕ) → eqb (row / sector_rows) (r / sector_rows) ≡ false → SameRow row m.flash (acted sectors m (Erase r)).flash
+  row_unerased m r e i l =
+      let n : row / sector_rows ≡ r / sector_rows → ⊥ = eqb-false (row / sector_rows) (r / sector_rows) e in
+      erase_out sectors m.flash m.ram r (row_place row + i) (λ q. n (omega arith))
 
-  pub row-untouched : (m : Memories) (c : Command) → touchesRow row c ≡ false → SameRow row m.flash (acted sectors m c).flash
-  row-untouched m (Read r at) e = λ i l. refl
-  row-untouched m (Write r at) e = row-unwritten m r at (or-false-left (eqb row r) false e)
-  row-untouched m (Erase r) e = row-unerased m r e
-  row-untouched m Nothing e = λ i l. refl
+  pub row_untouched : (m : Memories) (c : Command) → touches_row row c ≡ false → SameRow row m.flash (acted sectors m c).flash
+  row_untouched m (Read r at) e = λ i l. refl
+  row_untouched m (Write r at) e = row_unwritten m r at (or_false_left (eqb row r) false e)
+  row_untouched m (Erase r) e = row_unerased m r e
+  row_untouched m Nothing e = λ i l. refl
 
-  pub row-full : (m : Memories) (c : Command) → erasesRow row c ≡ false → empty_at m.flash (rowPlace row) ≡ false → SameRow row m.flash (acted sectors m c).flash
-  row-full m (Read r at) e full = λ i l. refl
-  row-full m (Write r at) e full =
+  pub row_full : (m : Memories) (c : Command) → erases_row row c ≡ false → empty_at m.flash (row_place row) ≡ false → SameRow row m.flash (acted sectors m c).flash
+  row_full m (Read r at) e full = λ i l. refl
+  row_full m (Write r at) e full =
       cases (eqb row r)
       (λ x.
       let same : row ≡ r = eqb-true row r x in
-      let no : writable sectors m.flash m.ram r at ≡ false = write-full sectors m.flash m.ram r at (rw same at full) in
-      λ i l. ap (λ (n : Memories). rowWord n.flash row i) (dropped sectors m (Write r at) no))
-      (λ x. row-unwritten m r at x)
-  row-full m (Erase r) e full = row-unerased m r e
-  row-full m Nothing e full = λ i l. refl
+      let no : writable sectors m.flash m.ram r at ≡ false = write_full sectors m.flash m.ram r at (rw same at full) in
+      λ i l. ap (λ (n : Memories). row_word n.flash row i) (dropped sectors m (Write r at) no))
+      (λ x. row_unwritten m r at x)
+  row_full m (Erase r) e full = row_unerased m r e
+  row_full m Nothing e full = λ i l. refl
 
   -- and so for a list of commands
-  pub row-untouched-all : (m : Memories) (cs : List Command) → Each (λ c. touchesRow row c ≡ false) cs → SameRow row m.flash (actedAll sectors m cs).flash
-  row-untouched-all m [] none i l = refl
-  row-untouched-all m (c ∷ cs) (also e es) i l = row-untouched-all (acted sectors m c) cs es i l ∙ row-untouched m c e i l
+  pub row_untouched_all : (m : Memories) (cs : List Command) → Each (λ c. touches_row row c ≡ false) cs → SameRow row m.flash (acted_all sectors m cs).flash
+  row_untouched_all m [] none i l = refl
+  row_untouched_all m (c ∷ cs) (also e es) i l = row_untouched_all (acted sectors m c) cs es i l ∙ row_untouched m c e i l
 
-  pub row-full-all : (m : Memories) (cs : List Command) → Each (λ c. erasesRow row c ≡ false) cs → empty_at m.flash (rowPlace row) ≡ false
-      → SameRow row m.flash (actedAll sectors m cs).flash
-  row-full-all m [] none full i l = refl
-  row-full-all m (c ∷ cs) (also e es) full i l =
-      let one : SameRow row m.flash (acted sectors m c).flash = row-full m c e full in
-      row-full-all (acted sectors m c) cs es (empty-as (acted sectors m c).flash (rowPlace row) m.flash (rowPlace row) one ∙ full) i l ∙ one i l
+  pub row_full_all : (m : Memories) (cs : List Command) → Each (λ c. erases_row row c ≡ false) cs → empty_at m.flash (row_place row) ≡ false
+      → SameRow row m.flash (acted_all sectors m cs).flash
+  row_full_all m [] none full i l = refl
+  row_full_all m (c ∷ cs) (also e es) full i l =
+      let one : SameRow row m.flash (acted sectors m c).flash = row_full m c e full in
+      row_full_all (acted sectors m c) cs es (empty_as (acted sectors m c).flash (row_place row) m.flash (row_place row) one ∙ full) i l ∙ one i l
 
 -- what was written is read back, to whatever address of the RAM, after any commands that leave the row as it is
 module _ (sectors : ℕ) (m : Memories) (row : ℕ) (at : Console) (cs : List Command) (to : Console) where
-  module _ (w : commandActs sectors m (Write row at) ≡ true) (reached : ramLent (length m.ram) to ≡ true) where
-    abbrev afterWrite : Memories
-    afterWrite = acted sectors m (Write row at)
+  module _ (w : command_acts sectors m (Write row at) ≡ true) (reached : ram_lent (length m.ram) to ≡ true) where
+    abbrev after_write : Memories
+    after_write = acted sectors m (Write row at)
 
-    abbrev afterAll : Memories
-    afterAll = actedAll sectors afterWrite cs
+    abbrev after_all : Memories
+    after_all = acted_all sectors after_write cs
 
-    reads : readable sectors afterAll.flash afterAll.ram row to ≡ true
+    reads : readable sectors after_all.flash after_all.ram row to ≡ true
     reads =
-        readable_of sectors afterAll.flash afterAll.ram row to
-        (ap (λ (n : ℕ). rowLent sectors n row) (length-flash-all sectors m (Write row at ∷ cs)) ∙ writable-row sectors m.flash m.ram row at w)
-        (ap (λ (n : ℕ). ramLent n to) (length-ram-all sectors m (Write row at ∷ cs)) ∙ reached)
+        readable_of sectors after_all.flash after_all.ram row to
+        (ap (λ (n : ℕ). row_lent sectors n row) (length_flash_all sectors m (Write row at ∷ cs)) ∙ writable_row sectors m.flash m.ram row at w)
+        (ap (λ (n : ℕ). ram_lent n to) (length_ram_all sectors m (Write row at ∷ cs)) ∙ reached)
 
-    back : SameRow row afterWrite.flash afterAll.flash → ReadBack sectors m row at cs to
+    back : SameRow row after_write.flash after_all.flash → ReadBack sectors m row at cs to
     back kept i l =
-        read-in sectors afterAll.flash afterAll.ram row to reads i l ∙ kept i l ∙ write-in sectors m.flash m.ram row at w i l
+        read_in sectors after_all.flash after_all.ram row to reads i l ∙ kept i l ∙ write_in sectors m.flash m.ram row at w i l
 
     -- none writes the row again or erases its sector
-    pub read_back : Each (λ c. touchesRow row c ≡ false) cs → ReadBack sectors m row at cs to
-    read_back e = back (row-untouched-all sectors row afterWrite cs e)
+    pub read_back : Each (λ c. touches_row row c ≡ false) cs → ReadBack sectors m row at cs to
+    read_back e = back (row_untouched_all sectors row after_write cs e)
 
     -- none erases its sector, and what was written was not all $FFFF: a row of $FFFF is empty still, and takes another write
-    pub read-back-full : Each (λ c. erasesRow row c ≡ false) cs → empty_at m.ram (ramPlace at) ≡ false → ReadBack sectors m row at cs to
-    read-back-full e full =
+    pub read_back_full : Each (λ c. erases_row row c ≡ false) cs → empty_at m.ram (ram_place at) ≡ false → ReadBack sectors m row at cs to
+    read_back_full e full =
         back
-        (row-full-all sectors row afterWrite cs e
-        (empty-as afterWrite.flash (rowPlace row) m.ram (ramPlace at) (write-in sectors m.flash m.ram row at w) ∙ full))
+        (row_full_all sectors row after_write cs e
+        (empty_as after_write.flash (row_place row) m.ram (ram_place at) (write_in sectors m.flash m.ram row at w) ∙ full))

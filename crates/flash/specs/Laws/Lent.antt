@@ -4,85 +4,85 @@ use Rattle.std.proofs.Math.Bool.{Bool, true}
 use Rattle.std.proofs.Common.{arith}
 use Rattle.std.proofs.Math.Dec.{leb}
 use borrow.Author.Tests.{ltb-true, leb-true, lt-ltb, le-ltb, le-leb, lt-leb}
-use Rattle.basics.specs.Laws.Tests.{and_left, and_right, and-true, and-false, same_test}
+use Rattle.basics.specs.Laws.Tests.{and_left, and_right, and_true, and_false, same_test}
 use Rattle.places.specs.declared.Console.{Console}
 use Rattle.places.specs.Limits.{lent}
-use Rattle.flash.specs.Flash.{rowWords, sectorRows, sectorWords, ramStart, ramEnd, rowPlace, sectorPlace, ramPlace, in_range, rowLent, sectorLent, ramLent, readable, writable}
+use Rattle.flash.specs.Flash.{row_words, sector_rows, sector_words, ram_start, ram_end, row_place, sector_place, ram_place, in_range, row_lent, sector_lent, ram_lent, readable, writable}
 
 module _ (sectors words row : ℕ) where
-  pub row_in : rowLent sectors words row ≡ true → (row < sectorRows * sectors) × (rowPlace row + rowWords ≤ words)
-  unfolding rowLent
+  pub row_in : row_lent sectors words row ≡ true → (row < sector_rows * sectors) × (row_place row + row_words ≤ words)
+  unfolding row_lent
   row_in e =
       let there : Bool = in_range sectors row in
-      let whole : Bool = leb (rowPlace row + rowWords) words in
+      let whole : Bool = leb (row_place row + row_words) words in
       (ltb-true _ _ (and_left there whole e), leb-true _ _ (and_right there whole e))
 
-  pub row-of : row < sectorRows * sectors → rowPlace row + rowWords ≤ words → rowLent sectors words row ≡ true
-  unfolding rowLent
-  row-of h k = and-true _ _ (lt-ltb _ _ h) (le-leb _ _ k)
+  pub row_of_lem : row < sector_rows * sectors → row_place row + row_words ≤ words → row_lent sectors words row ≡ true
+  unfolding row_lent
+  row_of_lem h k = and_true _ _ (lt-ltb _ _ h) (le-leb _ _ k)
 
   -- a row past the range, and one that a lent flash does not hold whole
-  pub row-past : sectorRows * sectors ≤ row → rowLent sectors words row ≡ false
-  unfolding rowLent
-  row-past h = rw (le-ltb _ _ h)
+  pub row_past : sector_rows * sectors ≤ row → row_lent sectors words row ≡ false
+  unfolding row_lent
+  row_past h = rw (le-ltb _ _ h)
 
-  pub row-short : words < rowPlace row + rowWords → rowLent sectors words row ≡ false
-  unfolding rowLent
-  row-short h = and-false (in_range sectors row) _ (lt-leb _ _ h)
+  pub row_short : words < row_place row + row_words → row_lent sectors words row ≡ false
+  unfolding row_lent
+  row_short h = and_false (in_range sectors row) _ (lt-leb _ _ h)
 
-  pub sector-in : sectorLent sectors words row ≡ true → (row < sectorRows * sectors) × (sectorPlace row + sectorWords ≤ words)
-  unfolding sectorLent
-  sector-in e =
+  pub sector_in : sector_lent sectors words row ≡ true → (row < sector_rows * sectors) × (sector_place row + sector_words ≤ words)
+  unfolding sector_lent
+  sector_in e =
       let there : Bool = in_range sectors row in
-      let whole : Bool = leb (sectorPlace row + sectorWords) words in
+      let whole : Bool = leb (sector_place row + sector_words) words in
       (ltb-true _ _ (and_left there whole e), leb-true _ _ (and_right there whole e))
 
-  pub sector-of : row < sectorRows * sectors → sectorPlace row + sectorWords ≤ words → sectorLent sectors words row ≡ true
-  unfolding sectorLent
-  sector-of h k = and-true _ _ (lt-ltb _ _ h) (le-leb _ _ k)
+  pub sector_of : row < sector_rows * sectors → sector_place row + sector_words ≤ words → sector_lent sectors words row ≡ true
+  unfolding sector_lent
+  sector_of h k = and_true _ _ (lt-ltb _ _ h) (le-leb _ _ k)
 
   -- a sector holds its row
-  pub sector-row : sectorLent sectors words row ≡ true → rowLent sectors words row ≡ true
-  sector-row e = row-of (sector-in e).0 (omega (arith, (sector-in e).1))
+  pub sector_row : sector_lent sectors words row ≡ true → row_lent sectors words row ≡ true
+  sector_row e = row_of_lem (sector_in e).0 (omega (arith, (sector_in e).1))
 
 module _ (words : ℕ) (at : Console) where
-  pub ram-in : ramLent words at ≡ true → (ramStart ≤ at.0) × (at.0 + rowWords ≤ ramEnd + 1) × (ramPlace at + rowWords ≤ words)
-  unfolding ramLent
-  ram-in e =
-      let low : Bool = leb ramStart at.0 in
-      let high : Bool = leb (at.0 + rowWords) (ramEnd + 1) in
-      let whole : Bool = leb (ramPlace at + rowWords) words in
+  pub ram_in_lem : ram_lent words at ≡ true → (ram_start ≤ at.0) × (at.0 + row_words ≤ ram_end + 1) × (ram_place at + row_words ≤ words)
+  unfolding ram_lent
+  ram_in_lem e =
+      let low : Bool = leb ram_start at.0 in
+      let high : Bool = leb (at.0 + row_words) (ram_end + 1) in
+      let whole : Bool = leb (ram_place at + row_words) words in
       let rest : high && whole ≡ true = and_right low (high && whole) e in
       (leb-true _ _ (and_left low (high && whole) e), leb-true _ _ (and_left high whole rest), leb-true _ _ (and_right high whole rest))
 
-  pub ram-of : ramStart ≤ at.0 → at.0 + rowWords ≤ ramEnd + 1 → ramPlace at + rowWords ≤ words → ramLent words at ≡ true
-  unfolding ramLent
-  ram-of h k l = and-true _ _ (le-leb _ _ h) (and-true _ _ (le-leb _ _ k) (le-leb _ _ l))
+  pub ram_of_lem : ram_start ≤ at.0 → at.0 + row_words ≤ ram_end + 1 → ram_place at + row_words ≤ words → ram_lent words at ≡ true
+  unfolding ram_lent
+  ram_of_lem h k l = and_true _ _ (le-leb _ _ h) (and_true _ _ (le-leb _ _ k) (le-leb _ _ l))
 
 -- the RAM that commands reach lies far below the 524,288 words that count, so that a RAM's own length may be asked
-pub ram-counts : (ram : List ℕ) (at : Console) → ramLent (length ram) at ≡ ramLent (lent ram) at
-ram-counts ram at =
+pub ram_counts : (ram : List ℕ) (at : Console) → ram_lent (length ram) at ≡ ram_lent (lent ram) at
+ram_counts ram at =
     same_test _ _
-    (λ e. ram-of (lent ram) at (ram-in (length ram) at e).0 (ram-in (length ram) at e).1 (omega (arith, ram-in (length ram) at e)))
-    (λ e. ram-of (length ram) at (ram-in (lent ram) at e).0 (ram-in (lent ram) at e).1 (omega (arith, ram-in (lent ram) at e)))
+    (λ e. ram_of_lem (lent ram) at (ram_in_lem (length ram) at e).0 (ram_in_lem (length ram) at e).1 (omega (arith, ram_in_lem (length ram) at e)))
+    (λ e. ram_of_lem (length ram) at (ram_in_lem (lent ram) at e).0 (ram_in_lem (lent ram) at e).1 (omega (arith, ram_in_lem (lent ram) at e)))
 
 -- a command that acts has its row and its RAM
 module _ (sectors : ℕ) (flash ram : List ℕ) (row : ℕ) (at : Console) where
-  pub readable_row : readable sectors flash ram row at ≡ true → rowLent sectors (length flash) row ≡ true
+  pub readable_row : readable sectors flash ram row at ≡ true → row_lent sectors (length flash) row ≡ true
   unfolding readable
-  readable_row e = and_left (rowLent sectors (length flash) row) _ e
+  readable_row e = and_left (row_lent sectors (length flash) row) _ e
 
-  pub readable-ram : readable sectors flash ram row at ≡ true → ramLent (length ram) at ≡ true
+  pub readable_ram : readable sectors flash ram row at ≡ true → ram_lent (length ram) at ≡ true
   unfolding readable
-  readable-ram e = and_right (rowLent sectors (length flash) row) _ e
+  readable_ram e = and_right (row_lent sectors (length flash) row) _ e
 
-  pub readable_of : rowLent sectors (length flash) row ≡ true → ramLent (length ram) at ≡ true → readable sectors flash ram row at ≡ true
+  pub readable_of : row_lent sectors (length flash) row ≡ true → ram_lent (length ram) at ≡ true → readable sectors flash ram row at ≡ true
   unfolding readable
-  readable_of e f = and-true _ _ e f
+  readable_of e f = and_true _ _ e f
 
-  pub writable-readable : writable sectors flash ram row at ≡ true → readable sectors flash ram row at ≡ true
+  pub writable_readable : writable sectors flash ram row at ≡ true → readable sectors flash ram row at ≡ true
   unfolding writable
-  writable-readable e = and_left (readable sectors flash ram row at) _ e
+  writable_readable e = and_left (readable sectors flash ram row at) _ e
 
-  pub writable-row : writable sectors flash ram row at ≡ true → rowLent sectors (length flash) row ≡ true
-  writable-row e = readable_row (writable-readable e)
+  pub writable_row : writable sectors flash ram row at ≡ true → row_lent sectors (length flash) row ≡ true
+  writable_row e = readable_row (writable_readable e)

@@ -4,26 +4,26 @@ use mathlib.Core.Path.{◌≡◌}
 use lib.ListN.{length, drop}
 use borrow.Author.Rules.{rules}
 use Rattle.text.specs.Bytes.{until}
-use Rattle.text.specs.Laws.Bytes.{until-past}
-use Rattle.grammar.specs.Code.Steps.{isBlank, endsRun, runEnd}
-use Rattle.grammar.proofs.Words.{run_ends, run-goes-on}
+use Rattle.text.specs.Laws.Bytes.{until_past}
+use Rattle.grammar.specs.Code.Steps.{is_blank, ends_run, run_end}
+use Rattle.grammar.proofs.Words.{run_ends, run_goes_on}
 use Rattle.grammar.proofs.blanks_end.Statement.{statement}
 use Rattle.grammar.proofs.blanks_end.Tie as tie
 
 abbrev invariant-loop : tie.invariant-loop
-invariant-loop line at i₀ i = runEnd isBlank line at ≡ i + until (endsRun isBlank) (drop i line)
+invariant-loop line at i₀ i = run_end is_blank line at ≡ i + until (ends_run is_blank) (drop i line)
 
 abbrev decreases-loop : tie.decreases-loop
 decreases-loop line at i₀ i = length line - i
 
 returns : tie.Need-returns invariant-loop decreases-loop
-returns c = search (run_ends isBlank)
+returns c = search (run_ends is_blank)
 
 loop-again : tie.Need-loop-preserved invariant-loop decreases-loop
-loop-again c = search (run-goes-on isBlank)
+loop-again c = search (run_goes_on is_blank)
 
 returns-2 : tie.Need-returns-2 invariant-loop decreases-loop
-returns-2 c = search (until-past (endsRun isBlank))
+returns-2 c = search (until_past (ends_run is_blank))
 
 pub blanks-end-spec : {M : Type 1} → statement M
 blanks-end-spec =

@@ -1,21 +1,21 @@
 -- `grammar::heading_line` meets its contract: the code's tests are the definition's.
 use borrow.Author.Rules.{rules}
-use Rattle.grammar.specs.Grammar.{headingLine}
-use Rattle.grammar.proofs.Entries.{by_first, by-second, by-neither}
+use Rattle.grammar.specs.Grammar.{heading_line}
+use Rattle.grammar.proofs.Entries.{by_first, by_second, by_neither}
 use Rattle.grammar.proofs.heading_line.Statement.{statement}
 use Rattle.grammar.proofs.heading_line.Tie as tie
 
 returns : tie.Need-returns
-unfolding headingLine
+unfolding heading_line
 returns c = search by_first
 
 returns-2 : tie.Need-returns-2
-unfolding headingLine
-returns-2 c = search by-second
+unfolding heading_line
+returns-2 c = search by_second
 
 returns-3 : tie.Need-returns-3
-unfolding headingLine
-returns-3 c = search by-neither
+unfolding heading_line
+returns-3 c = search by_neither
 
 pub heading-line-spec : {M : Type 1} → statement M
 heading-line-spec =

@@ -1,6 +1,6 @@
 -- `grammar::is_blank` meets its contract: an arm for each kind.
 use borrow.Author.Rules.{rules}
-use Rattle.grammar.specs.Code.Steps.{isBlank}
+use Rattle.grammar.specs.Code.Steps.{is_blank}
 use Rattle.grammar.proofs.Words.{told}
 use Rattle.grammar.proofs.is_blank.Statement.{statement}
 use Rattle.grammar.proofs.is_blank.Tie as tie
@@ -14,7 +14,7 @@ is-blank-spec =
     (λ c. search rules)
     (λ c. search rules)
     (λ c. search rules)
-    (λ c. search (told isBlank))
-    (λ c. search (told isBlank))
-    (λ c. search (told isBlank))
-    (λ c. search (told isBlank)))
+    (λ c. search (told is_blank))
+    (λ c. search (told is_blank))
+    (λ c. search (told is_blank))
+    (λ c. search (told is_blank)))

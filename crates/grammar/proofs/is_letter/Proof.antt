@@ -1,6 +1,6 @@
 -- `grammar::is_letter` meets its contract: an arm for each kind.
 use borrow.Author.Rules.{rules}
-use Rattle.grammar.specs.Code.Steps.{isLetter}
+use Rattle.grammar.specs.Code.Steps.{is_letter}
 use Rattle.grammar.proofs.Words.{told}
 use Rattle.grammar.proofs.is_letter.Statement.{statement}
 use Rattle.grammar.proofs.is_letter.Tie as tie
@@ -14,7 +14,7 @@ is-letter-spec =
     (λ c. search rules)
     (λ c. search rules)
     (λ c. search rules)
-    (λ c. search (told isLetter))
-    (λ c. search (told isLetter))
-    (λ c. search (told isLetter))
-    (λ c. search (told isLetter)))
+    (λ c. search (told is_letter))
+    (λ c. search (told is_letter))
+    (λ c. search (told is_letter))
+    (λ c. search (told is_letter)))

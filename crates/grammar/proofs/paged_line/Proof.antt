@@ -1,15 +1,15 @@
 -- `grammar::paged_line` meets its contract: straight calls, so what each ensures is put in.
 use borrow.Author.Rules.{rules}
-use Rattle.grammar.specs.Laws.Grammar.{after-fits, digit-fits}
-use Rattle.grammar.proofs.Entries.{paged-words}
+use Rattle.grammar.specs.Laws.Grammar.{after_fits, digit_fits}
+use Rattle.grammar.proofs.Entries.{paged_words_lem}
 use Rattle.grammar.proofs.paged_line.Statement.{statement}
 use Rattle.grammar.proofs.paged_line.Tie as tie
 
 paged-of-requires : tie.Need-paged-of-requires
-paged-of-requires c κs = search (after-fits, digit-fits)
+paged-of-requires c κs = search (after_fits, digit_fits)
 
 returns : tie.Need-returns
-returns c = search paged-words
+returns c = search paged_words_lem
 
 pub paged-line-spec : {M : Type 1} → statement M
 paged-line-spec =

@@ -1,22 +1,22 @@
 -- `grammar::ram_of` meets its contract: each number that is taken apart decides a step of the definition.
 use borrow.Author.Rules.{rules}
-use Rattle.grammar.specs.Code.Steps.{ramOf}
+use Rattle.grammar.specs.Code.Steps.{ram_of}
 use Rattle.grammar.proofs.Numbers.{word_fits}
-use Rattle.grammar.proofs.Entries.{bind_is, bind-not}
+use Rattle.grammar.proofs.Entries.{bind_is, bind_not}
 use Rattle.grammar.proofs.ram_of.Statement.{statement}
 use Rattle.grammar.proofs.ram_of.Tie as tie
 
 returns : tie.Need-returns
-unfolding ramOf
-returns c = search (bind_is, bind-not)
+unfolding ram_of
+returns c = search (bind_is, bind_not)
 
 returns-2 : tie.Need-returns-2
-unfolding ramOf
-returns-2 c = search (bind_is, bind-not)
+unfolding ram_of
+returns-2 c = search (bind_is, bind_not)
 
 returns-3 : tie.Need-returns-3
-unfolding ramOf
-returns-3 c = search (bind_is, bind-not)
+unfolding ram_of
+returns-3 c = search (bind_is, bind_not)
 
 cast-t7 : tie.Need-overflow-cast-t7
 cast-t7 c = search (rules, word_fits)
@@ -25,7 +25,7 @@ cast-t9 : tie.Need-overflow-cast-t9
 cast-t9 c = search (rules, word_fits)
 
 returns-4 : tie.Need-returns-4
-unfolding ramOf
+unfolding ram_of
 returns-4 c = search (bind_is, c.width_of_lem.ensures)
 
 pub ram-of-spec : {M : Type 1} → statement M

@@ -1,15 +1,15 @@
 -- `grammar::rom_line` meets its contract: straight calls, so what each ensures is put in.
 use borrow.Author.Rules.{rules}
-use Rattle.grammar.specs.Laws.Grammar.{after-fits}
-use Rattle.grammar.proofs.Entries.{rom-words}
+use Rattle.grammar.specs.Laws.Grammar.{after_fits}
+use Rattle.grammar.proofs.Entries.{rom_words_lem}
 use Rattle.grammar.proofs.rom_line.Statement.{statement}
 use Rattle.grammar.proofs.rom_line.Tie as tie
 
 rom-of-requires : tie.Need-rom-of-requires
-rom-of-requires c κs = search (after-fits)
+rom-of-requires c κs = search (after_fits)
 
 returns : tie.Need-returns
-returns c = search rom-words
+returns c = search rom_words_lem
 
 pub rom-line-spec : {M : Type 1} → statement M
 rom-line-spec =

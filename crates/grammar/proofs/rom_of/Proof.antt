@@ -1,28 +1,28 @@
 -- `grammar::rom_of` meets its contract: each number that is taken apart decides a step of the definition.
 use borrow.Author.Rules.{rules}
-use Rattle.grammar.specs.Code.Steps.{romOf}
+use Rattle.grammar.specs.Code.Steps.{rom_of}
 use Rattle.grammar.proofs.Numbers.{word_fits}
-use Rattle.grammar.proofs.Entries.{bind_is, bind-not}
+use Rattle.grammar.proofs.Entries.{bind_is, bind_not}
 use Rattle.grammar.proofs.rom_of.Statement.{statement}
 use Rattle.grammar.proofs.rom_of.Tie as tie
 
 returns : tie.Need-returns
-unfolding romOf
-returns c = search (bind_is, bind-not)
+unfolding rom_of
+returns c = search (bind_is, bind_not)
 
 returns-2 : tie.Need-returns-2
-unfolding romOf
-returns-2 c = search (bind_is, bind-not)
+unfolding rom_of
+returns-2 c = search (bind_is, bind_not)
 
 returns-3 : tie.Need-returns-3
-unfolding romOf
-returns-3 c = search (bind_is, bind-not)
+unfolding rom_of
+returns-3 c = search (bind_is, bind_not)
 
 cast-t9 : tie.Need-overflow-cast-t9
 cast-t9 c = search (rules, word_fits)
 
 returns-4 : tie.Need-returns-4
-unfolding romOf
+unfolding rom_of
 returns-4 c = search bind_is
 
 pub rom-of-spec : {M : Type 1} → statement M

@@ -4,7 +4,7 @@ use mathlib.Core.Path.{◌≡◌}
 use lib.ListN.{length, drop}
 use borrow.Author.Rules.{rules}
 use Rattle.grammar.specs.Words.{words_of, word}
-use Rattle.grammar.proofs.Words.{pass-word, found_word}
+use Rattle.grammar.proofs.Words.{pass_word, found_word}
 use Rattle.grammar.proofs.word_at.Statement.{statement}
 use Rattle.grammar.proofs.word_at.Tie as tie
 
@@ -15,7 +15,7 @@ abbrev decreases-loop : tie.decreases-loop
 decreases-loop line k at₀ left₀ at left = left
 
 loop-again : tie.Need-loop-preserved invariant-loop decreases-loop
-loop-again c = search (rules, pass-word)
+loop-again c = search (rules, pass_word)
 
 returns : tie.Need-returns invariant-loop decreases-loop
 returns c = search (rules, found_word)

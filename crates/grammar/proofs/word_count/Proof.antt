@@ -4,7 +4,7 @@ use mathlib.Core.Path.{◌≡◌}
 use lib.ListN.{length, drop}
 use borrow.Author.Rules.{rules}
 use Rattle.grammar.specs.Words.{words_of}
-use Rattle.grammar.proofs.Words.{count_none, count-more, count-end}
+use Rattle.grammar.proofs.Words.{count_none, count_more, count_end}
 use Rattle.grammar.proofs.word_count.Statement.{statement}
 use Rattle.grammar.proofs.word_count.Tie as tie
 
@@ -18,10 +18,10 @@ returns : tie.Need-returns invariant-loop decreases-loop
 returns c = search (rules, count_none)
 
 loop-again : tie.Need-loop-preserved invariant-loop decreases-loop
-loop-again c = search (rules, count-more)
+loop-again c = search (rules, count_more)
 
 returns-2 : tie.Need-returns-2 invariant-loop decreases-loop
-returns-2 c = search (rules, count-end)
+returns-2 c = search (rules, count_end)
 
 pub word-count-spec : {M : Type 1} → statement M
 word-count-spec =

@@ -12,24 +12,24 @@ use Rattle.grammar.specs.declared.Says.TheVariants.{Claims}
 use Rattle.grammar.specs.Words.{words_of, kind_of, push}
 use Rattle.grammar.specs.Grammar.{◌>>=◌, rom, paged, ram, width_of}
 
-abbrev pub isBlank : Kind → Bool
-isBlank Blank = true
-isBlank Sign = false
-isBlank Comment = false
-isBlank Letter = false
+abbrev pub is_blank : Kind → Bool
+is_blank Blank = true
+is_blank Sign = false
+is_blank Comment = false
+is_blank Letter = false
 
-abbrev pub isLetter : Kind → Bool
-isLetter Blank = false
-isLetter Sign = false
-isLetter Comment = false
-isLetter Letter = true
+abbrev pub is_letter : Kind → Bool
+is_letter Blank = false
+is_letter Sign = false
+is_letter Comment = false
+is_letter Letter = true
 
 -- where the bytes of a kind end that stand at a place
-abbrev pub endsRun : (Kind → Bool) → ℕ → ℕ → Bool
-endsRun f b next = not (f (kind_of b))
+abbrev pub ends_run : (Kind → Bool) → ℕ → ℕ → Bool
+ends_run f b next = not (f (kind_of b))
 
-abbrev pub runEnd : (Kind → Bool) → List ℕ → ℕ → ℕ
-runEnd f s at = at + until (endsRun f) (drop at s)
+abbrev pub run_end : (Kind → Bool) → List ℕ → ℕ → ℕ
+run_end f s at = at + until (ends_run f) (drop at s)
 
 -- r is the first word of what stands from `at` on, before the words that stand from its end on; where r is no word, there is none
 pub record NextWord (s : List ℕ) (at : ℕ) (r : Word) : Type 0 where
@@ -44,23 +44,23 @@ abbrev pub Below : ℕ → Number → Type 0
 Below m x = (n : ℕ) → x ≡ Is n → n < m
 
 -- an entry of numbers that may be missing
-unfoldable pub romOf : Number → Number → Number → Says
-romOf a b c = do
+unfoldable pub rom_of : Number → Number → Number → Says
+rom_of a b c = do
   lo ← a
   hi ← b
   at ← c
   Claims (rom lo hi at)
 
-unfoldable pub pagedOf : Number → Number → Number → Number → Says
-pagedOf a b c d = do
+unfoldable pub paged_of : Number → Number → Number → Number → Says
+paged_of a b c d = do
   lo ← a
   hi ← b
   at ← c
   y ← d
   Claims (paged lo hi at y)
 
-unfoldable pub ramOf : Number → Number → Number → Says
-ramOf a b c = do
+unfoldable pub ram_of : Number → Number → Number → Says
+ram_of a b c = do
   lo ← a
   hi ← b
   n ← c

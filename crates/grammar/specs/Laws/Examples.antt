@@ -8,7 +8,7 @@ use Rattle.grammar.specs.declared.Section.TheVariants.{Nowhere, Mapping, Memattr
 use Rattle.grammar.specs.declared.Says.TheVariants.{Blank, Heading, Outside, Claims}
 use Rattle.text.specs.Bytes.{text}
 use Rattle.text.specs.Spelling.{same}
-use Rattle.grammar.specs.Grammar.{rom, paged, ram, hexFrom, dollar, oneDigit, bits, ◌>>=◌, romLine, pagedLine, ramLine, mappingLine, memattrLine, headingLine, wordsSay, lineSays}
+use Rattle.grammar.specs.Grammar.{rom, paged, ram, hex_from, dollar, one_digit, bits, ◌>>=◌, rom_line, paged_line, ram_line, mapping_line, memattr_line, heading_line, words_say, line_says}
 use Rattle.grammar.specs.Words.{cut}
 
 -- a line, the section that it stands in, and what it says
@@ -72,6 +72,6 @@ examples =
     ("$8000 - $80FF = RAM 8" within Mapping says Outside) ∷
     []
 
-pub each-says : map (λ (e : Example). lineSays e.section (text e.line)) examples ≡ map (λ (e : Example). e.says) examples
-unfolding wordsSay mappingLine memattrLine headingLine romLine pagedLine ramLine ◌>>=◌ dollar oneDigit bits hexFrom same cut
-each-says = refl
+pub each_says : map (λ (e : Example). line_says e.section (text e.line)) examples ≡ map (λ (e : Example). e.says) examples
+unfolding words_say mapping_line memattr_line heading_line rom_line paged_line ram_line ◌>>=◌ dollar one_digit bits hex_from same cut
+each_says = refl

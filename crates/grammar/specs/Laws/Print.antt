@@ -5,12 +5,12 @@ use Rattle.std.proofs.Common.{◌∙◌, ap, arith, le-leb, ltb-false, ltb-true,
 use Rattle.std.proofs.lemmas.Bool.{lt-leb}
 use Rattle.basics.specs.Laws.Tests.{cases}
 use Rattle.text.specs.Bytes.{text}
-use Rattle.text.specs.Spelling.{digitOf, same, upperDigit}
+use Rattle.text.specs.Spelling.{digit_of, same, upper_digit}
 use Rattle.lines.specs.declared.Width.{Width}
 use Rattle.lines.specs.declared.Width.TheVariants.{Eight, Sixteen}
-use Rattle.grammar.specs.Grammar.{◌>>=◌, bits, dollar, headingLine, hexFrom, lineSays, mappingLine, memattrLine, oneDigit, paged, pagedLine, ram, ramLine, rom, romLine, wordsSay}
-use Rattle.grammar.specs.Print.{entryText, fiveDigits, fourDigits}
-use Rattle.grammar.specs.Words.{Cut, cut, wordsAfter}
+use Rattle.grammar.specs.Grammar.{◌>>=◌, bits, dollar, heading_line, hex_from, line_says, mapping_line, memattr_line, one_digit, paged, paged_line, ram, ram_line, rom, rom_line, words_say}
+use Rattle.grammar.specs.Print.{entry_text, five_digits, four_digits}
+use Rattle.grammar.specs.Words.{Cut, cut, words_after}
 use Rattle.grammar.specs.declared.Number.TheVariants.{Is}
 use Rattle.grammar.specs.declared.Says.TheVariants.{Claims, Heading}
 use Rattle.grammar.specs.declared.Section.{Section}
@@ -23,22 +23,22 @@ lettered b c = record { front = b ∷ c.front; rest = c.rest }
 -- a digit's byte
 pub record Digit (b d : ℕ) : Type 0 where
   pub letter : (s : List ℕ) → cut (b ∷ s) ≡ lettered b (cut s)
-  pub value : digitOf b ≡ d
+  pub value : digit_of b ≡ d
   pub below : d < 16
 
-letter-is : (b : ℕ) → 48 ≤ b → b ≤ 70 → (b ≡ 59 → ⊥) → (b ≡ 61 → ⊥) → (s : List ℕ) → cut (b ∷ s) ≡ lettered b (cut s)
+letter_is : (b : ℕ) → 48 ≤ b → b ≤ 70 → (b ≡ 59 → ⊥) → (b ≡ 61 → ⊥) → (s : List ℕ) → cut (b ∷ s) ≡ lettered b (cut s)
 unfolding cut
-letter-is b l m n o s = rw (ne_eqb b 32 (omega arith), ne_eqb b 9 (omega arith), ne_eqb b 45 (omega arith), ne_eqb b 61 o, ne_eqb b 59 n)
+letter_is b l m n o s = rw (ne_eqb b 32 (omega arith), ne_eqb b 9 (omega arith), ne_eqb b 45 (omega arith), ne_eqb b 61 o, ne_eqb b 59 n)
 
-pub digit-is : (d : ℕ) → d < 16 → Digit (upperDigit d) d
-unfolding upperDigit
-digit-is d h =
+pub digit_is : (d : ℕ) → d < 16 → Digit (upper_digit d) d
+unfolding upper_digit
+digit_is d h =
     cases (ltb d 10)
     (λ e.
     let l : d < 10 = ltb-true d 10 e in
     rw e
     (record {
-      letter = letter-is (48 + d) (omega arith) (omega arith) (omega arith) (omega arith);
+      letter = letter_is (48 + d) (omega arith) (omega arith) (omega arith) (omega arith);
       value = rw (le-leb 48 (48 + d) (omega arith), le-leb (48 + d) 57 (omega arith)) (omega arith);
       below = h;
     }))
@@ -46,7 +46,7 @@ digit-is d h =
     let l : 10 ≤ d = ltb-false d 10 e in
     rw e
     (record {
-      letter = letter-is (65 + (d - 10)) (omega arith) (omega arith) (omega arith) (omega arith);
+      letter = letter_is (65 + (d - 10)) (omega arith) (omega arith) (omega arith) (omega arith);
       value =
           rw (
             le-leb 48 (65 + (d - 10)) (omega arith),
@@ -59,138 +59,138 @@ digit-is d h =
     }))
 
 -- a number's digits
-hex-more : (n b d : ℕ) (w : List ℕ) → Digit b d → hexFrom n (b ∷ w) ≡ hexFrom (n * 16 + d) w
-unfolding hexFrom
-hex-more n b d w i = rw (i.value, ne_eqb d 16 (omega (arith, i.below)))
+hex_more : (n b d : ℕ) (w : List ℕ) → Digit b d → hex_from n (b ∷ w) ≡ hex_from (n * 16 + d) w
+unfolding hex_from
+hex_more n b d w i = rw (i.value, ne_eqb d 16 (omega (arith, i.below)))
 
-hex-end : (n : ℕ) → hexFrom n [] ≡ Is n
-unfolding hexFrom
-hex-end n = refl
+hex_end : (n : ℕ) → hex_from n [] ≡ Is n
+unfolding hex_from
+hex_end n = refl
 
 nibble : (n : ℕ) → n % 16 < 16
 nibble n = omega arith
 
-joined-four : (k a b c d n x y : ℕ) → n ≡ x * 16 + d → x ≡ y * 16 + c → y ≡ a * 16 + b → (((k * 16 + a) * 16 + b) * 16 + c) * 16 + d ≡ k * 65536 + n
-joined-four k a b c d n x y e f g = omega arith
+joined_four : (k a b c d n x y : ℕ) → n ≡ x * 16 + d → x ≡ y * 16 + c → y ≡ a * 16 + b → (((k * 16 + a) * 16 + b) * 16 + c) * 16 + d ≡ k * 65536 + n
+joined_four k a b c d n x y e f g = omega arith
 
-pub hex-four : (k n : ℕ) → n < 65536 → hexFrom k (upperDigit (n / 4096 % 16) ∷ upperDigit (n / 256 % 16) ∷ upperDigit (n / 16 % 16) ∷ upperDigit (n % 16) ∷ []) ≡ Is (k * 65536 + n)
-hex-four k n h =
+pub hex_four : (k n : ℕ) → n < 65536 → hex_from k (upper_digit (n / 4096 % 16) ∷ upper_digit (n / 256 % 16) ∷ upper_digit (n / 16 % 16) ∷ upper_digit (n % 16) ∷ []) ≡ Is (k * 65536 + n)
+hex_four k n h =
     let e : n ≡ n / 16 * 16 + n % 16 = omega arith in
     let f : n / 16 ≡ n / 256 * 16 + n / 16 % 16 = omega arith in
     let t : n / 4096 % 16 ≡ n / 4096 = omega arith in
     let g : n / 256 ≡ n / 4096 % 16 * 16 + n / 256 % 16 = rw t (omega arith) in
-    hex-more k _ _ _ (digit-is (n / 4096 % 16) (nibble (n / 4096)))
-    ∙ hex-more (k * 16 + n / 4096 % 16) _ _ _ (digit-is (n / 256 % 16) (nibble (n / 256)))
-    ∙ hex-more ((k * 16 + n / 4096 % 16) * 16 + n / 256 % 16) _ _ _ (digit-is (n / 16 % 16) (nibble (n / 16)))
-    ∙ hex-more (((k * 16 + n / 4096 % 16) * 16 + n / 256 % 16) * 16 + n / 16 % 16) _ _ _ (digit-is (n % 16) (nibble n))
-    ∙ hex-end ((((k * 16 + n / 4096 % 16) * 16 + n / 256 % 16) * 16 + n / 16 % 16) * 16 + n % 16)
-    ∙ ap Is (joined-four k (n / 4096 % 16) (n / 256 % 16) (n / 16 % 16) (n % 16) n (n / 16) (n / 256) e f g)
+    hex_more k _ _ _ (digit_is (n / 4096 % 16) (nibble (n / 4096)))
+    ∙ hex_more (k * 16 + n / 4096 % 16) _ _ _ (digit_is (n / 256 % 16) (nibble (n / 256)))
+    ∙ hex_more ((k * 16 + n / 4096 % 16) * 16 + n / 256 % 16) _ _ _ (digit_is (n / 16 % 16) (nibble (n / 16)))
+    ∙ hex_more (((k * 16 + n / 4096 % 16) * 16 + n / 256 % 16) * 16 + n / 16 % 16) _ _ _ (digit_is (n % 16) (nibble n))
+    ∙ hex_end ((((k * 16 + n / 4096 % 16) * 16 + n / 256 % 16) * 16 + n / 16 % 16) * 16 + n % 16)
+    ∙ ap Is (joined_four k (n / 4096 % 16) (n / 256 % 16) (n / 16 % 16) (n % 16) n (n / 16) (n / 256) e f g)
 
-pub dollar-four : (n : ℕ) → n < 65536 → dollar 4 (fourDigits n) ≡ Is n
+pub dollar_four : (n : ℕ) → n < 65536 → dollar 4 (four_digits n) ≡ Is n
 unfolding dollar
-dollar-four n h = hex-four 0 n h ∙ ap Is (omega arith)
+dollar_four n h = hex_four 0 n h ∙ ap Is (omega arith)
 
-pub dollar-five : (n : ℕ) → n < 0x100000 → dollar 5 (fiveDigits n) ≡ Is n
+pub dollar_five : (n : ℕ) → n < 0x100000 → dollar 5 (five_digits n) ≡ Is n
 unfolding dollar
-dollar-five n h =
+dollar_five n h =
     let t : n / 65536 % 16 ≡ n / 65536 = omega arith in
     let a : n % 65536 / 4096 % 16 ≡ n / 4096 % 16 = omega arith in
     let b : n % 65536 / 256 % 16 ≡ n / 256 % 16 = omega arith in
     let c : n % 65536 / 16 % 16 ≡ n / 16 % 16 = omega arith in
     let d : n % 65536 % 16 ≡ n % 16 = omega arith in
-    let e : hexFrom (0 * 16 + n / 65536 % 16) (upperDigit (n / 4096 % 16) ∷ upperDigit (n / 256 % 16) ∷ upperDigit (n / 16 % 16) ∷ upperDigit (n % 16) ∷ []) ≡ Is ((0 * 16 + n / 65536 % 16) * 65536 + n % 65536) =
-    rw (a, b, c, d) at (hex-four (0 * 16 + n / 65536 % 16) (n % 65536) (omega arith)) in
-    hex-more 0 _ _ _ (digit-is (n / 65536 % 16) (nibble (n / 65536))) ∙ e ∙ ap Is (rw t (omega arith))
+    let e : hex_from (0 * 16 + n / 65536 % 16) (upper_digit (n / 4096 % 16) ∷ upper_digit (n / 256 % 16) ∷ upper_digit (n / 16 % 16) ∷ upper_digit (n % 16) ∷ []) ≡ Is ((0 * 16 + n / 65536 % 16) * 65536 + n % 65536) =
+    rw (a, b, c, d) at (hex_four (0 * 16 + n / 65536 % 16) (n % 65536) (omega arith)) in
+    hex_more 0 _ _ _ (digit_is (n / 65536 % 16) (nibble (n / 65536))) ∙ e ∙ ap Is (rw t (omega arith))
 
-page-is : (y : ℕ) → y < 16 → oneDigit (upperDigit y ∷ []) ≡ Is y
-unfolding oneDigit
-page-is y h = hex-more 0 _ _ _ (digit-is y h) ∙ hex-end (0 * 16 + y) ∙ ap Is (omega arith)
+page_is : (y : ℕ) → y < 16 → one_digit (upper_digit y ∷ []) ≡ Is y
+unfolding one_digit
+page_is y h = hex_more 0 _ _ _ (digit_is y h) ∙ hex_end (0 * 16 + y) ∙ ap Is (omega arith)
 
 -- the words of an entry's text
-abbrev cutAs : List ℕ → List (List ℕ) → Cut
-cutAs w ws = record { front = w; rest = ws }
+abbrev cut_as : List ℕ → List (List ℕ) → Cut
+cut_as w ws = record { front = w; rest = ws }
 
 data Letters : List ℕ → Type 0 where
   none : Letters []
   more : {b : ℕ} {w : List ℕ} → ((s : List ℕ) → cut (b ∷ s) ≡ lettered b (cut s)) → Letters w → Letters (b ∷ w)
 
-cut-letters : {w : List ℕ} → Letters w → (s : List ℕ) (c : Cut) → cut s ≡ c → cut (w ++ s) ≡ cutAs (w ++ c.front) c.rest
-cut-letters none s c e = e
-cut-letters (more {b = b} {w = w} l ls) s c e = l (w ++ s) ∙ ap (lettered b) (cut-letters ls s c e)
+cut_letters : {w : List ℕ} → Letters w → (s : List ℕ) (c : Cut) → cut s ≡ c → cut (w ++ s) ≡ cut_as (w ++ c.front) c.rest
+cut_letters none s c e = e
+cut_letters (more {b = b} {w = w} l ls) s c e = l (w ++ s) ∙ ap (lettered b) (cut_letters ls s c e)
 
 sign : (s : List ℕ) → cut (code "$" ∷ s) ≡ lettered (code "$") (cut s)
 unfolding cut
 sign s = refl
 
-digit-letter : (n : ℕ) (s : List ℕ) → cut (upperDigit (n % 16) ∷ s) ≡ lettered (upperDigit (n % 16)) (cut s)
-digit-letter n s = (digit-is (n % 16) (nibble n)).letter s
+digit_letter : (n : ℕ) (s : List ℕ) → cut (upper_digit (n % 16) ∷ s) ≡ lettered (upper_digit (n % 16)) (cut s)
+digit_letter n s = (digit_is (n % 16) (nibble n)).letter s
 
-four-letters : (n : ℕ) → Letters (fourDigits n)
-four-letters n = more sign (more (digit-letter (n / 4096)) (more (digit-letter (n / 256)) (more (digit-letter (n / 16)) (more (digit-letter n) none))))
+four_letters : (n : ℕ) → Letters (four_digits n)
+four_letters n = more sign (more (digit_letter (n / 4096)) (more (digit_letter (n / 256)) (more (digit_letter (n / 16)) (more (digit_letter n) none))))
 
-five-letters : (n : ℕ) → Letters (fiveDigits n)
-five-letters n =
+five_letters : (n : ℕ) → Letters (five_digits n)
+five_letters n =
     more sign
-    (more (digit-letter (n / 65536)) (more (digit-letter (n / 4096)) (more (digit-letter (n / 256)) (more (digit-letter (n / 16)) (more (digit-letter n) none)))))
+    (more (digit_letter (n / 65536)) (more (digit_letter (n / 4096)) (more (digit_letter (n / 256)) (more (digit_letter (n / 16)) (more (digit_letter n) none)))))
 
-cut-end : cut [] ≡ cutAs [] []
+cut_end : cut [] ≡ cut_as [] []
 unfolding cut
-cut-end = refl
+cut_end = refl
 
-cut-dash : (s : List ℕ) (c : Cut) → cut s ≡ c → cut (text " - " ++ s) ≡ cutAs [] (text "-" ∷ wordsAfter c)
+cut_dash : (s : List ℕ) (c : Cut) → cut s ≡ c → cut (text " - " ++ s) ≡ cut_as [] (text "-" ∷ words_after c)
 unfolding cut
-cut-dash s c e = ap (λ (d : Cut). cutAs [] (text "-" ∷ wordsAfter d)) e
+cut_dash s c e = ap (λ (d : Cut). cut_as [] (text "-" ∷ words_after d)) e
 
-cut-equals : (s : List ℕ) (c : Cut) → cut s ≡ c → cut (text " = " ++ s) ≡ cutAs [] (text "=" ∷ wordsAfter c)
+cut_equals : (s : List ℕ) (c : Cut) → cut s ≡ c → cut (text " = " ++ s) ≡ cut_as [] (text "=" ∷ words_after c)
 unfolding cut
-cut-equals s c e = ap (λ (d : Cut). cutAs [] (text "=" ∷ wordsAfter d)) e
+cut_equals s c e = ap (λ (d : Cut). cut_as [] (text "=" ∷ words_after d)) e
 
-cut-page : (s : List ℕ) (c : Cut) → cut s ≡ c → cut (text " PAGE " ++ s) ≡ cutAs [] (text "PAGE" ∷ wordsAfter c)
+cut_page : (s : List ℕ) (c : Cut) → cut s ≡ c → cut (text " PAGE " ++ s) ≡ cut_as [] (text "PAGE" ∷ words_after c)
 unfolding cut
-cut-page s c e = ap (λ (d : Cut). cutAs [] (text "PAGE" ∷ wordsAfter d)) e
+cut_page s c e = ap (λ (d : Cut). cut_as [] (text "PAGE" ∷ words_after d)) e
 
-cut-sixteen : cut (text " = RAM 16") ≡ cutAs [] (text "=" ∷ text "RAM" ∷ text "16" ∷ [])
+cut_sixteen : cut (text " = RAM 16") ≡ cut_as [] (text "=" ∷ text "RAM" ∷ text "16" ∷ [])
 unfolding cut
-cut-sixteen = refl
+cut_sixteen = refl
 
-cut-eight : cut (text " = RAM 8") ≡ cutAs [] (text "=" ∷ text "RAM" ∷ text "8" ∷ [])
+cut_eight : cut (text " = RAM 8") ≡ cut_as [] (text "=" ∷ text "RAM" ∷ text "8" ∷ [])
 unfolding cut
-cut-eight = refl
+cut_eight = refl
 
 -- what it says
-pub rom-says : (lo hi at : ℕ) → lo < 0x100000 → hi < 0x100000 → at < 65536 → lineSays Mapping (entryText (rom lo hi at)) ≡ Claims (rom lo hi at)
-unfolding wordsSay mappingLine romLine ◌>>=◌ same
-rom-says lo hi at l h a =
-    ap (λ (c : Cut). wordsSay Mapping (wordsAfter c))
-    (cut-letters (five-letters lo) _ _
-    (cut-dash _ _ (cut-letters (five-letters hi) _ _ (cut-equals _ _ (cut-letters (four-letters at) [] (cutAs [] []) cut-end)))))
-    ∙ rw (dollar-five lo l, dollar-five hi h, dollar-four at a)
+pub rom_says : (lo hi at : ℕ) → lo < 0x100000 → hi < 0x100000 → at < 65536 → line_says Mapping (entry_text (rom lo hi at)) ≡ Claims (rom lo hi at)
+unfolding words_say mapping_line rom_line ◌>>=◌ same
+rom_says lo hi at l h a =
+    ap (λ (c : Cut). words_say Mapping (words_after c))
+    (cut_letters (five_letters lo) _ _
+    (cut_dash _ _ (cut_letters (five_letters hi) _ _ (cut_equals _ _ (cut_letters (four_letters at) [] (cut_as [] []) cut_end)))))
+    ∙ rw (dollar_five lo l, dollar_five hi h, dollar_four at a)
 
-pub paged-says : (lo hi at y : ℕ) → lo < 0x100000 → hi < 0x100000 → at < 65536 → y < 16 → lineSays Mapping (entryText (paged lo hi at y)) ≡ Claims (paged lo hi at y)
-unfolding wordsSay mappingLine pagedLine ◌>>=◌ same
-paged-says lo hi at y l h a b =
-    ap (λ (c : Cut). wordsSay Mapping (wordsAfter c))
-    (cut-letters (five-letters lo) _ _
-    (cut-dash _ _
-    (cut-letters (five-letters hi) _ _
-    (cut-equals _ _
-    (cut-letters (four-letters at) _ _ (cut-page _ _ (cut-letters (more (digit-is y b).letter none) [] (cutAs [] []) cut-end)))))))
-    ∙ rw (dollar-five lo l, dollar-five hi h, dollar-four at a, page-is y b)
+pub paged_says : (lo hi at y : ℕ) → lo < 0x100000 → hi < 0x100000 → at < 65536 → y < 16 → line_says Mapping (entry_text (paged lo hi at y)) ≡ Claims (paged lo hi at y)
+unfolding words_say mapping_line paged_line ◌>>=◌ same
+paged_says lo hi at y l h a b =
+    ap (λ (c : Cut). words_say Mapping (words_after c))
+    (cut_letters (five_letters lo) _ _
+    (cut_dash _ _
+    (cut_letters (five_letters hi) _ _
+    (cut_equals _ _
+    (cut_letters (four_letters at) _ _ (cut_page _ _ (cut_letters (more (digit_is y b).letter none) [] (cut_as [] []) cut_end)))))))
+    ∙ rw (dollar_five lo l, dollar_five hi h, dollar_four at a, page_is y b)
 
-pub ram-says : (lo hi : ℕ) (w : Width) → lo < 65536 → hi < 65536 → lineSays Memattr (entryText (ram lo hi w)) ≡ Claims (ram lo hi w)
-unfolding wordsSay memattrLine ramLine ◌>>=◌ same bits
-ram-says lo hi Sixteen l h =
-    ap (λ (c : Cut). wordsSay Memattr (wordsAfter c)) (cut-letters (four-letters lo) _ _ (cut-dash _ _ (cut-letters (four-letters hi) _ _ cut-sixteen)))
-    ∙ rw (dollar-four lo l, dollar-four hi h)
-ram-says lo hi Eight l h =
-    ap (λ (c : Cut). wordsSay Memattr (wordsAfter c)) (cut-letters (four-letters lo) _ _ (cut-dash _ _ (cut-letters (four-letters hi) _ _ cut-eight)))
-    ∙ rw (dollar-four lo l, dollar-four hi h)
+pub ram_says : (lo hi : ℕ) (w : Width) → lo < 65536 → hi < 65536 → line_says Memattr (entry_text (ram lo hi w)) ≡ Claims (ram lo hi w)
+unfolding words_say memattr_line ram_line ◌>>=◌ same bits
+ram_says lo hi Sixteen l h =
+    ap (λ (c : Cut). words_say Memattr (words_after c)) (cut_letters (four_letters lo) _ _ (cut_dash _ _ (cut_letters (four_letters hi) _ _ cut_sixteen)))
+    ∙ rw (dollar_four lo l, dollar_four hi h)
+ram_says lo hi Eight l h =
+    ap (λ (c : Cut). words_say Memattr (words_after c)) (cut_letters (four_letters lo) _ _ (cut_dash _ _ (cut_letters (four_letters hi) _ _ cut_eight)))
+    ∙ rw (dollar_four lo l, dollar_four hi h)
 
 -- a section's name says that section
-pub mapping-says : (s : Section) → lineSays s (text "[mapping]") ≡ Heading Mapping
-unfolding cut wordsSay headingLine same
-mapping-says s = refl
+pub mapping_says : (s : Section) → line_says s (text "[mapping]") ≡ Heading Mapping
+unfolding cut words_say heading_line same
+mapping_says s = refl
 
-pub memattr-says : (s : Section) → lineSays s (text "[memattr]") ≡ Heading Memattr
-unfolding cut wordsSay headingLine same
-memattr-says s = refl
+pub memattr_says : (s : Section) → line_says s (text "[memattr]") ≡ Heading Memattr
+unfolding cut words_say heading_line same
+memattr_says s = refl

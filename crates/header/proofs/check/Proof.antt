@@ -1,6 +1,6 @@
 -- `header::check` meets its contract: one law for each return.
 use borrow.Author.Rules.{rules}
-use Rattle.header.proofs.Laws.{checks, long-enough}
+use Rattle.header.proofs.Laws.{checks, long_enough}
 use Rattle.header.proofs.check.Statement.{statement}
 use Rattle.header.proofs.check.Tie as tie
 
@@ -14,7 +14,7 @@ returns-3 : tie.Need-returns-3
 returns-3 c = search (rules, checks)
 
 wrong-sum-requires : tie.Need-wrong-sum-requires
-wrong-sum-requires c κs = search (rules, long-enough)
+wrong-sum-requires c κs = search (rules, long_enough)
 
 returns-4 : tie.Need-returns-4
 returns-4 c = search (rules, checks)

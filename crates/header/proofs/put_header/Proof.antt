@@ -2,7 +2,7 @@
 use native.Mathlib.Omega.{arith}
 use lib.ListN.{length-take, length-set}
 use borrow.Author.Rules.{rules}
-use Rattle.header.proofs.Laws.{no_room, header-written}
+use Rattle.header.proofs.Laws.{no_room, header_written}
 use Rattle.header.proofs.put_header.Statement.{statement}
 use Rattle.header.proofs.put_header.Tie as tie
 
@@ -16,7 +16,7 @@ same_length : tie.Need-same-length
 same_length c = simp length-set (omega arith)
 
 returns-2 : tie.Need-returns-2
-returns-2 c = search (rules, header-written)
+returns-2 c = search (rules, header_written)
 
 pub put-header-spec : {M : Type 1} → statement M
 put-header-spec =

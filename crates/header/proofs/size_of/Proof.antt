@@ -1,11 +1,11 @@
 -- `header::size_of` meets its contract: fields of their sizes make a header of 32 bytes.
 use mathlib.Core.Path.{sym, refl}
-use Rattle.header.specs.Laws.Header.{length-header}
+use Rattle.header.specs.Laws.Header.{length_header}
 use Rattle.header.proofs.size_of.Statement.{statement}
 use Rattle.header.proofs.size_of.Tie as tie
 
 returns : tie.Need-returns
-returns c = (sym (length-header _ _ c.requires.0 c.requires.1), refl)
+returns c = (sym (length_header _ _ c.requires.0 c.requires.1), refl)
 
 pub size-of-spec : {M : Type 1} → statement M
 size-of-spec = tie.close (tie.spec returns)

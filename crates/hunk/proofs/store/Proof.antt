@@ -1,11 +1,11 @@
 -- `hunk::store` meets its contract: by what the check answered.
 use borrow.Author.Rules.{rules}
-use Rattle.hunk.proofs.Loops.{store_kept, store-storable, store_laid}
+use Rattle.hunk.proofs.Loops.{store_kept, store_storable, store_laid}
 use Rattle.hunk.proofs.store.Statement.{statement}
 use Rattle.hunk.proofs.store.Tie as tie
 
 store-blocks-requires : tie.Need-store-blocks-requires
-store-blocks-requires c κs = search (rules, store-storable)
+store-blocks-requires c κs = search (rules, store_storable)
 
 returns : tie.Need-returns
 returns c = search (rules, store_kept)

@@ -3,16 +3,16 @@ use Rattle.std.specs.Prelude.{ℕ, ◌+◌, ◌≤◌, List, ◌≡◌, cond, tr
 use Rattle.basics.specs.Laws.Lay.{Inside}
 use Rattle.hunk.specs.declared.Block.{Block}
 use Rattle.hunk.specs.declared.Block.TheVariants.{End, Wrong, Data}
-use Rattle.hunk.specs.Hunk.{address, countAt, size_at, whole_at, words_of}
+use Rattle.hunk.specs.Hunk.{address, count_at, size_at, whole_at, words_of}
 
 -- the payload's end, a data block that is cut or reserved, or one of so many words with the place of the next
 unfoldable pub block_at : List ℕ → ℕ → Block
-block_at s p = cond (leb (length s) p) End (cond (whole_at s p) (Data (countAt s p) (p + size_at s p)) Wrong)
+block_at s p = cond (leb (length s) p) End (cond (whole_at s p) (Data (count_at s p) (p + size_at s p)) Wrong)
 
 -- the data block at p is whole and has n words, and they have room at word a of m
 pub record Room (s : List ℕ) (p n m a : ℕ) : Type 0 where
   pub whole : whole_at s p ≡ true
-  pub words : n ≡ countAt s p
+  pub words : n ≡ count_at s p
   pub room : a + n ≤ m
 
 -- a payload has an address, and its words lie in m words of RAM

@@ -3,52 +3,52 @@ use Rattle.std.specs.Prelude.{ℕ, ◌+◌, ◌-◌, ◌*◌, ◌/◌, ◌≤◌
 use Rattle.std.proofs.Common.{ap, ◌∙◌, arith, length-take, length-drop, take-append-drop}
 use Rattle.basics.specs.Lists.{joined, Each, none, also}
 use Rattle.basics.specs.Laws.Lists.{none_left}
-use Rattle.hunk.specs.Cuts.{dataWords, pieces, cuts_of}
+use Rattle.hunk.specs.Cuts.{data_words, pieces, cuts_of}
 
 -- words that a data block can hold
 pub record Piece (words : List ℕ) : Type 0 where
   pub some : 1 ≤ length words
-  pub most : length words ≤ dataWords
+  pub most : length words ≤ data_words
 
 -- no words have no cuts; others are cut at the most words of a data block, and what is left is cut on
-pub cuts-none : (words : List ℕ) → length words ≡ 0 → cuts_of words ≡ []
+pub cuts_none : (words : List ℕ) → length words ≡ 0 → cuts_of words ≡ []
 unfolding cuts_of pieces
-cuts-none words e = let z : (length words + (dataWords - 1)) / dataWords ≡ 0 = omega arith in rw z
+cuts_none words e = let z : (length words + (data_words - 1)) / data_words ≡ 0 = omega arith in rw z
 
-pub cuts-more : (words : List ℕ) → 1 ≤ length words → cuts_of words ≡ take dataWords words ∷ cuts_of (drop dataWords words)
+pub cuts_more : (words : List ℕ) → 1 ≤ length words → cuts_of words ≡ take data_words words ∷ cuts_of (drop data_words words)
 unfolding cuts_of pieces
-cuts-more words h =
-    let d : length (drop dataWords words) ≡ length words - dataWords = length-drop dataWords words in
-    let e : (length words + (dataWords - 1)) / dataWords ≡ suc ((length (drop dataWords words) + (dataWords - 1)) / dataWords) = omega arith in
+cuts_more words h =
+    let d : length (drop data_words words) ≡ length words - data_words = length-drop data_words words in
+    let e : (length words + (data_words - 1)) / data_words ≡ suc ((length (drop data_words words) + (data_words - 1)) / data_words) = omega arith in
     rw e
 
 -- n pieces are just what some words need
 record Exact (n : ℕ) (words : List ℕ) : Type 0 where
-  pub room : length words ≤ dataWords * n
-  pub full : dataWords * n < length words + dataWords
+  pub room : length words ≤ data_words * n
+  pub full : data_words * n < length words + data_words
 
-exact-as : (words : List ℕ) → Exact ((length words + (dataWords - 1)) / dataWords) words
-exact-as words = record { room = omega arith; full = omega arith }
+exact_as : (words : List ℕ) → Exact ((length words + (data_words - 1)) / data_words) words
+exact_as words = record { room = omega arith; full = omega arith }
 
-pieces-each : (n : ℕ) (words : List ℕ) → Exact n words → Each Piece (pieces n words)
+pieces_each : (n : ℕ) (words : List ℕ) → Exact n words → Each Piece (pieces n words)
 unfolding pieces
-pieces-each zero words c = none
-pieces-each (suc n) words c =
-    let a : length (take dataWords words) ≡ min dataWords (length words) = length-take dataWords words in
-    let b : length (drop dataWords words) ≡ length words - dataWords = length-drop dataWords words in
-    let p : Piece (take dataWords words) = record { some = omega arith; most = omega arith } in
-    also p (pieces-each n (drop dataWords words) (record { room = omega arith; full = omega arith }))
+pieces_each zero words c = none
+pieces_each (suc n) words c =
+    let a : length (take data_words words) ≡ min data_words (length words) = length-take data_words words in
+    let b : length (drop data_words words) ≡ length words - data_words = length-drop data_words words in
+    let p : Piece (take data_words words) = record { some = omega arith; most = omega arith } in
+    also p (pieces_each n (drop data_words words) (record { room = omega arith; full = omega arith }))
 
-pieces-all : (n : ℕ) (words : List ℕ) → length words ≤ dataWords * n → joined (λ (c : List ℕ). c) (pieces n words) ≡ words
+pieces_all : (n : ℕ) (words : List ℕ) → length words ≤ data_words * n → joined (λ (c : List ℕ). c) (pieces n words) ≡ words
 unfolding pieces joined
-pieces-all zero words h = none_left words (omega arith)
-pieces-all (suc n) words h =
-    ap (◌++◌ (take dataWords words)) (pieces-all n (drop dataWords words) (omega (arith, length-drop dataWords words))) ∙ take-append-drop dataWords words
+pieces_all zero words h = none_left words (omega arith)
+pieces_all (suc n) words h =
+    ap (◌++◌ (take data_words words)) (pieces_all n (drop data_words words) (omega (arith, length-drop data_words words))) ∙ take-append-drop data_words words
 
-pub cuts-each : (words : List ℕ) → Each Piece (cuts_of words)
+pub cuts_each : (words : List ℕ) → Each Piece (cuts_of words)
 unfolding cuts_of
-cuts-each words = pieces-each ((length words + (dataWords - 1)) / dataWords) words (exact-as words)
+cuts_each words = pieces_each ((length words + (data_words - 1)) / data_words) words (exact_as words)
 
-pub cuts-all : (words : List ℕ) → joined (λ (c : List ℕ). c) (cuts_of words) ≡ words
+pub cuts_all : (words : List ℕ) → joined (λ (c : List ℕ). c) (cuts_of words) ≡ words
 unfolding cuts_of
-cuts-all words = pieces-all ((length words + (dataWords - 1)) / dataWords) words (exact-as words).room
+cuts_all words = pieces_all ((length words + (data_words - 1)) / data_words) words (exact_as words).room

@@ -6,10 +6,10 @@ use Rattle.basics.specs.Tables.{made}
 use Rattle.basics.specs.Lists.{part, laid, joined}
 use Rattle.places.specs.Places.{locutus}
 use Rattle.hunk.specs.declared.Checked.TheVariants.{Whole, Broken}
-use Rattle.hunk.specs.Forms.{form_of, count_of, size_of, word, packed, decle, lower, uppers, packet, packets, dataIn}
-use Rattle.hunk.specs.Smallest.{largest, carries, smaller, formFor, data_of}
+use Rattle.hunk.specs.Forms.{form_of, count_of, size_of, word, packed, decle, lower, uppers, packet, packets, data_in}
+use Rattle.hunk.specs.Smallest.{largest, carries, smaller, form_for, data_of}
 use Rattle.hunk.specs.Cuts.{cuts_of, pieces}
-use Rattle.hunk.specs.Hunk.{hunk, whole_at, dataStartsFrom, dataStarts, end_of, words_of, checkBlocks, checkHunk, storeHunk, hunkPayload}
+use Rattle.hunk.specs.Hunk.{hunk, whole_at, data_starts_from, data_starts, end_of, words_of, check_blocks, check_hunk, store_hunk, hunk_payload}
 
 -- the 62 bytes, a data block to a line
 abbrev pub encoded : List ℕ
@@ -38,71 +38,71 @@ pub bytes : length encoded ≡ 62
 bytes = refl
 
 pub decodes : words_of payload ≡ listing
-unfolding words_of dataStarts dataStartsFrom whole_at form_of count_of size_of word packed decle made joined
+unfolding words_of data_starts data_starts_from whole_at form_of count_of size_of word packed decle made joined
 decodes = refl
 
 -- it needs 41 words of RAM; in 40 the last data block, at byte 55, holds the first word outside
-pub passes : checkHunk payload 41 ≡ Whole 39
-unfolding checkHunk checkBlocks end_of dataStarts dataStartsFrom whole_at form_of count_of size_of
+pub passes : check_hunk payload 41 ≡ Whole 39
+unfolding check_hunk check_blocks end_of data_starts data_starts_from whole_at form_of count_of size_of
 passes = refl
 
-pub one-past : checkHunk payload 40 ≡ Broken 55
-unfolding checkHunk checkBlocks end_of dataStarts dataStartsFrom whole_at form_of count_of size_of
-one-past = refl
+pub one_past : check_hunk payload 40 ≡ Broken 55
+unfolding check_hunk check_blocks end_of data_starts data_starts_from whole_at form_of count_of size_of
+one_past = refl
 
 -- cut by its last byte; cut before any data block; a reserved start byte behind it
-pub cut : checkHunk (take 64 payload) 41 ≡ Broken 55
-unfolding checkHunk checkBlocks end_of dataStarts dataStartsFrom whole_at form_of count_of size_of
+pub cut : check_hunk (take 64 payload) 41 ≡ Broken 55
+unfolding check_hunk check_blocks end_of data_starts data_starts_from whole_at form_of count_of size_of
 cut = refl
 
-pub no_address : checkHunk (2 ∷ 0 ∷ []) 41 ≡ Broken 0
-unfolding checkHunk
+pub no_address : check_hunk (2 ∷ 0 ∷ []) 41 ≡ Broken 0
+unfolding check_hunk
 no_address = refl
 
-pub reserved : checkHunk (payload ++ (0xFE ∷ [])) 41 ≡ Broken 65
-unfolding checkHunk checkBlocks end_of dataStarts dataStartsFrom whole_at form_of count_of size_of
+pub reserved : check_hunk (payload ++ (0xFE ∷ [])) 41 ≡ Broken 65
+unfolding check_hunk check_blocks end_of data_starts data_starts_from whole_at form_of count_of size_of
 reserved = refl
 
 -- in 44 words it is stored, in 40 nothing is
-pub stores : storeHunk payload (replicate 44 0) ≡ 0 ∷ 0 ∷ (listing ++ (0 ∷ 0 ∷ 0 ∷ []))
-unfolding storeHunk laid words_of checkHunk checkBlocks end_of dataStarts dataStartsFrom whole_at form_of count_of size_of word packed decle made joined
+pub stores : store_hunk payload (replicate 44 0) ≡ 0 ∷ 0 ∷ (listing ++ (0 ∷ 0 ∷ 0 ∷ []))
+unfolding store_hunk laid words_of check_hunk check_blocks end_of data_starts data_starts_from whole_at form_of count_of size_of word packed decle made joined
 stores = refl
 
-pub stores-nothing : storeHunk payload (replicate 40 0) ≡ replicate 40 0
-unfolding storeHunk checkHunk checkBlocks end_of dataStarts dataStartsFrom whole_at form_of count_of size_of
-stores-nothing = refl
+pub stores_nothing : store_hunk payload (replicate 40 0) ≡ replicate 40 0
+unfolding store_hunk check_hunk check_blocks end_of data_starts data_starts_from whole_at form_of count_of size_of
+stores_nothing = refl
 
 -- written: 001's data blocks of more than two words, each as it stands there
-pub first-written : data_of (take 7 listing) ≡ take 11 encoded
-unfolding data_of dataIn formFor smaller carries largest bytes16 made lower uppers packet packets
-first-written = refl
+pub first_written : data_of (take 7 listing) ≡ take 11 encoded
+unfolding data_of data_in form_for smaller carries largest bytes16 made lower uppers packet packets
+first_written = refl
 
-pub third-written : data_of (part listing 9 14) ≡ part encoded 16 24
-unfolding data_of dataIn formFor smaller carries largest bytes16 made lower uppers packet packets
-third-written = refl
+pub third_written : data_of (part listing 9 14) ≡ part encoded 16 24
+unfolding data_of data_in form_for smaller carries largest bytes16 made lower uppers packet packets
+third_written = refl
 
-pub fifth-written : data_of (part listing 16 33) ≡ part encoded 29 52
-unfolding data_of dataIn formFor smaller carries largest bytes16 made lower uppers packet packets
-fifth-written = refl
+pub fifth_written : data_of (part listing 16 33) ≡ part encoded 29 52
+unfolding data_of data_in form_for smaller carries largest bytes16 made lower uppers packet packets
+fifth_written = refl
 
-pub sixth-written : data_of (part listing 33 39) ≡ part encoded 52 62
-unfolding data_of dataIn formFor smaller carries largest bytes16 made lower uppers packet packets
-sixth-written = refl
+pub sixth_written : data_of (part listing 33 39) ≡ part encoded 52 62
+unfolding data_of data_in form_for smaller carries largest bytes16 made lower uppers packet packets
+sixth_written = refl
 
 -- its other two have two words, where 10-bit and 16-bit take as many bytes and 16-bit comes first; a word alone takes three bytes in each form
-pub tie-of-two : data_of (0x0240 ∷ 0x7FFF ∷ []) ≡ 0xC1 ∷ 0x40 ∷ 0x02 ∷ 0xFF ∷ 0x7F ∷ []
-unfolding data_of dataIn formFor smaller carries largest bytes16 made lower uppers packet packets
-tie-of-two = refl
+pub tie_of_two : data_of (0x0240 ∷ 0x7FFF ∷ []) ≡ 0xC1 ∷ 0x40 ∷ 0x02 ∷ 0xFF ∷ 0x7F ∷ []
+unfolding data_of data_in form_for smaller carries largest bytes16 made lower uppers packet packets
+tie_of_two = refl
 
-pub tie-of-one : data_of (0x0009 ∷ []) ≡ 0xC0 ∷ 0x09 ∷ 0x00 ∷ []
-unfolding data_of dataIn formFor smaller carries largest bytes16 made lower uppers packet packets
-tie-of-one = refl
+pub tie_of_one : data_of (0x0009 ∷ []) ≡ 0xC0 ∷ 0x09 ∷ 0x00 ∷ []
+unfolding data_of data_in form_for smaller carries largest bytes16 made lower uppers packet packets
+tie_of_one = refl
 
 -- bytes, and the word behind them, which may be any; a hunk
-pub bytes-written : data_of (0x41 ∷ 0x00 ∷ 0x7FFF ∷ []) ≡ 0x03 ∷ 0x41 ∷ 0x00 ∷ 0xFF ∷ 0x7F ∷ []
-unfolding data_of dataIn formFor smaller carries largest bytes16 made lower uppers packet packets
-bytes-written = refl
+pub bytes_written : data_of (0x41 ∷ 0x00 ∷ 0x7FFF ∷ []) ≡ 0x03 ∷ 0x41 ∷ 0x00 ∷ 0xFF ∷ 0x7F ∷ []
+unfolding data_of data_in form_for smaller carries largest bytes16 made lower uppers packet packets
+bytes_written = refl
 
-pub writes : hunkPayload (hunk (locutus 0x12345) (0x41 ∷ 0x7FFF ∷ [])) ≡ 0x45 ∷ 0x23 ∷ 0x01 ∷ 0x02 ∷ 0x41 ∷ 0xFF ∷ 0x7F ∷ []
-unfolding hunkPayload cuts_of pieces joined data_of dataIn formFor smaller carries largest bytes16 made lower uppers packet packets
+pub writes : hunk_payload (hunk (locutus 0x12345) (0x41 ∷ 0x7FFF ∷ [])) ≡ 0x45 ∷ 0x23 ∷ 0x01 ∷ 0x02 ∷ 0x41 ∷ 0xFF ∷ 0x7F ∷ []
+unfolding hunk_payload cuts_of pieces joined data_of data_in form_for smaller carries largest bytes16 made lower uppers packet packets
 writes = refl

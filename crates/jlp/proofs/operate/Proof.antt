@@ -1,11 +1,11 @@
 -- `jlp::operate` meets its contract: the operand is stored, and its function's two are handed over.
 use borrow.Author.Rules.{rules}
-use Rattle.jlp.proofs.Laws.{operate-is}
+use Rattle.jlp.proofs.Laws.{operate_is}
 use Rattle.jlp.proofs.operate.Statement.{statement}
 use Rattle.jlp.proofs.operate.Tie as tie
 
 returns : tie.Need-returns
-returns c = search (rules, operate-is)
+returns c = search (rules, operate_is)
 
 pub operate-spec : {M : Type 1} → statement M
 operate-spec =

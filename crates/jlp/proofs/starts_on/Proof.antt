@@ -1,4 +1,4 @@
--- `jlp::starts_on` meets its contract: each return has decided the tests of `startsOn`.
+-- `jlp::starts_on` meets its contract: each return has decided the tests of `starts_on`.
 use Rattle.basics.specs.Laws.Tests.{tests}
 use Rattle.jlp.proofs.starts_on.Statement.{statement}
 use Rattle.jlp.proofs.starts_on.Tie as tie

@@ -3,17 +3,17 @@ use Rattle.std.specs.Prelude.{ℕ, ◌+◌, ◌*◌, ◌<◌, ◌≤◌, Bool, t
 use Rattle.std.proofs.Math.Logic.{inl}
 use Rattle.std.proofs.Common.{inr, ap₂, ◌∙◌, mul-le-mul, arith}
 use Rattle.std.proofs.Math.Path.{refl, sym, ap}
-use Rattle.basics.specs.Laws.Tests.{or-false-left, or-false-right, or_cases}
+use Rattle.basics.specs.Laws.Tests.{or_false_left, or_false_right, or_cases}
 use Rattle.jlp.specs.declared.arith.Number.{Number}
-use Rattle.jlp.specs.Arith.{wordValues, longValues, number_of, unlike, productOf, multiplied}
-use Rattle.jlp.specs.Values.{integerOf, value_of, longOf}
-use Rattle.jlp.specs.Laws.Values.{times, value-is, Signs, signs, back}
+use Rattle.jlp.specs.Arith.{word_values, long_values, number_of, unlike, product_of, multiplied}
+use Rattle.jlp.specs.Values.{integer_of, value_of, long_of}
+use Rattle.jlp.specs.Laws.Values.{times, value_is, Signs, signs, back}
 
-product-words : (s t : Bool) (a b : ℕ) → (multiplied s t a b).first + wordValues * (multiplied s t a b).second ≡ productOf (number_of s a) (number_of t b)
+product_words : (s t : Bool) (a b : ℕ) → (multiplied s t a b).first + word_values * (multiplied s t a b).second ≡ product_of (number_of s a) (number_of t b)
 unfolding multiplied
-product-words s t a b = omega arith
+product_words s t a b = omega arith
 
-module _ (s t : Bool) (a b : ℕ) (ha : a < wordValues) (hb : b < wordValues) where
+module _ (s t : Bool) (a b : ℕ) (ha : a < word_values) (hb : b < word_values) where
   abbrev x : Number
   x = number_of s a
 
@@ -32,12 +32,12 @@ module _ (s t : Bool) (a b : ℕ) (ha : a < wordValues) (hb : b < wordValues) wh
   small (inr e) = let k : x.size ≤ 0xFFFF = omega (arith, i.most) in omega (arith, mul-le-mul k (j.half e))
 
   -- the two result words are the product, as a signed number where a factor is signed
-  pub product : longOf (s || t) (multiplied s t a b) ≡ value_of s a *ℤ value_of t b
-  unfolding productOf
+  pub product : long_of (s || t) (multiplied s t a b) ≡ value_of s a *ℤ value_of t b
+  unfolding product_of
   product =
-      ap (integerOf longValues (s || t)) (product-words s t a b)
-      ∙ back longValues 0x8000_0000 refl (omega arith) (s || t) (unlike x.negative y.negative) (x.size * y.size)
-      (λ e. rw (i.plain (or-false-left s t e), j.plain (or-false-right s t e)))
+      ap (integer_of long_values (s || t)) (product_words s t a b)
+      ∙ back long_values 0x8000_0000 refl (omega arith) (s || t) (unlike x.negative y.negative) (x.size * y.size)
+      (λ e. rw (i.plain (or_false_left s t e), j.plain (or_false_right s t e)))
       (λ e. inl (small (or_cases s t e)))
       ∙ sym (times x.negative y.negative x.size y.size)
-      ∙ sym (ap₂ (λ (p q : ℤ). p *ℤ q) (value-is s a) (value-is t b))
+      ∙ sym (ap₂ (λ (p q : ℤ). p *ℤ q) (value_is s a) (value_is t b))

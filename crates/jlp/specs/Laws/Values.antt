@@ -4,10 +4,10 @@ use Rattle.std.proofs.Common.{inl, inr, sym, ap, ◌∙◌, mod-eq_of_lt, arith,
 use Rattle.std.proofs.Math.Nat.{mod_self}
 use Rattle.std.proofs.Math.IntN.{pos-+ℤ-pos, neg_ℤ-+ℤ, pos-*ℤ-pos, pos-*ℤ-negsuc, negsuc-*ℤ-pos, negsuc-*ℤ-negsuc, zero-*ℤ, *ℤ-zero}
 use Rattle.std.proofs.lemmas.Bool.{lt-leb}
-use Rattle.basics.specs.Laws.Tests.{cases, true-is-not-false}
+use Rattle.basics.specs.Laws.Tests.{cases, true_is_not_false}
 use Rattle.jlp.specs.declared.arith.Number.{Number}
-use Rattle.jlp.specs.Arith.{wordValues, number, number_of, word_of, unlike}
-use Rattle.jlp.specs.Values.{integerOf, value_of}
+use Rattle.jlp.specs.Arith.{word_values, number, number_of, word_of, unlike}
+use Rattle.jlp.specs.Values.{integer_of, value_of}
 
 -- the integer of a sign and a size
 abbrev pub signed : Bool → ℕ → ℤ
@@ -37,31 +37,31 @@ plus true m n = sym (neg_ℤ-+ℤ (pos m) (pos n)) ∙ ap neg_ℤ (pos-+ℤ-pos 
 abbrev pub valued : Number → ℤ
 valued n = signed n.negative n.size
 
-pub value-is : (s : Bool) (w : ℕ) → value_of s w ≡ valued (number_of s w)
-value-is s w = by (s && leb 0x8000 w)
+pub value_is : (s : Bool) (w : ℕ) → value_of s w ≡ valued (number_of s w)
+value_is s w = by (s && leb 0x8000 w)
   where
-    by : (b : Bool) → cond b (neg_ℤ (pos (wordValues - w))) (pos w) ≡ valued (cond b (number true (wordValues - w)) (number false w))
+    by : (b : Bool) → cond b (neg_ℤ (pos (word_values - w))) (pos w) ≡ valued (cond b (number true (word_values - w)) (number false w))
     by true = refl
     by false = refl
 
 -- the sign and the size of a word's number; a signed one is at most 32,768, which is negative
 pub record Signs (s : Bool) (w : ℕ) (n : Number) : Type 0 where
-  pub most : n.size < wordValues
+  pub most : n.size < word_values
   pub half : s ≡ true → n.size ≤ 0x8000
   pub some : (w ≡ 0 → ⊥) → 0 < n.size
   pub plain : s ≡ false → n.negative ≡ false
   pub least : s ≡ true → n.size ≡ 0x8000 → (w ≡ 0x8000) × (n.negative ≡ true)
   pub minus : n.size ≡ 1 → n.negative ≡ true → w ≡ 0xFFFF
 
-pub signs : (s : Bool) (w : ℕ) → w < wordValues → Signs s w (number_of s w)
+pub signs : (s : Bool) (w : ℕ) → w < word_values → Signs s w (number_of s w)
 signs false w h =
     record {
       most = h;
-      half = λ e. true-is-not-false e refl;
+      half = λ e. true_is_not_false e refl;
       some = λ z. omega arith;
       plain = λ e. refl;
-      least = λ e. true-is-not-false e refl;
-      minus = λ z e. true-is-not-false e refl;
+      least = λ e. true_is_not_false e refl;
+      minus = λ z e. true_is_not_false e refl;
     }
 signs true w h =
     cases (leb 0x8000 w)
@@ -72,7 +72,7 @@ signs true w h =
       most = omega arith;
       half = λ t. omega arith;
       some = λ z. omega arith;
-      plain = λ t. true-is-not-false refl t;
+      plain = λ t. true_is_not_false refl t;
       least = λ t z. (omega arith, refl);
       minus = λ z t. omega arith;
     }))
@@ -85,7 +85,7 @@ signs true w h =
       some = λ z. omega arith;
       plain = λ t. refl;
       least = λ t z. absurd (omega arith);
-      minus = λ z t. true-is-not-false t refl;
+      minus = λ z t. true_is_not_false t refl;
     }))
 
 -- a number in the range of m values, half of them negative
@@ -93,9 +93,9 @@ abbrev pub InRange : ℕ → Bool → ℕ → Type 0
 InRange half n k = (k < half) ⊎ ((n ≡ true) × (k ≡ half))
 
 module _ (m half : ℕ) (two : m ≡ half + half) (some : 0 < half) where
-  signed_back : (n : Bool) (k : ℕ) → InRange half n k → integerOf m true (word_of m n k) ≡ signed n k
+  signed_back : (n : Bool) (k : ℕ) → InRange half n k → integer_of m true (word_of m n k) ≡ signed n k
   signed_back false k (inl h) = rw (lt-leb (m / 2) k (omega arith))
-  signed_back false k (inr h) = true-is-not-false h.0 refl
+  signed_back false k (inr h) = true_is_not_false h.0 refl
   signed_back true zero h = let z : m - 0 ≡ m = omega arith in rw (z, mod_self m, lt-leb (m / 2) 0 (omega arith))
   signed_back true (suc k) h =
       let w : suc k ≤ half = small h in
@@ -108,6 +108,6 @@ module _ (m half : ℕ) (two : m ≡ half + half) (some : 0 < half) where
       small (inr e) = omega (arith, e.1)
 
   -- it is read back as it was written; one that is not signed has no sign
-  pub back : (s n : Bool) (k : ℕ) → (s ≡ false → n ≡ false) → (s ≡ true → InRange half n k) → integerOf m s (word_of m n k) ≡ signed n k
+  pub back : (s n : Bool) (k : ℕ) → (s ≡ false → n ≡ false) → (s ≡ true → InRange half n k) → integer_of m s (word_of m n k) ≡ signed n k
   back true n k p h = signed_back n k (h refl)
   back false n k p h = rw (p refl)

@@ -1,15 +1,15 @@
 -- `labels::show_tag` is safe and ends. The loop's invariant: no more texts than an image may have bytes.
 use Prim.Native.Nat.{◌-◌, ◌≤◌}
 use borrow.Author.Rules.{rules}
-use Rattle.places.specs.Limits.{imageLimit}
+use Rattle.places.specs.Limits.{image_limit}
 use Rattle.labels.proofs.show_tag.Statement.{statement}
 use Rattle.labels.proofs.show_tag.Tie as tie
 
 abbrev invariant-loop : tie.invariant-loop
-invariant-loop label image tag n₀ n = n ≤ imageLimit
+invariant-loop label image tag n₀ n = n ≤ image_limit
 
 abbrev decreases-loop : tie.decreases-loop
-decreases-loop label image tag n₀ n = imageLimit - n
+decreases-loop label image tag n₀ n = image_limit - n
 
 pub show-tag-spec : {M : Type 1} → statement M
 show-tag-spec =

@@ -1,14 +1,14 @@
 -- `layout::lay_out` meets its contract: the drawing and the words by the survey are those of the lines.
 use borrow.Author.Rules.{rules}
-use Rattle.layout.specs.Laws.Draw.{small, slots-ok, few-pages, begins, draws, pours}
+use Rattle.layout.specs.Laws.Draw.{small, slots_ok, few_pages, begins, draws, pours}
 use Rattle.layout.proofs.lay_out.Statement.{statement}
 use Rattle.layout.proofs.lay_out.Tie as tie
 
 pour-requires : tie.Need-pour-requires
-pour-requires c κs = (few-pages _ _ _ c.before.survey-of.ensures, slots-ok _ _ _ c.before.survey-of.ensures, begins _ _ _ c.before.survey-of.ensures)
+pour-requires c κs = (few_pages _ _ _ c.before.survey-of.ensures, slots_ok _ _ _ c.before.survey-of.ensures, begins _ _ _ c.before.survey-of.ensures)
 
 drawn-requires : tie.Need-drawn-requires
-drawn-requires c κs = (small _ _ _ c.before.before.before.before.survey-of.ensures, slots-ok _ _ _ c.before.before.before.before.survey-of.ensures)
+drawn-requires c κs = (small _ _ _ c.before.before.before.before.survey-of.ensures, slots_ok _ _ _ c.before.before.before.before.survey-of.ensures)
 
 returns : tie.Need-returns
 returns c = (draws _ _ _ c.before.before.before.before.before.survey-of.ensures _ c.drawn.ensures, pours _ _ _ c.before.before.before.before.before.survey-of.ensures _ _ _ c.before.before.before.pour.ensures)

@@ -4,23 +4,23 @@ use Rattle.std.proofs.Math.Option.{Option, none, some}
 use Rattle.basics.specs.Counts.{count, nth, any}
 use Rattle.basics.specs.Lists.{laid}
 use Rattle.basics.specs.Tables.{table}
-use Rattle.places.specs.Limits.{lineLimit, chapters, chapterParagraphs, chapterPages, paragraphs, paragraphSize, layers, slots, cells}
+use Rattle.places.specs.Limits.{line_limit, chapters, chapter_paragraphs, chapter_pages, paragraphs, paragraph_size, layers, slots, cells}
 use Rattle.lines.specs.declared.Line.{Line}
 use Rattle.lines.specs.declared.Entry.{Entry}
 use Rattle.lines.specs.declared.Entry.TheVariants.{Rom}
 use Rattle.lines.specs.Lines.{layer, holds}
 use Rattle.lines.specs.Kinds.{kind_of}
-use Rattle.rules.specs.Chapters.{lineIn, paged, kind_at, under, throughout}
+use Rattle.rules.specs.Chapters.{line_in, paged, kind_at, under, throughout}
 use Rattle.layout.specs.declared.survey.Survey.{Survey}
 use Rattle.layout.specs.declared.pages.Numbered.{Numbered}
-use Rattle.layout.specs.Layout.{used, pages, slotOfPage}
+use Rattle.layout.specs.Layout.{used, pages, slot_of_page}
 
 -- the line of a number among the lines, from 1 on; 0 is no line's
-abbrev pub noLine : Line
-noLine = record { source = 0; entry = Rom (record { 0 = 0 }) (record { 0 = 0 }) (record { 0 = 0 }) }
+abbrev pub no_line : Line
+no_line = record { source = 0; entry = Rom (record { 0 = 0 }) (record { 0 = 0 }) (record { 0 = 0 }) }
 
 abbrev pub line_of : List Line → ℕ → Option Line
-line_of lines n = cond (eqb n 0) none (some (get_or lines (n - 1) noLine))
+line_of lines n = cond (eqb n 0) none (some (get_or lines (n - 1) no_line))
 
 -- A cell is a paragraph of a layer, layer after layer. One that is free takes the number of a line that holds it.
 abbrev pub takes : Bool → ℕ → ℕ → ℕ
@@ -30,51 +30,51 @@ takes held number o = cond (held && eqb o 0) number o
 unfoldable pub claimed : Entry → ℕ → List ℕ → List ℕ
 claimed e number o =
     cond (ltb (layer e) layers)
-    (laid (paragraphs * layer e) paragraphs (λ p. takes (holds e (paragraphSize * p)) number (get_or o (paragraphs * layer e + p) 0)) o)
+    (laid (paragraphs * layer e) paragraphs (λ p. takes (holds e (paragraph_size * p)) number (get_or o (paragraphs * layer e + p) 0)) o)
     o
 
 -- numbers are those of lines
 pub record Few (o : List ℕ) : Type 0 where
-  pub each : (i : ℕ) → i < cells → get_or o i 0 ≤ lineLimit
+  pub each : (i : ℕ) → i < cells → get_or o i 0 ≤ line_limit
 
 -- the cells that have, of all lines, the numbers of those among the first of them
 pub record Cells (all ls : List Line) (o : List ℕ) : Type 0 where
   pub long : length o ≡ cells
   pub few : Few o
-  pub line : (i : ℕ) → i < cells → line_of all (get_or o i 0) ≡ lineIn ls (i / paragraphs) (i % paragraphs)
+  pub line : (i : ℕ) → i < cells → line_of all (get_or o i 0) ≡ line_in ls (i / paragraphs) (i % paragraphs)
 
 -- layer t of chapter x is in use; chapter x has PAGE lines; the kinds of plain paragraphs, and plain ROM throughout: each by tables
-unfoldable pub usedIn : List ℕ → ℕ → ℕ → Bool
-usedIn o x t = any chapterParagraphs (λ k. not (eqb (get_or o (paragraphs * t + (chapterParagraphs * x + k)) 0) 0))
+unfoldable pub used_in : List ℕ → ℕ → ℕ → Bool
+used_in o x t = any chapter_paragraphs (λ k. not (eqb (get_or o (paragraphs * t + (chapter_paragraphs * x + k)) 0) 0))
 
-unfoldable pub pagedIn : List Bool → ℕ → Bool
-pagedIn u x = any chapterPages (λ y. get_or u (layers * x + suc y) false)
+unfoldable pub paged_in : List Bool → ℕ → Bool
+paged_in u x = any chapter_pages (λ y. get_or u (layers * x + suc y) false)
 
-abbrev pub kindIn : List Line → List ℕ → ℕ → ℕ
-kindIn all o p = kind_of (line_of all (get_or o p 0))
+abbrev pub kind_in : List Line → List ℕ → ℕ → ℕ
+kind_in all o p = kind_of (line_of all (get_or o p 0))
 
-unfoldable pub underIn : List ℕ → ℕ → Bool
-underIn kinds x = throughout x (λ p. eqb (get_or kinds p 0) 1)
+unfoldable pub under_in : List ℕ → ℕ → Bool
+under_in kinds x = throughout x (λ p. eqb (get_or kinds p 0) 1)
 
 -- pages by number: the page of each slot, the slot of each page, and how many pages there are
-abbrev pub isUsed : List Bool → ℕ → Bool
-isUsed u s = get_or u s false
+abbrev pub is_used : List Bool → ℕ → Bool
+is_used u s = get_or u s false
 
-unfoldable pub numberedOf : List Bool → Numbered
-numberedOf u =
+unfoldable pub numbered_of : List Bool → Numbered
+numbered_of u =
     record {
-      page = table slots (count (isUsed u));
-      slot = table slots (nth (isUsed u) slots);
-      pages = count (isUsed u) slots;
+      page = table slots (count (is_used u));
+      slot = table slots (nth (is_used u) slots);
+      pages = count (is_used u) slots;
     }
 
 -- a survey of some lines, where `all` are numbered
 pub record Surveyed (all ls : List Line) (s : Survey) : Type 0 where
   pub cells_are : Cells all ls s.cells
-  pub kinds-are : s.kinds ≡ table paragraphs (kind_at ls)
-  pub used-are : s.used ≡ table slots (used ls)
-  pub paged-are : s.paged ≡ table chapters (paged ls)
-  pub under-are : s.under ≡ table chapters (under ls)
-  pub page-are : s.page ≡ table slots (count (used ls))
-  pub slot-are : s.slot ≡ table slots (slotOfPage ls)
-  pub pages-are : s.pages ≡ pages ls
+  pub kinds_are : s.kinds ≡ table paragraphs (kind_at ls)
+  pub used_are : s.used ≡ table slots (used ls)
+  pub paged_are : s.paged ≡ table chapters (paged ls)
+  pub under_are : s.under ≡ table chapters (under ls)
+  pub page_are : s.page ≡ table slots (count (used ls))
+  pub slot_are : s.slot ≡ table slots (slot_of_page ls)
+  pub pages_are : s.pages ≡ pages ls

@@ -8,25 +8,25 @@ use Rattle.std.proofs.Math.Dec.{ltb}
 use borrow.Author.Tests.{eqb-true, eqb-false, ne_eqb, lt-ltb, ltb-true, ltb-false}
 use Rattle.basics.specs.Options.{is_some}
 use Rattle.basics.specs.Lists.{laid}
-use Rattle.basics.specs.Laws.Lists.{length-laid, laid_in, laid_out}
+use Rattle.basics.specs.Laws.Lists.{length_laid, laid_in, laid_out}
 use Rattle.basics.specs.Laws.Tests.{cases, and_right}
-use Rattle.places.specs.Limits.{lineLimit, cells, layers, paragraphs, paragraphSize}
+use Rattle.places.specs.Limits.{line_limit, cells, layers, paragraphs, paragraph_size}
 use Rattle.lines.specs.declared.Line.{Line}
 use Rattle.lines.specs.declared.Entry.{Entry}
 use Rattle.lines.specs.Lines.{layer, holds, line_at}
-use Rattle.layout.specs.Code.Survey.{noLine, line_of, takes, claimed, Cells}
+use Rattle.layout.specs.Code.Survey.{no_line, line_of, takes, claimed, Cells}
 
-pub some-line : (ls : List Line) (n : ℕ) → is_some (line_of ls n) ≡ not (eqb n 0)
-some-line ls n = cases (eqb n 0) (λ h. rw h) (λ h. rw h)
+pub some_line : (ls : List Line) (n : ℕ) → is_some (line_of ls n) ≡ not (eqb n 0)
+some_line ls n = cases (eqb n 0) (λ h. rw h) (λ h. rw h)
 
 -- an entry stands on a layer and holds an address
 abbrev there : Entry → ℕ → ℕ → Bool
 there e t a = eqb (layer e) t && holds e a
 
 -- the line that is found holds the address
-pub line-here : (ls : List Line) (t a : ℕ) (l : Line) → line_at ls t a ≡ some l → holds l.entry a ≡ true
-line-here [] t a l e = let z : ◌≡◌ {A = ℕ} 0 1 = cc in absurd (omega arith)
-line-here (m ∷ ls) t a l e = cases (there m.entry t a) (λ h. here h) (λ h. line-here ls t a l (simp h at e))
+pub line_here : (ls : List Line) (t a : ℕ) (l : Line) → line_at ls t a ≡ some l → holds l.entry a ≡ true
+line_here [] t a l e = let z : ◌≡◌ {A = ℕ} 0 1 = cc in absurd (omega arith)
+line_here (m ∷ ls) t a l e = cases (there m.entry t a) (λ h. here h) (λ h. line_here ls t a l (simp h at e))
   where
     here : there m.entry t a ≡ true → holds l.entry a ≡ true
     here h =
@@ -40,18 +40,18 @@ more_by : (b : Bool) (o : Option Line) (l m : Line) (c : Bool)
 more_by true o l m c = refl
 more_by false o l m c = refl
 
-line-more : (ls : List Line) (l : Line) (t a : ℕ)
+line_more : (ls : List Line) (l : Line) (t a : ℕ)
     → line_at (ls ++ (l ∷ [])) t a ≡ cond (is_some (line_at ls t a)) (line_at ls t a) (cond (there l.entry t a) (some l) none)
-line-more [] l t a = refl
-line-more (m ∷ ls) l t a = rw (line-more ls l t a) (more_by (there m.entry t a) (line_at ls t a) l m (there l.entry t a))
+line_more [] l t a = refl
+line_more (m ∷ ls) l t a = rw (line_more ls l t a) (more_by (there m.entry t a) (line_at ls t a) l m (there l.entry t a))
 
 -- a cell after a claim
 module _ (e : Entry) (number : ℕ) (o : List ℕ) (long : length o ≡ cells) (i : ℕ) (h : i < cells) where
   abbrev word : ℕ → ℕ
-  word p = takes (holds e (paragraphSize * p)) number (get_or o (paragraphs * layer e + p) 0)
+  word p = takes (holds e (paragraph_size * p)) number (get_or o (paragraphs * layer e + p) 0)
 
-  on-layer : layer e ≡ i / paragraphs → get_or (laid (paragraphs * layer e) paragraphs word o) i 0 ≡ takes (holds e (paragraphSize * (i % paragraphs))) number (get_or o i 0)
-  on-layer q =
+  on_layer : layer e ≡ i / paragraphs → get_or (laid (paragraphs * layer e) paragraphs word o) i 0 ≡ takes (holds e (paragraph_size * (i % paragraphs))) number (get_or o i 0)
+  on_layer q =
       let z : paragraphs * layer e + i % paragraphs ≡ i = omega arith in
       rw z at (laid_in (paragraphs * layer e) word o paragraphs (i % paragraphs) (omega arith) (omega arith))
 
@@ -62,52 +62,52 @@ module _ (e : Entry) (number : ℕ) (o : List ℕ) (long : length o ≡ cells) (
       side true b = inl (ltb-true _ _ b)
       side false b = inr (omega (arith, ltb-false i (paragraphs * layer e) b))
 
-  pub claimed-at : get_or (claimed e number o) i 0 ≡ takes (there e (i / paragraphs) (paragraphSize * (i % paragraphs))) number (get_or o i 0)
+  pub claimed_at : get_or (claimed e number o) i 0 ≡ takes (there e (i / paragraphs) (paragraph_size * (i % paragraphs))) number (get_or o i 0)
   unfolding claimed
-  claimed-at =
+  claimed_at =
       cases (eqb (layer e) (i / paragraphs))
       (λ q.
       let s : layer e ≡ i / paragraphs = eqb-true _ _ q in
       let l : ltb (layer e) layers ≡ true = lt-ltb (layer e) layers (omega arith) in
-      rw (l, q) (on-layer s))
+      rw (l, q) (on_layer s))
       (λ q.
       let s : layer e ≡ i / paragraphs → ⊥ = eqb-false _ _ q in
       rw q (cases (ltb (layer e) layers) (λ l. rw l (off s)) (λ l. rw l)))
 
-pub length-claimed : (e : Entry) (number : ℕ) (o : List ℕ) → length (claimed e number o) ≡ length o
+pub length_claimed : (e : Entry) (number : ℕ) (o : List ℕ) → length (claimed e number o) ≡ length o
 unfolding claimed
-length-claimed e number o = cases (ltb (layer e) layers) (λ l. rw l (length-laid (paragraphs * layer e) _ o paragraphs)) (λ l. rw l)
+length_claimed e number o = cases (ltb (layer e) layers) (λ l. rw l (length_laid (paragraphs * layer e) _ o paragraphs)) (λ l. rw l)
 
 module _ (all : List Line) where
-  pub cells-none : Cells all [] (replicate cells 0)
-  cells-none =
+  pub cells_none : Cells all [] (replicate cells 0)
+  cells_none =
       record {
         long = length-replicate {A = ℕ} cells 0;
         few = record { each = λ i h. rw (get_or-replicate {A = ℕ} cells i 0 0 h) (omega arith) };
         line = λ i h. rw (get_or-replicate {A = ℕ} cells i 0 0 h);
       }
 
-  module _ (ls : List Line) (o : List ℕ) (w : Cells all ls o) (l : Line) (number : ℕ) (most : suc number ≤ lineLimit) (is : get_or all number noLine ≡ l) where
-    few-by : (b : Bool) (n : ℕ) → n ≤ lineLimit → cond b (suc number) n ≤ lineLimit
-    few-by true n h = most
-    few-by false n h = h
+  module _ (ls : List Line) (o : List ℕ) (w : Cells all ls o) (l : Line) (number : ℕ) (most : suc number ≤ line_limit) (is : get_or all number no_line ≡ l) where
+    few_by : (b : Bool) (n : ℕ) → n ≤ line_limit → cond b (suc number) n ≤ line_limit
+    few_by true n h = most
+    few_by false n h = h
 
     own : line_of all (suc number) ≡ some l
     own = let z : suc number - 1 ≡ number = omega arith in rw (ne_eqb (suc number) 0 (omega arith), z, is)
 
     -- the cell of number n, taken where the line is there
-    line-by : (c : Bool) (n : ℕ) → line_of all (takes c (suc number) n) ≡ cond (is_some (line_of all n)) (line_of all n) (cond c (some l) none)
-    line-by true n = cases (eqb n 0) (λ q. rw q own) (λ q. rw (q, q))
-    line-by false n = cases (eqb n 0) (λ q. rw q) (λ q. rw q)
+    line_by : (c : Bool) (n : ℕ) → line_of all (takes c (suc number) n) ≡ cond (is_some (line_of all n)) (line_of all n) (cond c (some l) none)
+    line_by true n = cases (eqb n 0) (λ q. rw q own) (λ q. rw (q, q))
+    line_by false n = cases (eqb n 0) (λ q. rw q) (λ q. rw q)
 
-    pub cells-more : Cells all (ls ++ (l ∷ [])) (claimed l.entry (suc number) o)
-    cells-more =
+    pub cells_more : Cells all (ls ++ (l ∷ [])) (claimed l.entry (suc number) o)
+    cells_more =
         record {
-          long = length-claimed l.entry (suc number) o ∙ w.long;
-          few = record { each = λ i h. rw (claimed-at l.entry (suc number) o w.long i h) (few-by (there l.entry (i / paragraphs) (paragraphSize * (i % paragraphs)) && eqb (get_or o i 0) 0) (get_or o i 0) (w.few.each i h)) };
+          long = length_claimed l.entry (suc number) o ∙ w.long;
+          few = record { each = λ i h. rw (claimed_at l.entry (suc number) o w.long i h) (few_by (there l.entry (i / paragraphs) (paragraph_size * (i % paragraphs)) && eqb (get_or o i 0) 0) (get_or o i 0) (w.few.each i h)) };
           line =
               λ i h.
-              rw (claimed-at l.entry (suc number) o w.long i h)
-              (line-by (there l.entry (i / paragraphs) (paragraphSize * (i % paragraphs))) (get_or o i 0)
-              ∙ rw (w.line i h) (sym (line-more ls l (i / paragraphs) (paragraphSize * (i % paragraphs)))));
+              rw (claimed_at l.entry (suc number) o w.long i h)
+              (line_by (there l.entry (i / paragraphs) (paragraph_size * (i % paragraphs))) (get_or o i 0)
+              ∙ rw (w.line i h) (sym (line_more ls l (i / paragraphs) (paragraph_size * (i % paragraphs)))));
         }

@@ -11,196 +11,196 @@ use Rattle.basics.specs.Options.{is_some}
 use Rattle.basics.specs.Counts.{count}
 use Rattle.basics.specs.Tables.{table}
 use Rattle.basics.specs.Laws.Counts.{count_most}
-use Rattle.basics.specs.Laws.Nth.{nth-below}
+use Rattle.basics.specs.Laws.Nth.{nth_below}
 use Rattle.basics.specs.Laws.Lists.{laid_same}
-use Rattle.basics.specs.Laws.Tables.{getD-table, table_same}
-use Rattle.basics.specs.Laws.Tests.{cases, not-cond}
-use Rattle.places.specs.Limits.{lineLimit, chapters, chapterParagraphs, chapterPages, flipEntries, paragraphs, paragraphSize, layers, slots, cells, pageParagraphs, locutusParagraphs}
-use Rattle.switches.specs.Flips.{flipMapping}
+use Rattle.basics.specs.Laws.Tables.{get_d_table, table_same}
+use Rattle.basics.specs.Laws.Tests.{cases, not_cond}
+use Rattle.places.specs.Limits.{line_limit, chapters, chapter_paragraphs, chapter_pages, flip_entries, paragraphs, paragraph_size, layers, slots, cells, page_paragraphs, locutus_paragraphs}
+use Rattle.switches.specs.Flips.{flip_mapping}
 use Rattle.lines.specs.declared.Line.{Line}
 use Rattle.lines.specs.declared.Entry.{Entry}
 use Rattle.lines.specs.declared.Entry.TheVariants.{Rom, Paged, Ram}
 use Rattle.lines.specs.declared.Width.TheVariants.{Sixteen, Eight}
 use Rattle.lines.specs.Lines.{first}
 use Rattle.lines.specs.Laws.Lines.{within}
-use Rattle.lines.specs.Kinds.{kindBy, kind_of}
-use Rattle.rules.specs.Chapters.{lineIn, uses, paged, kind_at, under}
+use Rattle.lines.specs.Kinds.{kind_by, kind_of}
+use Rattle.rules.specs.Chapters.{line_in, uses, paged, kind_at, under}
 use Rattle.layout.specs.declared.survey.Survey.{Survey}
 use Rattle.layout.specs.declared.Drawing.{Drawing}
-use Rattle.layout.specs.Layout.{used, page_of, pages, slotOfPage, answering, entryFor, flipEntry, flipTable, flippable, mappingAt, mappingTable, permissionsAt, permissionsTable, layerHeld, paragraphHeld, lineHeld, covered}
-use Rattle.layout.specs.Drawing.{drawingOf, ramOf, word_at}
-use Rattle.layout.specs.Code.Survey.{noLine, line_of, Surveyed}
-use Rattle.layout.specs.Code.Entries.{Small, Slots, answerBy, answer_in, entryBy, flipIn, flipsIn, flipsBy, flippableIn, mappingIn, permissionsIn, slotIn, paragraphIn, heldIn, markIn, drawnBy}
-use Rattle.layout.specs.Code.Pour.{writtenIn, Begins, pouredBy}
-use Rattle.layout.specs.Laws.Cells.{some-line, line-here}
-use Rattle.layout.specs.Laws.Survey.{line-at}
+use Rattle.layout.specs.Layout.{used, page_of, pages, slot_of_page, answering, entry_for, flip_entry, flip_table, flippable, mapping_at, mapping_table, permissions_at, permissions_table, layer_held, paragraph_held, line_held, covered}
+use Rattle.layout.specs.Drawing.{drawing_of, ram_of, word_at}
+use Rattle.layout.specs.Code.Survey.{no_line, line_of, Surveyed}
+use Rattle.layout.specs.Code.Entries.{Small, Slots, answer_by, answer_in, entry_by, flip_in, flips_in, flips_by, flippable_in, mapping_in, permissions_in, slot_in, paragraph_in, held_in, mark_in, drawn_by}
+use Rattle.layout.specs.Code.Pour.{written_in, Begins, poured_by}
+use Rattle.layout.specs.Laws.Cells.{some_line, line_here}
+use Rattle.layout.specs.Laws.Survey.{line_at_lem}
 
 -- an entry by the answering page
-entry-by : (p a : Bool) (b : ℕ) (c : Bool) (d : ℕ) → entryBy p (answerBy a b c d) ≡ cond p (entryFor (cond a (some b) (cond c (some d) none))) 0
-entry-by true true b c d = let e : b + 1 - 1 ≡ b = omega arith in simp (ne_eqb (b + 1) 0 (omega arith), e)
-entry-by true false b true d = let e : d + 1 - 1 ≡ d = omega arith in simp (ne_eqb (d + 1) 0 (omega arith), e)
-entry-by true false b false d = refl
-entry-by false a b c d = refl
+entry_by_lem : (p a : Bool) (b : ℕ) (c : Bool) (d : ℕ) → entry_by p (answer_by a b c d) ≡ cond p (entry_for (cond a (some b) (cond c (some d) none))) 0
+entry_by_lem true true b c d = let e : b + 1 - 1 ≡ b = omega arith in simp (ne_eqb (b + 1) 0 (omega arith), e)
+entry_by_lem true false b true d = let e : d + 1 - 1 ≡ d = omega arith in simp (ne_eqb (d + 1) 0 (omega arith), e)
+entry_by_lem true false b false d = refl
+entry_by_lem false a b c d = refl
 
 -- a line has a kind
-kind-entry : (e : Entry) → eqb (kindBy e) 0 ≡ false
-kind-entry (Rom lo hi at) = refl
-kind-entry (Paged lo hi at y) = refl
-kind-entry (Ram lo hi Sixteen) = refl
-kind-entry (Ram lo hi Eight) = refl
+kind_entry : (e : Entry) → eqb (kind_by e) 0 ≡ false
+kind_entry (Rom lo hi at) = refl
+kind_entry (Paged lo hi at y) = refl
+kind_entry (Ram lo hi Sixteen) = refl
+kind_entry (Ram lo hi Eight) = refl
 
-kind-none : (o : Option Line) → not (is_some o) ≡ eqb (kind_of o) 0
-kind-none none = refl
-kind-none (some l) = sym (kind-entry l.entry)
+kind_none : (o : Option Line) → not (is_some o) ≡ eqb (kind_of o) 0
+kind_none none = refl
+kind_none (some l) = sym (kind_entry l.entry)
 
 module _ (all ls : List Line) (s : Survey) (v : Surveyed all ls s) where
   -- each table at its places
-  used-at : (i : ℕ) → i < slots → get_or s.used i false ≡ used ls i
-  used-at i h = rw v.used-are (getD-table false slots (used ls) i h)
+  used_at : (i : ℕ) → i < slots → get_or s.used i false ≡ used ls i
+  used_at i h = rw v.used_are (get_d_table false slots (used ls) i h)
 
-  page-at : (x t : ℕ) → x < chapters → t < layers → get_or s.page (layers * x + t) 0 ≡ page_of ls x t
+  page_at_lem : (x t : ℕ) → x < chapters → t < layers → get_or s.page (layers * x + t) 0 ≡ page_of ls x t
   unfolding page_of
-  page-at x t h l = rw v.page-are (getD-table 0 slots (count (used ls)) (layers * x + t) (omega arith))
+  page_at_lem x t h l = rw v.page_are (get_d_table 0 slots (count (used ls)) (layers * x + t) (omega arith))
 
-  plain-page : (x : ℕ) → x < chapters → get_or s.page (layers * x) 0 ≡ page_of ls x 0
-  plain-page x h = let z : layers * x + 0 ≡ layers * x = omega arith in rw z at (page-at x 0 h (omega arith))
+  plain_page : (x : ℕ) → x < chapters → get_or s.page (layers * x) 0 ≡ page_of ls x 0
+  plain_page x h = let z : layers * x + 0 ≡ layers * x = omega arith in rw z at (page_at_lem x 0 h (omega arith))
 
-  paged-at : (x : ℕ) → x < chapters → get_or s.paged x false ≡ paged ls x
-  paged-at x h = rw v.paged-are (getD-table false chapters (paged ls) x h)
+  paged_at : (x : ℕ) → x < chapters → get_or s.paged x false ≡ paged ls x
+  paged_at x h = rw v.paged_are (get_d_table false chapters (paged ls) x h)
 
   under_at : (x : ℕ) → x < chapters → get_or s.under x false ≡ under ls x
-  under_at x h = rw v.under-are (getD-table false chapters (under ls) x h)
+  under_at x h = rw v.under_are (get_d_table false chapters (under ls) x h)
 
-  kind-at : (p : ℕ) → p < paragraphs → get_or s.kinds p 0 ≡ kind_at ls p
-  kind-at p h = rw v.kinds-are (getD-table 0 paragraphs (kind_at ls) p h)
+  kind_at_lem : (p : ℕ) → p < paragraphs → get_or s.kinds p 0 ≡ kind_at ls p
+  kind_at_lem p h = rw v.kinds_are (get_d_table 0 paragraphs (kind_at ls) p h)
 
-  slot_at : (i : ℕ) → i < slots → get_or s.slot i 0 ≡ slotOfPage ls i
-  slot_at i h = rw v.slot-are (getD-table 0 slots (slotOfPage ls) i h)
+  slot_at : (i : ℕ) → i < slots → get_or s.slot i 0 ≡ slot_of_page ls i
+  slot_at i h = rw v.slot_are (get_d_table 0 slots (slot_of_page ls) i h)
 
   -- flip entries
-  uses-at : (x y : ℕ) → x < chapters → y < chapterPages → get_or s.used (layers * x + (y + 1)) false ≡ uses ls x (suc y)
+  uses_at : (x y : ℕ) → x < chapters → y < chapter_pages → get_or s.used (layers * x + (y + 1)) false ≡ uses ls x (suc y)
   unfolding used
-  uses-at x y h l =
+  uses_at x y h l =
       let a : (layers * x + (y + 1)) / layers ≡ x = omega arith in
       let b : (layers * x + (y + 1)) % layers ≡ suc y = omega arith in
-      used-at (layers * x + (y + 1)) (omega arith) ∙ rw (a, b)
+      used_at (layers * x + (y + 1)) (omega arith) ∙ rw (a, b)
 
-  entry_at : (n : ℕ) → n < flipEntries → flipIn s.used s.page s.under s.paged n ≡ flipEntry ls (n / chapterPages) (n % chapterPages)
-  unfolding flipEntry answering
-  entry_at n h = by (n / chapterPages) (n % chapterPages) (omega arith) (omega arith)
+  entry_at : (n : ℕ) → n < flip_entries → flip_in s.used s.page s.under s.paged n ≡ flip_entry ls (n / chapter_pages) (n % chapter_pages)
+  unfolding flip_entry answering
+  entry_at n h = by (n / chapter_pages) (n % chapter_pages) (omega arith) (omega arith)
     where
-      by : (x y : ℕ) → x < chapters → y < chapterPages
-          → entryBy (get_or s.paged x false) (answer_in s.used s.page s.under x y)
-          ≡ cond (paged ls x) (entryFor (cond (uses ls x (suc y)) (some (page_of ls x (suc y))) (cond (under ls x) (some (page_of ls x 0)) none))) 0
+      by : (x y : ℕ) → x < chapters → y < chapter_pages
+          → entry_by (get_or s.paged x false) (answer_in s.used s.page s.under x y)
+          ≡ cond (paged ls x) (entry_for (cond (uses ls x (suc y)) (some (page_of ls x (suc y))) (cond (under ls x) (some (page_of ls x 0)) none))) 0
       by x y h l =
           let z : y + 1 ≡ suc y = omega arith in
-          let p : get_or s.page (layers * x + (y + 1)) 0 ≡ page_of ls x (suc y) = page-at x (y + 1) h (omega arith) ∙ ap (page_of ls x) z in
-          rw (paged-at x h, uses-at x y h l, p, under_at x h, plain-page x h)
-          (entry-by (paged ls x) (uses ls x (suc y)) (page_of ls x (suc y)) (under ls x) (page_of ls x 0))
+          let p : get_or s.page (layers * x + (y + 1)) 0 ≡ page_of ls x (suc y) = page_at_lem x (y + 1) h (omega arith) ∙ ap (page_of ls x) z in
+          rw (paged_at x h, uses_at x y h l, p, under_at x h, plain_page x h)
+          (entry_by_lem (paged ls x) (uses ls x (suc y)) (page_of ls x (suc y)) (under ls x) (page_of ls x 0))
 
-  flips-are : flipsBy s ≡ flipTable ls
-  unfolding flipsIn
-  flips-are = table_same 0 flipEntries _ (λ n. flipEntry ls (n / chapterPages) (n % chapterPages)) entry_at
+  flips_are : flips_by s ≡ flip_table ls
+  unfolding flips_in
+  flips_are = table_same 0 flip_entries _ (λ n. flip_entry ls (n / chapter_pages) (n % chapter_pages)) entry_at
 
   -- the two tables of a paragraph
-  first-flip : (p : ℕ) → p < paragraphs → get_or (flipsBy s) (chapterPages * (p / chapterParagraphs)) 0 ≡ flipEntry ls (p / chapterParagraphs) 0
-  first-flip p h =
-      let a : chapterPages * (p / chapterParagraphs) / chapterPages ≡ p / chapterParagraphs = omega arith in
-      let b : chapterPages * (p / chapterParagraphs) % chapterPages ≡ 0 = omega arith in
-      rw flips-are
-      (getD-table 0 flipEntries (λ n. flipEntry ls (n / chapterPages) (n % chapterPages)) (chapterPages * (p / chapterParagraphs)) (omega arith) ∙ rw (a, b))
+  first_flip : (p : ℕ) → p < paragraphs → get_or (flips_by s) (chapter_pages * (p / chapter_paragraphs)) 0 ≡ flip_entry ls (p / chapter_paragraphs) 0
+  first_flip p h =
+      let a : chapter_pages * (p / chapter_paragraphs) / chapter_pages ≡ p / chapter_paragraphs = omega arith in
+      let b : chapter_pages * (p / chapter_paragraphs) % chapter_pages ≡ 0 = omega arith in
+      rw flips_are
+      (get_d_table 0 flip_entries (λ n. flip_entry ls (n / chapter_pages) (n % chapter_pages)) (chapter_pages * (p / chapter_paragraphs)) (omega arith) ∙ rw (a, b))
 
-  flippable-at : (p : ℕ) → p < paragraphs → flippableIn s.paged p ≡ flippable ls p
+  flippable_at : (p : ℕ) → p < paragraphs → flippable_in s.paged p ≡ flippable ls p
   unfolding flippable
-  flippable-at p h = rw (paged-at (p / chapterParagraphs) (omega arith))
+  flippable_at p h = rw (paged_at (p / chapter_paragraphs) (omega arith))
 
-  mapping-are : table paragraphs (mappingIn s.paged (flipsBy s) s.kinds s.page) ≡ mappingTable ls
-  unfolding mappingAt
-  mapping-are =
-      table_same 0 paragraphs _ (mappingAt ls 0)
+  mapping_are : table paragraphs (mapping_in s.paged (flips_by s) s.kinds s.page) ≡ mapping_table ls
+  unfolding mapping_at
+  mapping_are =
+      table_same 0 paragraphs _ (mapping_at ls 0)
       (λ p h.
-      rw (flippable-at p h, first-flip p h, kind-at p h, plain-page (p / chapterParagraphs) (omega arith), ← kind-none (lineIn ls 0 p))
-      (ap (cond (flippable ls p) (flipMapping (flipEntry ls (p / chapterParagraphs) 0) (p % chapterParagraphs)))
-      (sym (not-cond (is_some (lineIn ls 0 p)) (pageParagraphs * page_of ls (p / chapterParagraphs) 0 + p % chapterParagraphs) 0))))
+      rw (flippable_at p h, first_flip p h, kind_at_lem p h, plain_page (p / chapter_paragraphs) (omega arith), ← kind_none (line_in ls 0 p))
+      (ap (cond (flippable ls p) (flip_mapping (flip_entry ls (p / chapter_paragraphs) 0) (p % chapter_paragraphs)))
+      (sym (not_cond (is_some (line_in ls 0 p)) (page_paragraphs * page_of ls (p / chapter_paragraphs) 0 + p % chapter_paragraphs) 0))))
 
-  permissions-are : table paragraphs (permissionsIn s.paged (flipsBy s) s.kinds) ≡ permissionsTable ls
-  unfolding permissionsAt
-  permissions-are =
-      table_same 0 paragraphs _ (permissionsAt ls 0) (λ p h. rw (flippable-at p h, first-flip p h, kind-at p h))
+  permissions_are : table paragraphs (permissions_in s.paged (flips_by s) s.kinds) ≡ permissions_table ls
+  unfolding permissions_at
+  permissions_are =
+      table_same 0 paragraphs _ (permissions_at ls 0) (λ p h. rw (flippable_at p h, first_flip p h, kind_at_lem p h))
 
   -- the line behind a Locutus paragraph
-  slot-below : (i : ℕ) → slotOfPage ls i < slots
-  unfolding slotOfPage
-  slot-below i = nth-below (used ls) slots slots i (omega arith) (omega arith)
+  slot_below : (i : ℕ) → slot_of_page ls i < slots
+  unfolding slot_of_page
+  slot_below i = nth_below (used ls) slots slots i (omega arith) (omega arith)
 
-  paragraph-at : (p : ℕ) → p < cells → paragraphIn s.slot p ≡ paragraphHeld ls p
-  paragraph-at p h = rw (slot_at (p / pageParagraphs) (omega arith))
+  paragraph_at : (p : ℕ) → p < cells → paragraph_in s.slot p ≡ paragraph_held ls p
+  paragraph_at p h = rw (slot_at (p / page_paragraphs) (omega arith))
 
-  line-cond : (b : Bool) (n : ℕ) → line_of all (cond b n 0) ≡ cond b (line_of all n) none
-  line-cond true n = refl
-  line-cond false n = refl
+  line_cond : (b : Bool) (n : ℕ) → line_of all (cond b n 0) ≡ cond b (line_of all n) none
+  line_cond true n = refl
+  line_cond false n = refl
 
-  line-held : (p : ℕ) → p < cells → line_of all (heldIn s.cells s.slot s.pages p) ≡ lineHeld ls p
-  unfolding heldIn lineHeld
-  line-held p h =
-      let b : slotOfPage ls (p / pageParagraphs) < slots = slot-below (p / pageParagraphs) in
-      rw (slot_at (p / pageParagraphs) (omega arith), v.pages-are)
-      (line-cond (ltb (p / pageParagraphs) (pages ls)) (get_or s.cells (paragraphs * layerHeld ls p + paragraphHeld ls p) 0)
-      ∙ ap (λ (o : Option Line). cond (ltb (p / pageParagraphs) (pages ls)) o none) (line-at v.cells_are (layerHeld ls p) (paragraphHeld ls p) (omega arith) (omega arith)))
+  line_held_lem : (p : ℕ) → p < cells → line_of all (held_in s.cells s.slot s.pages p) ≡ line_held ls p
+  unfolding held_in line_held
+  line_held_lem p h =
+      let b : slot_of_page ls (p / page_paragraphs) < slots = slot_below (p / page_paragraphs) in
+      rw (slot_at (p / page_paragraphs) (omega arith), v.pages_are)
+      (line_cond (ltb (p / page_paragraphs) (pages ls)) (get_or s.cells (paragraphs * layer_held ls p + paragraph_held ls p) 0)
+      ∙ ap (λ (o : Option Line). cond (ltb (p / page_paragraphs) (pages ls)) o none) (line_at_lem v.cells_are (layer_held ls p) (paragraph_held ls p) (omega arith) (omega arith)))
 
-  marks-are : table locutusParagraphs (markIn s.cells s.slot s.pages) ≡ table locutusParagraphs (covered ls)
-  marks-are =
-      table_same false locutusParagraphs _ (covered ls)
-      (λ p h. sym (some-line all (heldIn s.cells s.slot s.pages p)) ∙ ap is_some (line-held p (omega arith)))
+  marks_are : table locutus_paragraphs (mark_in s.cells s.slot s.pages) ≡ table locutus_paragraphs (covered ls)
+  marks_are =
+      table_same false locutus_paragraphs _ (covered ls)
+      (λ p h. sym (some_line all (held_in s.cells s.slot s.pages p)) ∙ ap is_some (line_held_lem p (omega arith)))
 
-  drawn-is : drawnBy s ≡ drawingOf ls
-  unfolding drawnBy drawingOf
-  drawn-is = rw (mapping-are, permissions-are, flips-are, marks-are, v.pages-are)
+  drawn_is : drawn_by s ≡ drawing_of ls
+  unfolding drawn_by drawing_of
+  drawn_is = rw (mapping_are, permissions_are, flips_are, marks_are, v.pages_are)
 
-  pub draws : (d : Drawing) → d ≡ drawnBy s → d ≡ drawingOf ls
-  draws d e = e ∙ drawn-is
+  pub draws : (d : Drawing) → d ≡ drawn_by s → d ≡ drawing_of ls
+  draws d e = e ∙ drawn_is
 
   -- its words
-  pub few-pages : s.pages ≤ slots
+  pub few_pages : s.pages ≤ slots
   unfolding pages
-  few-pages = rw v.pages-are (count_most (used ls) slots)
+  few_pages = rw v.pages_are (count_most (used ls) slots)
 
   pub small : Small s.page
-  small = record { each = λ i h. rw (v.page-are, getD-table 0 slots (count (used ls)) i h) (omega (arith, count_most (used ls) i)) }
+  small = record { each = λ i h. rw (v.page_are, get_d_table 0 slots (count (used ls)) i h) (omega (arith, count_most (used ls) i)) }
 
-  pub slots-ok : Slots s.slot
-  slots-ok = record { each = λ i h. rw (slot_at i h) (slot-below i) }
+  pub slots_ok : Slots s.slot
+  slots_ok = record { each = λ i h. rw (slot_at i h) (slot_below i) }
 
-  held-few : (p : ℕ) → p < cells → heldIn s.cells s.slot s.pages p ≤ lineLimit
-  unfolding heldIn
-  held-few p h =
-      let b : slotIn s.slot p < slots = slots-ok.each (p / pageParagraphs) (omega arith) in
-      by (ltb (p / pageParagraphs) s.pages) (v.cells_are.few.each (paragraphs * (slotIn s.slot p % layers) + paragraphIn s.slot p) (omega arith))
+  held_few : (p : ℕ) → p < cells → held_in s.cells s.slot s.pages p ≤ line_limit
+  unfolding held_in
+  held_few p h =
+      let b : slot_in s.slot p < slots = slots_ok.each (p / page_paragraphs) (omega arith) in
+      by (ltb (p / page_paragraphs) s.pages) (v.cells_are.few.each (paragraphs * (slot_in s.slot p % layers) + paragraph_in s.slot p) (omega arith))
     where
-      by : (b : Bool) {n : ℕ} → n ≤ lineLimit → cond b n 0 ≤ lineLimit
+      by : (b : Bool) {n : ℕ} → n ≤ line_limit → cond b n 0 ≤ line_limit
       by true l = l
       by false l = omega arith
 
-  held-starts : (p : ℕ) → p < cells → (heldIn s.cells s.slot s.pages p ≡ 0 → ⊥)
-      → first (get_or all (heldIn s.cells s.slot s.pages p - 1) noLine).entry ≤ paragraphSize * paragraphIn s.slot p
-  unfolding lineHeld
-  held-starts p h d =
-      let l : line_of all (heldIn s.cells s.slot s.pages p) ≡ lineHeld ls p = line-held p h in
-      let e : some (get_or all (heldIn s.cells s.slot s.pages p - 1) noLine) ≡ lineHeld ls p = rw (ne_eqb _ _ d) at l in
-      rw (paragraph-at p h)
-      (cases (ltb (p / pageParagraphs) (pages ls))
-      (λ q. (within _ (paragraphSize * paragraphHeld ls p) (line-here ls (layerHeld ls p) (paragraphSize * paragraphHeld ls p) _ (sym (rw q at e)))).from)
-      (λ q. let f : some (get_or all (heldIn s.cells s.slot s.pages p - 1) noLine) ≡ none = rw q at e in let z : ◌≡◌ {A = ℕ} 0 1 = cc in absurd (omega arith)))
+  held_starts : (p : ℕ) → p < cells → (held_in s.cells s.slot s.pages p ≡ 0 → ⊥)
+      → first (get_or all (held_in s.cells s.slot s.pages p - 1) no_line).entry ≤ paragraph_size * paragraph_in s.slot p
+  unfolding line_held
+  held_starts p h d =
+      let l : line_of all (held_in s.cells s.slot s.pages p) ≡ line_held ls p = line_held_lem p h in
+      let e : some (get_or all (held_in s.cells s.slot s.pages p - 1) no_line) ≡ line_held ls p = rw (ne_eqb _ _ d) at l in
+      rw (paragraph_at p h)
+      (cases (ltb (p / page_paragraphs) (pages ls))
+      (λ q. (within _ (paragraph_size * paragraph_held ls p) (line_here ls (layer_held ls p) (paragraph_size * paragraph_held ls p) _ (sym (rw q at e)))).from)
+      (λ q. let f : some (get_or all (held_in s.cells s.slot s.pages p - 1) no_line) ≡ none = rw q at e in let z : ◌≡◌ {A = ℕ} 0 1 = cc in absurd (omega arith)))
 
   pub begins : Begins all s.cells s.slot s.pages
-  begins = record { few = held-few; start = held-starts }
+  begins = record { few = held_few; start = held_starts }
 
-  poured-is : (bin ram : List ℕ) → pouredBy bin all s ram ≡ ramOf bin ls ram
-  unfolding pouredBy ramOf writtenIn
-  poured-is bin ram =
-      laid_same 0 (paragraphSize * min (pageParagraphs * s.pages) (length ram / paragraphSize)) (writtenIn bin all s.cells s.slot s.pages) (word_at bin ls) ram
-      (λ i h. let b : i / paragraphSize < cells = omega (arith, few-pages) in rw (line-held (i / paragraphSize) b, paragraph-at (i / paragraphSize) b))
-      ∙ rw v.pages-are
+  poured_is : (bin ram : List ℕ) → poured_by bin all s ram ≡ ram_of bin ls ram
+  unfolding poured_by ram_of written_in
+  poured_is bin ram =
+      laid_same 0 (paragraph_size * min (page_paragraphs * s.pages) (length ram / paragraph_size)) (written_in bin all s.cells s.slot s.pages) (word_at bin ls) ram
+      (λ i h. let b : i / paragraph_size < cells = omega (arith, few_pages) in rw (line_held_lem (i / paragraph_size) b, paragraph_at (i / paragraph_size) b))
+      ∙ rw v.pages_are
 
-  pub pours : (bin ram after : List ℕ) → after ≡ pouredBy bin all s ram → after ≡ ramOf bin ls ram
-  pours bin ram after e = e ∙ poured-is bin ram
+  pub pours : (bin ram after : List ℕ) → after ≡ poured_by bin all s ram → after ≡ ram_of bin ls ram
+  pours bin ram after e = e ∙ poured_is bin ram

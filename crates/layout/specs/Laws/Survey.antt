@@ -7,96 +7,96 @@ use Rattle.basics.specs.Options.{is_some}
 use Rattle.basics.specs.Counts.{count, nth}
 use Rattle.basics.specs.Tables.{table}
 use Rattle.basics.specs.Laws.Lists.{take_min}
-use Rattle.basics.specs.Laws.Tables.{getD-table, table_same}
+use Rattle.basics.specs.Laws.Tables.{get_d_table, table_same}
 use Rattle.basics.specs.Laws.Counts.{any_same, all_same, count_same}
-use Rattle.basics.specs.Laws.Nth.{nth-same}
-use Rattle.places.specs.Limits.{lineLimit, chapters, chapterParagraphs, chapterPages, paragraphs, layers, slots, cells}
-use Rattle.switches.specs.Flips.{firstK}
+use Rattle.basics.specs.Laws.Nth.{nth_same}
+use Rattle.places.specs.Limits.{line_limit, chapters, chapter_paragraphs, chapter_pages, paragraphs, layers, slots, cells}
+use Rattle.switches.specs.Flips.{first_k}
 use Rattle.lines.specs.declared.Line.{Line}
 use Rattle.lines.specs.Kinds.{kind_of}
-use Rattle.rules.specs.Chapters.{lineIn, uses, paged, kind_at, under}
+use Rattle.rules.specs.Chapters.{line_in, uses, paged, kind_at, under}
 use Rattle.layout.specs.declared.pages.Numbered.{Numbered}
-use Rattle.layout.specs.Layout.{used, pages, slotOfPage}
-use Rattle.layout.specs.Code.Survey.{line_of, Cells, usedIn, pagedIn, kindIn, underIn, isUsed, numberedOf, Surveyed}
-use Rattle.layout.specs.Laws.Cells.{some-line}
+use Rattle.layout.specs.Layout.{used, pages, slot_of_page}
+use Rattle.layout.specs.Code.Survey.{line_of, Cells, used_in, paged_in, kind_in, under_in, is_used, numbered_of, Surveyed}
+use Rattle.layout.specs.Laws.Cells.{some_line}
 
 module _ {all ls : List Line} {o : List ℕ} (w : Cells all ls o) where
-  pub line-at : (t p : ℕ) → t < layers → p < paragraphs → line_of all (get_or o (paragraphs * t + p) 0) ≡ lineIn ls t p
-  line-at t p h l =
+  pub line_at_lem : (t p : ℕ) → t < layers → p < paragraphs → line_of all (get_or o (paragraphs * t + p) 0) ≡ line_in ls t p
+  line_at_lem t p h l =
       let a : (paragraphs * t + p) / paragraphs ≡ t = omega arith in
       let b : (paragraphs * t + p) % paragraphs ≡ p = omega arith in
       w.line (paragraphs * t + p) (omega arith) ∙ rw (a, b)
 
-  used-by : (s : ℕ) → s < slots → usedIn o (s / layers) (s % layers) ≡ used ls s
-  unfolding usedIn used uses
-  used-by s h =
-      any_same chapterParagraphs (λ k. not (eqb (get_or o (paragraphs * (s % layers) + (chapterParagraphs * (s / layers) + k)) 0) 0)) _
+  used_by : (s : ℕ) → s < slots → used_in o (s / layers) (s % layers) ≡ used ls s
+  unfolding used_in used uses
+  used_by s h =
+      any_same chapter_paragraphs (λ k. not (eqb (get_or o (paragraphs * (s % layers) + (chapter_paragraphs * (s / layers) + k)) 0) 0)) _
       (λ k m.
-      sym (some-line all (get_or o (paragraphs * (s % layers) + (chapterParagraphs * (s / layers) + k)) 0))
-      ∙ ap is_some (line-at (s % layers) (chapterParagraphs * (s / layers) + k) (omega arith) (omega arith)))
+      sym (some_line all (get_or o (paragraphs * (s % layers) + (chapter_paragraphs * (s / layers) + k)) 0))
+      ∙ ap is_some (line_at_lem (s % layers) (chapter_paragraphs * (s / layers) + k) (omega arith) (omega arith)))
 
-  kind-by : (p : ℕ) → p < paragraphs → kindIn all o p ≡ kind_at ls p
-  kind-by p h = let z : paragraphs * 0 + p ≡ p = omega arith in ap kind_of (rw z at (line-at 0 p (omega arith) h))
+  kind_by_lem : (p : ℕ) → p < paragraphs → kind_in all o p ≡ kind_at ls p
+  kind_by_lem p h = let z : paragraphs * 0 + p ≡ p = omega arith in ap kind_of (rw z at (line_at_lem 0 p (omega arith) h))
 
-paged-by : (ls : List Line) (u : List Bool) → u ≡ table slots (used ls) → (x : ℕ) → x < chapters → pagedIn u x ≡ paged ls x
-unfolding pagedIn paged used
-paged-by ls u e x h =
-    any_same chapterPages (λ y. get_or u (layers * x + suc y) false) (λ y. uses ls x (suc y))
+paged_by : (ls : List Line) (u : List Bool) → u ≡ table slots (used ls) → (x : ℕ) → x < chapters → paged_in u x ≡ paged ls x
+unfolding paged_in paged used
+paged_by ls u e x h =
+    any_same chapter_pages (λ y. get_or u (layers * x + suc y) false) (λ y. uses ls x (suc y))
     (λ y l.
     let a : (layers * x + suc y) / layers ≡ x = omega arith in
     let b : (layers * x + suc y) % layers ≡ suc y = omega arith in
-    rw e (getD-table false slots (used ls) (layers * x + suc y) (omega arith) ∙ rw (a, b)))
+    rw e (get_d_table false slots (used ls) (layers * x + suc y) (omega arith) ∙ rw (a, b)))
 
-under-by : (ls : List Line) (v : List ℕ) → v ≡ table paragraphs (kind_at ls) → (x : ℕ) → x < chapters → underIn v x ≡ under ls x
-unfolding underIn under
-under-by ls v e x h =
-    all_same chapterParagraphs (λ k. ltb k (firstK x) || eqb (get_or v (chapterParagraphs * x + k) 0) 1) _
+under_by : (ls : List Line) (v : List ℕ) → v ≡ table paragraphs (kind_at ls) → (x : ℕ) → x < chapters → under_in v x ≡ under ls x
+unfolding under_in under
+under_by ls v e x h =
+    all_same chapter_paragraphs (λ k. ltb k (first_k x) || eqb (get_or v (chapter_paragraphs * x + k) 0) 1) _
     (λ k l.
-    let z : get_or v (chapterParagraphs * x + k) 0 ≡ kind_at ls (chapterParagraphs * x + k) =
-    rw e (getD-table 0 paragraphs (kind_at ls) (chapterParagraphs * x + k) (omega arith)) in
+    let z : get_or v (chapter_paragraphs * x + k) 0 ≡ kind_at ls (chapter_paragraphs * x + k) =
+    rw e (get_d_table 0 paragraphs (kind_at ls) (chapter_paragraphs * x + k) (omega arith)) in
     rw z)
 
 -- the pages by number
 module _ (ls : List Line) (u : List Bool) (e : u ≡ table slots (used ls)) where
-  is-used : (s : ℕ) → s < slots → isUsed u s ≡ used ls s
-  is-used s h = rw e (getD-table false slots (used ls) s h)
+  is_used_lem : (s : ℕ) → s < slots → is_used u s ≡ used ls s
+  is_used_lem s h = rw e (get_d_table false slots (used ls) s h)
 
-  page-by : (numberedOf u).page ≡ table slots (count (used ls))
-  unfolding numberedOf
-  page-by = table_same 0 slots (count (isUsed u)) (count (used ls)) (λ s h. count_same (isUsed u) (used ls) s (λ i l. is-used i (omega arith)))
+  page_by : (numbered_of u).page ≡ table slots (count (used ls))
+  unfolding numbered_of
+  page_by = table_same 0 slots (count (is_used u)) (count (used ls)) (λ s h. count_same (is_used u) (used ls) s (λ i l. is_used_lem i (omega arith)))
 
-  slot-by : (numberedOf u).slot ≡ table slots (slotOfPage ls)
-  unfolding numberedOf slotOfPage
-  slot-by = table_same 0 slots (nth (isUsed u) slots) _ (λ s h. nth-same (isUsed u) (used ls) slots s is-used)
+  slot_by : (numbered_of u).slot ≡ table slots (slot_of_page ls)
+  unfolding numbered_of slot_of_page
+  slot_by = table_same 0 slots (nth (is_used u) slots) _ (λ s h. nth_same (is_used u) (used ls) slots s is_used_lem)
 
-  pages-by : (numberedOf u).pages ≡ pages ls
-  unfolding numberedOf pages
-  pages-by = count_same (isUsed u) (used ls) slots is-used
+  pages_by : (numbered_of u).pages ≡ pages ls
+  unfolding numbered_of pages
+  pages_by = count_same (is_used u) (used ls) slots is_used_lem
 
 -- as the code comes to it, for so many of all lines
 pub surveyed :
-    (m n : ℕ) (all : List Line) (o v : List ℕ) (u p d : List Bool) (r : Numbered) → length all ≡ lineLimit → n ≡ min m lineLimit
-    → Cells all (take n all) o → v ≡ table paragraphs (kindIn all o) → u ≡ table slots (λ s. usedIn o (s / layers) (s % layers))
-    → p ≡ table chapters (pagedIn u) → d ≡ table chapters (underIn v) → r ≡ numberedOf u
+    (m n : ℕ) (all : List Line) (o v : List ℕ) (u p d : List Bool) (r : Numbered) → length all ≡ line_limit → n ≡ min m line_limit
+    → Cells all (take n all) o → v ≡ table paragraphs (kind_in all o) → u ≡ table slots (λ s. used_in o (s / layers) (s % layers))
+    → p ≡ table chapters (paged_in u) → d ≡ table chapters (under_in v) → r ≡ numbered_of u
     → Surveyed all (take m all)
     (record { cells = o; kinds = v; used = u; paged = p; under = d; page = r.page; slot = r.slot; pages = r.pages })
 surveyed m n all o v u p d r long en w ev eu ep ed er = rw (take_min n m all (en ∙ rw long)) at made
   where
-    kinds-are : v ≡ table paragraphs (kind_at (take n all))
-    kinds-are = ev ∙ table_same 0 paragraphs (kindIn all o) (kind_at (take n all)) (λ i h. kind-by w i h)
+    kinds_are : v ≡ table paragraphs (kind_at (take n all))
+    kinds_are = ev ∙ table_same 0 paragraphs (kind_in all o) (kind_at (take n all)) (λ i h. kind_by_lem w i h)
 
-    used-are : u ≡ table slots (used (take n all))
-    used-are = eu ∙ table_same false slots (λ s. usedIn o (s / layers) (s % layers)) (used (take n all)) (λ s h. used-by w s h)
+    used_are : u ≡ table slots (used (take n all))
+    used_are = eu ∙ table_same false slots (λ s. used_in o (s / layers) (s % layers)) (used (take n all)) (λ s h. used_by w s h)
 
     made : Surveyed all (take n all) (record { cells = o; kinds = v; used = u; paged = p; under = d; page = r.page; slot = r.slot; pages = r.pages })
     made =
         record {
           cells_are = w;
-          kinds-are = kinds-are;
-          used-are = used-are;
-          paged-are = ep ∙ table_same false chapters (pagedIn u) (paged (take n all)) (λ x h. paged-by (take n all) u used-are x h);
-          under-are = ed ∙ table_same false chapters (underIn v) (under (take n all)) (λ x h. under-by (take n all) v kinds-are x h);
-          page-are = ap (λ (q : Numbered). q.page) er ∙ page-by (take n all) u used-are;
-          slot-are = ap (λ (q : Numbered). q.slot) er ∙ slot-by (take n all) u used-are;
-          pages-are = ap (λ (q : Numbered). q.pages) er ∙ pages-by (take n all) u used-are;
+          kinds_are = kinds_are;
+          used_are = used_are;
+          paged_are = ep ∙ table_same false chapters (paged_in u) (paged (take n all)) (λ x h. paged_by (take n all) u used_are x h);
+          under_are = ed ∙ table_same false chapters (under_in v) (under (take n all)) (λ x h. under_by (take n all) v kinds_are x h);
+          page_are = ap (λ (q : Numbered). q.page) er ∙ page_by (take n all) u used_are;
+          slot_are = ap (λ (q : Numbered). q.slot) er ∙ slot_by (take n all) u used_are;
+          pages_are = ap (λ (q : Numbered). q.pages) er ∙ pages_by (take n all) u used_are;
         }

@@ -2,8 +2,8 @@
 use borrow.Author.Rules.{rules}
 use Prim.Native.Nat.{◌-◌}
 use mathlib.Core.Logic.{⊎_elim}
-use Rattle.places.specs.Limits.{flipEntries}
-use Rattle.ledger.proofs.Gathers.{Pages, pages-all, pages-few, pages-more, pages-none, pages-off}
+use Rattle.places.specs.Limits.{flip_entries}
+use Rattle.ledger.proofs.Gathers.{Pages, pages_all, pages_few, pages_more, pages_none, pages_off}
 use Rattle.ledger.proofs.with_pages.Statement.{statement}
 use Rattle.ledger.proofs.with_pages.Tie as tie
 
@@ -11,16 +11,16 @@ abbrev invariant-loop : tie.invariant-loop
 invariant-loop kinds pages f₀ n₀ f n = Pages kinds pages f n
 
 abbrev decreases-loop : tie.decreases-loop
-decreases-loop kinds pages f₀ n₀ f n = flipEntries - n
+decreases-loop kinds pages f₀ n₀ f n = flip_entries - n
 
 loop-holds : tie.Need-loop-init invariant-loop decreases-loop
-loop-holds c = search (rules, pages-none)
+loop-holds c = search (rules, pages_none)
 
 loop-again : tie.Need-loop-preserved invariant-loop decreases-loop
-loop-again c = ⊎_elim (λ w. search (rules, pages-more)) (λ w. search (rules, pages-off)) c.if1.branch
+loop-again c = ⊎_elim (λ w. search (rules, pages_more)) (λ w. search (rules, pages_off)) c.if1.branch
 
 returns : tie.Need-returns invariant-loop decreases-loop
-returns c = search (rules, pages-all, pages-few)
+returns c = search (rules, pages_all, pages_few)
 
 pub with-pages-spec : {M : Type 1} → statement M
 with-pages-spec =

@@ -2,12 +2,12 @@
 use Prim.Native.Nat.{ℕ}
 use mathlib.Core.Path.{refl, sym}
 use lib.ListN.{length-replicate}
-use Rattle.places.specs.Limits.{lentLimit}
+use Rattle.places.specs.Limits.{lent_limit}
 use Rattle.lending.proofs.blank_ram.Statement.{statement}
 use Rattle.lending.proofs.blank_ram.Tie as tie
 
 returns : tie.Need-returns
-returns c = (refl, sym (length-replicate {A = ℕ} lentLimit 0))
+returns c = (refl, sym (length-replicate {A = ℕ} lent_limit 0))
 
 pub blank-ram-spec : {M : Type 1} → statement M
 blank-ram-spec = tie.close (tie.spec returns)

@@ -2,13 +2,13 @@
 use Prim.Native.Nat.{ℕ}
 use mathlib.Core.Path.{refl, sym}
 use lib.ListN.{length-replicate}
-use Rattle.flash.specs.Flash.{erasedWord}
-use Rattle.lending.specs.Lending.{flashLimit}
+use Rattle.flash.specs.Flash.{erased_word}
+use Rattle.lending.specs.Lending.{flash_limit}
 use Rattle.lending.proofs.erased_flash.Statement.{statement}
 use Rattle.lending.proofs.erased_flash.Tie as tie
 
 returns : tie.Need-returns
-returns c = (refl, sym (length-replicate {A = ℕ} flashLimit erasedWord))
+returns c = (refl, sym (length-replicate {A = ℕ} flash_limit erased_word))
 
 pub erased-flash-spec : {M : Type 1} → statement M
 erased-flash-spec = tie.close (tie.spec returns)

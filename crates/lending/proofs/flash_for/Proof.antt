@@ -1,7 +1,7 @@
 -- `lending::flash_for` meets its contract: one law for each return.
 use native.Mathlib.Omega.{arith}
 use borrow.Author.Rules.{rules}
-use Rattle.lending.proofs.Laws.{asks_none, asks-some}
+use Rattle.lending.proofs.Laws.{asks_none, asks_some}
 use Rattle.lending.proofs.flash_for.Statement.{statement}
 use Rattle.lending.proofs.flash_for.Tie as tie
 
@@ -9,7 +9,7 @@ returns : tie.Need-returns
 returns c = search (rules, asks_none)
 
 returns-2 : tie.Need-returns-2
-returns-2 c = search (rules, asks-some)
+returns-2 c = search (rules, asks_some)
 
 pub flash-for-spec : {M : Type 1} → statement M
 flash-for-spec =

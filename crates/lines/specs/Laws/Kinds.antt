@@ -6,14 +6,14 @@ use Rattle.lines.specs.declared.Entry.{Entry}
 use Rattle.lines.specs.declared.Entry.TheVariants.{Rom, Paged, Ram}
 use Rattle.lines.specs.declared.Line.{Line}
 use Rattle.lines.specs.declared.Width.TheVariants.{Sixteen, Eight}
-use Rattle.lines.specs.Kinds.{kindBy, kind_of}
+use Rattle.lines.specs.Kinds.{kind_by, kind_of}
 
-pub kind-some : (e : Entry) → eqb (kindBy e) 0 ≡ false
-kind-some (Rom lo hi at) = refl
-kind-some (Paged lo hi at y) = refl
-kind-some (Ram lo hi Sixteen) = refl
-kind-some (Ram lo hi Eight) = refl
+pub kind_some : (e : Entry) → eqb (kind_by e) 0 ≡ false
+kind_some (Rom lo hi at) = refl
+kind_some (Paged lo hi at y) = refl
+kind_some (Ram lo hi Sixteen) = refl
+kind_some (Ram lo hi Eight) = refl
 
-pub some-by : (o : Option Line) → is_some o ≡ not (eqb (kind_of o) 0)
-some-by none = refl
-some-by (some l) = rw (kind-some l.entry)
+pub some_by : (o : Option Line) → is_some o ≡ not (eqb (kind_of o) 0)
+some_by none = refl
+some_by (some l) = rw (kind_some l.entry)

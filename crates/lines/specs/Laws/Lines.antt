@@ -2,18 +2,18 @@
 use Rattle.std.specs.Prelude.{ℕ, ◌<◌, zero, suc, ◌≤◌, List, [], ◌∷◌, ◌++◌, ◌≡◌, refl, true, ◌&&◌, length, get_or, leb, eqb}
 use Rattle.std.proofs.Math.Option.{some, Option}
 use Rattle.std.proofs.Common.{arith, leb-true, le-leb, eqb-true}
-use Rattle.basics.specs.Laws.Tests.{and_left, and_right, true-is-not-false, cases}
+use Rattle.basics.specs.Laws.Tests.{and_left, and_right, true_is_not_false, cases}
 use Rattle.lines.specs.declared.Entry.{Entry}
 use Rattle.lines.specs.declared.Line.{Line}
 use Rattle.lines.specs.declared.Entry.TheVariants.{Rom, Paged, Ram}
 use Rattle.lines.specs.Typed.{All, nil, cons}
-use Rattle.lines.specs.Lines.{first, last, holds, isRam, layer, line_at}
+use Rattle.lines.specs.Lines.{first, last, holds, is_ram, layer, line_at}
 
 -- each line by its number, and one line more
-pub all-at : {P : Entry → Type 0} {lines : List Line} → All P lines → (d : Line) (i : ℕ) → i < length lines → P (get_or lines i d).entry
-all-at nil d i h = absurd (omega arith)
-all-at (cons p ps) d zero h = p
-all-at (cons p ps) d (suc i) h = all-at ps d i (omega arith)
+pub all_at : {P : Entry → Type 0} {lines : List Line} → All P lines → (d : Line) (i : ℕ) → i < length lines → P (get_or lines i d).entry
+all_at nil d i h = absurd (omega arith)
+all_at (cons p ps) d zero h = p
+all_at (cons p ps) d (suc i) h = all_at ps d i (omega arith)
 
 pub all_end : {P : Entry → Type 0} {lines : List Line} (l : Line) → All P lines → P l.entry → All P (lines ++ (l ∷ []))
 all_end l nil p = cons p nil
@@ -42,10 +42,10 @@ unfolding holds
 holding e a w = simp (le-leb _ _ w.from, le-leb _ _ w.to)
 
 -- a RAM line is plain
-pub ram-plain : (e : Entry) → isRam e ≡ true → layer e ≡ 0
-ram-plain (Rom lo hi at) h = refl
-ram-plain (Paged lo hi at y) h = true-is-not-false h refl
-ram-plain (Ram lo hi w) h = refl
+pub ram_plain : (e : Entry) → is_ram e ≡ true → layer e ≡ 0
+ram_plain (Rom lo hi at) h = refl
+ram_plain (Paged lo hi at y) h = true_is_not_false h refl
+ram_plain (Ram lo hi w) h = refl
 
 -- a line that was found
 pub record Found (P : Entry → Type 0) (t a : ℕ) (l : Line) : Type 0 where

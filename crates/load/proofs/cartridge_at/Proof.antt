@@ -1,11 +1,11 @@
 -- `load::cartridge_at` meets its contract: the field, then the tables.
-use Rattle.load.proofs.Laws.{cartridge-is}
+use Rattle.load.proofs.Laws.{cartridge_is}
 use borrow.Author.Rules.{rules}
 use Rattle.load.proofs.cartridge_at.Statement.{statement}
 use Rattle.load.proofs.cartridge_at.Tie as tie
 
 returns : tie.Need-returns
-returns c = search (rules, cartridge-is)
+returns c = search (rules, cartridge_is)
 
 pub cartridge-at-spec : {M : Type 1} → statement M
 cartridge-at-spec =

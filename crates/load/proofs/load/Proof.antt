@@ -1,17 +1,17 @@
 -- `load::load` meets its contract: one law for the answer and one for the RAM, for each way out.
-use Rattle.load.specs.Laws.Passes.{head-answers, head-keeps, header-enough, walk-answers, walk-keeps, loads-tabled, done-so}
+use Rattle.load.specs.Laws.Passes.{head_answers, head_keeps, header_enough, walk_answers, walk_keeps, loads_tabled, done_so}
 use borrow.Author.Rules.{rules}
 use Rattle.load.proofs.load.Statement.{statement}
 use Rattle.load.proofs.load.Tie as tie
 
 returns : tie.Need-returns
-returns c = (search (rules, head-answers), search (rules, head-keeps))
+returns c = (search (rules, head_answers), search (rules, head_keeps))
 
 finish-requires : tie.Need-finish-requires
-finish-requires c κs = (search (rules, header-enough), search (rules, loads-tabled))
+finish-requires c κs = (search (rules, header_enough), search (rules, loads_tabled))
 
 returns-2 : tie.Need-returns-2
-returns-2 c = (search (rules, walk-answers), search (rules, walk-keeps))
+returns-2 c = (search (rules, walk_answers), search (rules, walk_keeps))
 
 returns-3 : tie.Need-returns-3
 returns-3 c =
@@ -22,7 +22,7 @@ returns-3 c =
     let m = near.before.before.before.lent-words.ensures.0 in
     let v = near.before.before.check-blocks.ensures in
     let f = c.before.before.finish.ensures in
-    done-so _ _ _ _ h z _ m _ v _ _ _ (search rules) _ _ f.0 f.1
+    done_so _ _ _ _ h z _ m _ v _ _ _ (search rules) _ _ f.0 f.1
 
 pub load_spec : {M : Type 1} → statement M
 load_spec =

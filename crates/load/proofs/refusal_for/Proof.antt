@@ -1,20 +1,20 @@
 -- `load::refusal_for` meets its contract: one law for each way out.
-use Rattle.load.specs.Laws.Passes.{refusal-head, header-enough, loads-tabled, refusal-walk, refusal-tables}
+use Rattle.load.specs.Laws.Passes.{refusal_head, header_enough, loads_tabled, refusal_walk, refusal_tables}
 use borrow.Author.Rules.{rules}
 use Rattle.load.proofs.refusal_for.Statement.{statement}
 use Rattle.load.proofs.refusal_for.Tie as tie
 
 returns : tie.Need-returns
-returns c = search (rules, refusal-head)
+returns c = search (rules, refusal_head)
 
 judge-tables-requires : tie.Need-judge-tables-requires
-judge-tables-requires c κs = (search (rules, header-enough), search (rules, loads-tabled))
+judge-tables-requires c κs = (search (rules, header_enough), search (rules, loads_tabled))
 
 returns-2 : tie.Need-returns-2
-returns-2 c = search (rules, refusal-walk)
+returns-2 c = search (rules, refusal_walk)
 
 returns-3 : tie.Need-returns-3
-returns-3 c = search (rules, refusal-tables)
+returns-3 c = search (rules, refusal_tables)
 
 pub refusal-for-spec : {M : Type 1} → statement M
 refusal-for-spec =

@@ -5,96 +5,96 @@ use Rattle.std.proofs.Common.{sym, ap, ◌∙◌, arith, eq-eqb, ne_eqb, eqb-tru
 use Rattle.std.proofs.lemmas.Bool.{eqb-false}
 use Rattle.basics.specs.declared.Refusal.{Refusal}
 use Rattle.basics.specs.Rows.{Gives, Silent, none, also}
-use Rattle.basics.specs.Refusals.{refuse, noRefusal}
+use Rattle.basics.specs.Refusals.{refuse, no_refusal}
 use Rattle.basics.specs.Laws.Tests.{cases, not-false}
-use Rattle.basics.specs.Laws.Rows.{silent-first, silent-append, silent-left, silent-right}
-use Rattle.basics.specs.Laws.Refusals.{Refusing, refusing-append, refused-exactly as exactly-refused, accepted-exactly as exactly-accepted}
+use Rattle.basics.specs.Laws.Rows.{silent_first, silent_append, silent_left, silent_right}
+use Rattle.basics.specs.Laws.Refusals.{Refusing, refusing_append, refused_exactly as exactly-refused, accepted_exactly as exactly-accepted}
 use Rattle.places.specs.Limits.{lent}
-use Rattle.header.specs.Header.{headerRows, flags_of}
-use Rattle.header.specs.Laws.Refusals.{header-refusing}
-use Rattle.tables.specs.Tables.{tablesIn, tablesRows}
-use Rattle.tables.specs.Laws.Refusals.{tables-refusing}
-use Rattle.blocks.specs.Blocks.{payloadIn, isTables}
-use Rattle.blocks.specs.Judged.{judgeRows}
-use Rattle.blocks.specs.Images.{firstBlock, blocksIn, stopOf, isCut, judgeAll, anyTables, payloadOfTables}
-use Rattle.blocks.specs.Laws.Judged.{judge-refusing}
-use Rattle.load.specs.Load.{walkRows, refusalRows, refusalOf, loads, loadingOf, loadRamOf}
+use Rattle.header.specs.Header.{header_rows, flags_of}
+use Rattle.header.specs.Laws.Refusals.{header_refusing}
+use Rattle.tables.specs.Tables.{tables_in, tables_rows}
+use Rattle.tables.specs.Laws.Refusals.{tables_refusing}
+use Rattle.blocks.specs.Blocks.{payload_in, is_tables}
+use Rattle.blocks.specs.Judged.{judge_rows}
+use Rattle.blocks.specs.Images.{first_block, blocks_in, stop_of, is_cut, judge_all, any_tables, payload_of_tables}
+use Rattle.blocks.specs.Laws.Judged.{judge_refusing}
+use Rattle.load.specs.Load.{walk_rows, refusal_rows, refusal_of, loads, loading_of, load_ram_of}
 
 -- each row refuses
-judge-all-refusing : (m : ℕ) (e : Bool) (p : ℕ) (xs : List (List ℕ)) → Refusing (judgeAll m e p xs)
-unfolding judgeAll
-judge-all-refusing m e p [] = tt
-judge-all-refusing m e p (x ∷ xs) = refusing-append (judgeRows m e p _ x) _ (judge-refusing m e p _ x) (judge-all-refusing m (e || isTables x) _ xs)
+judge_all_refusing : (m : ℕ) (e : Bool) (p : ℕ) (xs : List (List ℕ)) → Refusing (judge_all m e p xs)
+unfolding judge_all
+judge_all_refusing m e p [] = tt
+judge_all_refusing m e p (x ∷ xs) = refusing_append (judge_rows m e p _ x) _ (judge_refusing m e p _ x) (judge_all_refusing m (e || is_tables x) _ xs)
 
-pub walk-refusing : (s : List ℕ) (m : ℕ) → Refusing (walkRows s m)
-unfolding walkRows
-walk-refusing s m =
-    refusing-append (judgeAll m false firstBlock (blocksIn s)) _ (judge-all-refusing m false firstBlock (blocksIn s)) ((λ z. omega arith), ((λ z. omega arith), tt))
+pub walk_refusing : (s : List ℕ) (m : ℕ) → Refusing (walk_rows s m)
+unfolding walk_rows
+walk_refusing s m =
+    refusing_append (judge_all m false first_block (blocks_in s)) _ (judge_all_refusing m false first_block (blocks_in s)) ((λ z. omega arith), ((λ z. omega arith), tt))
 
-pub rows-refusing : (s : List ℕ) (m f : ℕ) → Refusing (refusalRows s m f)
-rows-refusing s m f =
-    refusing-append (headerRows s) _ (header-refusing s)
-    (refusing-append (walkRows s m) _ (walk-refusing s m) (tables-refusing (flags_of s) (tablesIn (payloadOfTables (blocksIn s))).flips m f))
+pub rows_refusing : (s : List ℕ) (m f : ℕ) → Refusing (refusal_rows s m f)
+rows_refusing s m f =
+    refusing_append (header_rows s) _ (header_refusing s)
+    (refusing_append (walk_rows s m) _ (walk_refusing s m) (tables_refusing (flags_of s) (tables_in (payload_of_tables (blocks_in s))).flips m f))
 
 -- the answer's refusal
 module _ (s : List ℕ) (m f : ℕ) where
-  quiet : (refusalOf s m f).number ≡ 0 → Silent (refusalRows s m f)
-  unfolding refusalOf
-  quiet e = (exactly-accepted (refusalRows s m f) (rows-refusing s m f)).0 e
+  quiet : (refusal_of s m f).number ≡ 0 → Silent (refusal_rows s m f)
+  unfolding refusal_of
+  quiet e = (exactly-accepted (refusal_rows s m f) (rows_refusing s m f)).0 e
 
-  passed_none : (refusalOf s m f).number ≡ 0 → refusalOf s m f ≡ noRefusal
-  unfolding refusalOf
-  passed_none e = silent-first noRefusal (quiet e)
+  passed_none : (refusal_of s m f).number ≡ 0 → refusal_of s m f ≡ no_refusal
+  unfolding refusal_of
+  passed_none e = silent_first no_refusal (quiet e)
 
-  pub answer-refusal : (loadingOf s m f).refusal ≡ refusalOf s m f
-  unfolding loadingOf
-  answer-refusal = cases (loads s m f) (λ e. rw e (sym (passed_none (eqb-true _ _ e)))) (λ e. rw e)
+  pub answer_refusal : (loading_of s m f).refusal ≡ refusal_of s m f
+  unfolding loading_of
+  answer_refusal = cases (loads s m f) (λ e. rw e (sym (passed_none (eqb-true _ _ e)))) (λ e. rw e)
 
-  pub refused-exactly : (r : Refusal) → (r.number ≡ 0 → ⊥) → ((loadingOf s m f).refusal ≡ r) ↔ Gives (refusalRows s m f) r
-  unfolding refusalOf
-  refused-exactly r n = rw answer-refusal (exactly-refused (refusalRows s m f) (rows-refusing s m f) r n)
+  pub refused_exactly : (r : Refusal) → (r.number ≡ 0 → ⊥) → ((loading_of s m f).refusal ≡ r) ↔ Gives (refusal_rows s m f) r
+  unfolding refusal_of
+  refused_exactly r n = rw answer_refusal (exactly-refused (refusal_rows s m f) (rows_refusing s m f) r n)
 
-  pub loads-exactly : ((loadingOf s m f).refusal.number ≡ 0) ↔ Silent (refusalRows s m f)
-  unfolding refusalOf
-  loads-exactly = rw answer-refusal (exactly-accepted (refusalRows s m f) (rows-refusing s m f))
+  pub loads_exactly : ((loading_of s m f).refusal.number ≡ 0) ↔ Silent (refusal_rows s m f)
+  unfolding refusal_of
+  loads_exactly = rw answer_refusal (exactly-accepted (refusal_rows s m f) (rows_refusing s m f))
 
 -- a refused load changes no word
-pub refused-keeps : (s ram : List ℕ) (f : ℕ) → ((loadingOf s (lent ram) f).refusal.number ≡ 0 → ⊥) → loadRamOf s ram f ≡ ram
-unfolding loadRamOf
-refused-keeps s ram f n =
-    let e : loads s (lent ram) f ≡ false = ne_eqb _ _ (rw answer-refusal at n) in
+pub refused_keeps : (s ram : List ℕ) (f : ℕ) → ((loading_of s (lent ram) f).refusal.number ≡ 0 → ⊥) → load_ram_of s ram f ≡ ram
+unfolding load_ram_of
+refused_keeps s ram f n =
+    let e : loads s (lent ram) f ≡ false = ne_eqb _ _ (rw answer_refusal at n) in
     rw e
 
 -- what nothing refused says of an image
 pub record Accepted (s : List ℕ) (m f : ℕ) : Type 0 where
-  pub header : Silent (headerRows s)
-  pub blocks : Silent (judgeAll m false firstBlock (blocksIn s))
-  pub ended : isCut s ≡ false
-  pub tables : anyTables (blocksIn s) ≡ true
-  pub supported : Silent (tablesRows (flags_of s) (tablesIn (payloadOfTables (blocksIn s))).flips m f)
+  pub header : Silent (header_rows s)
+  pub blocks : Silent (judge_all m false first_block (blocks_in s))
+  pub ended : is_cut s ≡ false
+  pub tables : any_tables (blocks_in s) ≡ true
+  pub supported : Silent (tables_rows (flags_of s) (tables_in (payload_of_tables (blocks_in s))).flips m f)
 
 -- by the three tables
-pub walk-silent : (s : List ℕ) (m : ℕ) → Silent (walkRows s m) → (Silent (judgeAll m false firstBlock (blocksIn s))) × ((isCut s ≡ false) × (anyTables (blocksIn s) ≡ true))
-unfolding walkRows
-walk-silent s m q = go (silent-right (judgeAll m false firstBlock (blocksIn s)) _ q)
+pub walk_silent : (s : List ℕ) (m : ℕ) → Silent (walk_rows s m) → (Silent (judge_all m false first_block (blocks_in s))) × ((is_cut s ≡ false) × (any_tables (blocks_in s) ≡ true))
+unfolding walk_rows
+walk_silent s m q = go (silent_right (judge_all m false first_block (blocks_in s)) _ q)
   where
-    go : Silent ((isCut s, refuse 5 (stopOf s)) ∷ (not (anyTables (blocksIn s)), refuse 8 (length s)) ∷ []) → (Silent (judgeAll m false firstBlock (blocksIn s))) × ((isCut s ≡ false) × (anyTables (blocksIn s) ≡ true))
-    go (also a (also b none)) = (silent-left (judgeAll m false firstBlock (blocksIn s)) _ q, (a, not-false (anyTables (blocksIn s)) b))
+    go : Silent ((is_cut s, refuse 5 (stop_of s)) ∷ (not (any_tables (blocks_in s)), refuse 8 (length s)) ∷ []) → (Silent (judge_all m false first_block (blocks_in s))) × ((is_cut s ≡ false) × (any_tables (blocks_in s) ≡ true))
+    go (also a (also b none)) = (silent_left (judge_all m false first_block (blocks_in s)) _ q, (a, not-false (any_tables (blocks_in s)) b))
 
-pub accepted : (s : List ℕ) (m f : ℕ) → (refusalOf s m f).number ≡ 0 → Accepted s m f
+pub accepted : (s : List ℕ) (m f : ℕ) → (refusal_of s m f).number ≡ 0 → Accepted s m f
 accepted s m f e =
-    let q : Silent (refusalRows s m f) = quiet s m f e in
-    let w = walk-silent s m (silent-left (walkRows s m) _ (silent-right (headerRows s) _ q)) in
+    let q : Silent (refusal_rows s m f) = quiet s m f e in
+    let w = walk_silent s m (silent_left (walk_rows s m) _ (silent_right (header_rows s) _ q)) in
     record {
-      header = silent-left (headerRows s) _ q;
+      header = silent_left (header_rows s) _ q;
       blocks = w.0;
       ended = w.1.0;
       tables = w.1.1;
-      supported = silent-right (walkRows s m) _ (silent-right (headerRows s) _ q);
+      supported = silent_right (walk_rows s m) _ (silent_right (header_rows s) _ q);
     }
 
-pub accepts : (s : List ℕ) (m f : ℕ) → Accepted s m f → refusalOf s m f ≡ noRefusal
-unfolding refusalOf walkRows
+pub accepts : (s : List ℕ) (m f : ℕ) → Accepted s m f → refusal_of s m f ≡ no_refusal
+unfolding refusal_of walk_rows
 accepts s m f a =
-    let t : not (anyTables (blocksIn s)) ≡ false = rw a.tables in
-    silent-first noRefusal (silent-append a.header (silent-append (silent-append a.blocks (also a.ended (also t none))) a.supported))
+    let t : not (any_tables (blocks_in s)) ≡ false = rw a.tables in
+    silent_first no_refusal (silent_append a.header (silent_append (silent_append a.blocks (also a.ended (also t none))) a.supported))

@@ -1,8 +1,8 @@
 -- The texts of one block, by their places in its payload.
 use Rattle.std.specs.Prelude.{ℕ, List, [], cond, eqb}
-use Rattle.metadata.specs.Texts.{Span, textsOf}
-use Rattle.blocks.specs.Blocks.{payloadIn, metadataType}
+use Rattle.metadata.specs.Texts.{Span, texts_of}
+use Rattle.blocks.specs.Blocks.{payload_in, metadata_type}
 
 -- of a block of type t
-unfoldable pub blockTexts : ℕ → ℕ → List ℕ → List Span
-blockTexts tag t x = cond (eqb t metadataType) (textsOf tag (payloadIn x)) []
+unfoldable pub block_texts : ℕ → ℕ → List ℕ → List Span
+block_texts tag t x = cond (eqb t metadata_type) (texts_of tag (payload_in x)) []

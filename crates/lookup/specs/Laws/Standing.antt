@@ -6,29 +6,29 @@ use Rattle.std.specs.Borrow.{Bor}
 use Rattle.basics.specs.Lists.{part, joined, flat, Each, none, also}
 use Rattle.basics.specs.Laws.Each.{each_append}
 use Rattle.basics.specs.Laws.Lists.{length_part}
-use Rattle.basics.specs.Laws.Stands.{stands_after, stands-part, stands-length}
-use Rattle.basics.specs.Laws.Tests.{cases, and-true}
-use Rattle.metadata.specs.Records.{Sub, subsOf}
-use Rattle.metadata.specs.Texts.{lastTag, Span, textsOf}
-use Rattle.metadata.specs.Laws.Texts.{with_tag, shown, texts-are, Within, within, seek-holds}
-use Rattle.metadata.specs.Laws.Nth.{IsNth, seek-nth, payload-nth}
-use Rattle.blocks.specs.Blocks.{frameSize, payloadIn, isMetadata, Block}
-use Rattle.blocks.specs.Images.{firstBlock, blocksIn}
-use Rattle.blocks.specs.Laws.Images.{Read, reading, next-blocks}
+use Rattle.basics.specs.Laws.Stands.{stands_after, stands_part, stands_length}
+use Rattle.basics.specs.Laws.Tests.{cases, and_true}
+use Rattle.metadata.specs.Records.{Sub, subs_of}
+use Rattle.metadata.specs.Texts.{last_tag, Span, texts_of}
+use Rattle.metadata.specs.Laws.Texts.{with_tag, shown, texts_are, Within, within, seek_holds}
+use Rattle.metadata.specs.Laws.Nth.{IsNth, seek_nth, payload_nth}
+use Rattle.blocks.specs.Blocks.{frame_size, payload_in, is_metadata, Block}
+use Rattle.blocks.specs.Images.{first_block, blocks_in}
+use Rattle.blocks.specs.Laws.Images.{Read, reading, next_blocks}
 use Rattle.lookup.specs.declared.Found.TheVariants.{Label, Image}
-use Rattle.lookup.specs.Lookup.{moved, textsInBlocks, imageTexts, findOf}
+use Rattle.lookup.specs.Lookup.{moved, texts_in_blocks, image_texts, find_of}
 use Rattle.lookup.specs.Shown.{Stands, PartOf, Shows, inside}
-use Rattle.lookup.specs.Laws.Found.{LabelHas, label-has, ImageHas, image-has}
+use Rattle.lookup.specs.Laws.Found.{LabelHas, label_has, ImageHas, image_has}
 
 -- the sub-records of metadata blocks, in their order
-abbrev pub subsInBlocks : List (List ℕ) → List Sub
-subsInBlocks [] = []
-subsInBlocks (x ∷ xs) = cond (isMetadata x) (subsOf (payloadIn x)) [] ++ subsInBlocks xs
+abbrev pub subs_in_blocks : List (List ℕ) → List Sub
+subs_in_blocks [] = []
+subs_in_blocks (x ∷ xs) = cond (is_metadata x) (subs_of (payload_in x)) [] ++ subs_in_blocks xs
 
 with_append : (tag : ℕ) (rs qs : List Sub) → with_tag tag (rs ++ qs) ≡ with_tag tag rs ++ with_tag tag qs
 with_append tag [] qs = refl
 with_append tag (r ∷ rs) qs =
-    cases (leb tag lastTag && eqb r.tag tag) (λ e. rw e (ap (◌∷◌ r.text) (with_append tag rs qs))) (λ e. rw e (with_append tag rs qs))
+    cases (leb tag last_tag && eqb r.tag tag) (λ e. rw e (ap (◌∷◌ r.text) (with_append tag rs qs))) (λ e. rw e (with_append tag rs qs))
 
 map-append : {A B : Type 0} (f : A → B) (xs ys : List A) → map f (xs ++ ys) ≡ map f xs ++ map f ys
 map-append f [] ys = refl
@@ -46,77 +46,77 @@ module _ (s y r : List ℕ) (b : ℕ) (st : drop b s ≡ y ++ r) where
       ∙ ap (◌++◌ (take a y)) (append_assoc (part y a e) (drop k (drop a y)) r) in
       let after : drop (b + a) s ≡ part y a e ++ rest =
       stands_after s b (take a y) (part y a e ++ rest) (st ∙ front) (b + a) (ap (◌+◌ b) (sym (length-take-le a y (omega arith)))) in
-      stands-part s (b + a) (part y a e) rest after (b + e) (omega (arith, length_part y a e i))
+      stands_part s (b + a) (part y a e) rest after (b + e) (omega (arith, length_part y a e i))
 
-  texts-moved : (xs : List Span) → Each (Within (length y)) xs → map (shown s) (map (moved b) xs) ≡ map (shown y) xs
-  texts-moved [] none = refl
-  texts-moved (x ∷ xs) (also w v) = ap₂ ◌∷◌ (part_moved x.from x.to w.ordered w.inside) (texts-moved xs v)
+  texts_moved : (xs : List Span) → Each (Within (length y)) xs → map (shown s) (map (moved b) xs) ≡ map (shown y) xs
+  texts_moved [] none = refl
+  texts_moved (x ∷ xs) (also w v) = ap₂ ◌∷◌ (part_moved x.from x.to w.ordered w.inside) (texts_moved xs v)
 
-  within-moved : (xs : List Span) → b ≤ length s → Each (Within (length y)) xs → Each (Within (length s)) (map (moved b) xs)
-  within-moved [] h none = none
-  within-moved (x ∷ xs) h (also w v) =
-      also {x = moved b x} (record { ordered = omega (arith, w.ordered); inside = omega (arith, w.inside, stands-length s b y r st) }) (within-moved xs h v)
+  within_moved : (xs : List Span) → b ≤ length s → Each (Within (length y)) xs → Each (Within (length s)) (map (moved b) xs)
+  within_moved [] h none = none
+  within_moved (x ∷ xs) h (also w v) =
+      also {x = moved b x} (record { ordered = omega (arith, w.ordered); inside = omega (arith, w.inside, stands_length s b y r st) }) (within_moved xs h v)
 
 -- a block x that stands at p
 module _ (s : List ℕ) (p : ℕ) (x r : List ℕ) (b : Block x) (st : drop p s ≡ x ++ r) (tag : ℕ) where
-  payload-stands : drop (p + frameSize) s ≡ payloadIn x ++ r
-  payload-stands =
-      stands_after s p (take frameSize x) (payloadIn x ++ r)
-      (st ∙ ap (λ (z : List ℕ). z ++ r) (sym (take-append-drop frameSize x)) ∙ append_assoc (take frameSize x) (payloadIn x) r)
-      (p + frameSize)
-      (ap (◌+◌ p) (sym (length-take-le frameSize x (omega (arith, b.long)))))
+  payload_stands : drop (p + frame_size) s ≡ payload_in x ++ r
+  payload_stands =
+      stands_after s p (take frame_size x) (payload_in x ++ r)
+      (st ∙ ap (λ (z : List ℕ). z ++ r) (sym (take-append-drop frame_size x)) ∙ append_assoc (take frame_size x) (payload_in x) r)
+      (p + frame_size)
+      (ap (◌+◌ p) (sym (length-take-le frame_size x (omega (arith, b.long)))))
 
-  frame-inside : p + frameSize ≤ length s
-  frame-inside = omega (arith, b.long, stands-length s p x r st)
+  frame_inside : p + frame_size ≤ length s
+  frame_inside = omega (arith, b.long, stands_length s p x r st)
 
   abbrev here : List Span
-  here = cond (isMetadata x) (textsOf tag (payloadIn x)) []
+  here = cond (is_metadata x) (texts_of tag (payload_in x)) []
 
-  texts-here : map (shown s) (map (moved (p + frameSize)) here) ≡ with_tag tag (cond (isMetadata x) (subsOf (payloadIn x)) [])
-  texts-here =
-      cases (isMetadata x)
+  texts_here : map (shown s) (map (moved (p + frame_size)) here) ≡ with_tag tag (cond (is_metadata x) (subs_of (payload_in x)) [])
+  texts_here =
+      cases (is_metadata x)
       (λ e.
       rw e
-      (texts-moved s (payloadIn x) r (p + frameSize) payload-stands (textsOf tag (payloadIn x)) (within tag (payloadIn x)) ∙ texts-are tag (payloadIn x)))
+      (texts_moved s (payload_in x) r (p + frame_size) payload_stands (texts_of tag (payload_in x)) (within tag (payload_in x)) ∙ texts_are tag (payload_in x)))
       (λ e. rw e)
 
-  within-here : Each (Within (length s)) (map (moved (p + frameSize)) here)
-  within-here =
-      cases (isMetadata x)
+  within_here : Each (Within (length s)) (map (moved (p + frame_size)) here)
+  within_here =
+      cases (is_metadata x)
       (λ e.
-      rw e (within-moved s (payloadIn x) r (p + frameSize) payload-stands (textsOf tag (payloadIn x)) frame-inside (within tag (payloadIn x))))
+      rw e (within_moved s (payload_in x) r (p + frame_size) payload_stands (texts_of tag (payload_in x)) frame_inside (within tag (payload_in x))))
       (λ e. rw e none)
 
-blocks-texts : (tag p : ℕ) (s : List ℕ) (xs : List (List ℕ)) (r : List ℕ) → Each Block xs → drop p s ≡ flat xs ++ r
-    → map (shown s) (textsInBlocks tag p xs) ≡ with_tag tag (subsInBlocks xs)
-unfolding textsInBlocks
-blocks-texts tag p s [] r none st = refl
-blocks-texts tag p s (x ∷ xs) r (also b bs) st =
-    let on : drop p s ≡ x ++ (flat xs ++ r) = next-blocks s p x xs r st in
+blocks_texts : (tag p : ℕ) (s : List ℕ) (xs : List (List ℕ)) (r : List ℕ) → Each Block xs → drop p s ≡ flat xs ++ r
+    → map (shown s) (texts_in_blocks tag p xs) ≡ with_tag tag (subs_in_blocks xs)
+unfolding texts_in_blocks
+blocks_texts tag p s [] r none st = refl
+blocks_texts tag p s (x ∷ xs) r (also b bs) st =
+    let on : drop p s ≡ x ++ (flat xs ++ r) = next_blocks s p x xs r st in
     let next : drop (p + length x) s ≡ flat xs ++ r = stands_after s p x (flat xs ++ r) on (p + length x) refl in
-    map-append (shown s) (map (moved (p + frameSize)) (cond (isMetadata x) (textsOf tag (payloadIn x)) [])) (textsInBlocks tag (p + length x) xs)
-    ∙ ap₂ ◌++◌ (texts-here s p x (flat xs ++ r) b on tag) (blocks-texts tag (p + length x) s xs r bs next)
-    ∙ sym (with_append tag (cond (isMetadata x) (subsOf (payloadIn x)) []) (subsInBlocks xs))
+    map-append (shown s) (map (moved (p + frame_size)) (cond (is_metadata x) (texts_of tag (payload_in x)) [])) (texts_in_blocks tag (p + length x) xs)
+    ∙ ap₂ ◌++◌ (texts_here s p x (flat xs ++ r) b on tag) (blocks_texts tag (p + length x) s xs r bs next)
+    ∙ sym (with_append tag (cond (is_metadata x) (subs_of (payload_in x)) []) (subs_in_blocks xs))
 
-blocks-within : (tag p : ℕ) (s : List ℕ) (xs : List (List ℕ)) (r : List ℕ) → Each Block xs → drop p s ≡ flat xs ++ r
-    → Each (Within (length s)) (textsInBlocks tag p xs)
-unfolding textsInBlocks
-blocks-within tag p s [] r none st = none
-blocks-within tag p s (x ∷ xs) r (also b bs) st =
-    let on : drop p s ≡ x ++ (flat xs ++ r) = next-blocks s p x xs r st in
+blocks_within : (tag p : ℕ) (s : List ℕ) (xs : List (List ℕ)) (r : List ℕ) → Each Block xs → drop p s ≡ flat xs ++ r
+    → Each (Within (length s)) (texts_in_blocks tag p xs)
+unfolding texts_in_blocks
+blocks_within tag p s [] r none st = none
+blocks_within tag p s (x ∷ xs) r (also b bs) st =
+    let on : drop p s ≡ x ++ (flat xs ++ r) = next_blocks s p x xs r st in
     let next : drop (p + length x) s ≡ flat xs ++ r = stands_after s p x (flat xs ++ r) on (p + length x) refl in
-    each_append _ _ (within-here s p x (flat xs ++ r) b on tag) (blocks-within tag (p + length x) s xs r bs next)
+    each_append _ _ (within_here s p x (flat xs ++ r) b on tag) (blocks_within tag (p + length x) s xs r bs next)
 
 -- what stands where an image's texts with a tag are is what its blocks' sub-records with that tag hold, in their order
 module _ (tag : ℕ) (s : List ℕ) where
-  read : Read s firstBlock (blocksIn s)
+  read : Read s first_block (blocks_in s)
   read = reading s
 
-  pub image-texts-are : map (shown s) (imageTexts tag s) ≡ with_tag tag (subsInBlocks (blocksIn s))
-  image-texts-are = blocks-texts tag firstBlock s (blocksIn s) (drop read.stop s) read.each read.stands
+  pub image_texts_are : map (shown s) (image_texts tag s) ≡ with_tag tag (subs_in_blocks (blocks_in s))
+  image_texts_are = blocks_texts tag first_block s (blocks_in s) (drop read.stop s) read.each read.stands
 
-  pub image-within : Each (Within (length s)) (imageTexts tag s)
-  image-within = blocks-within tag firstBlock s (blocksIn s) (drop read.stop s) read.each read.stands
+  pub image_within : Each (Within (length s)) (image_texts tag s)
+  image_within = blocks_within tag first_block s (blocks_in s) (drop read.stop s) read.each read.stands
 
 -- a text that is shown: the bytes a to e of the file, where they stand, and the n-th with the tag
 pub record Text (r s : Bor (List ℕ)) (a e tag n : ℕ) (subs : List Sub) : Type 0 where
@@ -125,27 +125,27 @@ pub record Text (r s : Bor (List ℕ)) (a e tag n : ℕ) (subs : List Sub) : Typ
   pub stands : Stands r s a e
   pub nth : IsNth n r.now (with_tag tag subs)
 
-part-stands : (r s : Bor (List ℕ)) (a e : ℕ) → Within (length s.now) (record { from = a; to = e }) → PartOf r s a e → Stands r s a e
-part-stands r s a e w p =
-    let i : inside s.now a e ≡ true = and-true _ _ (le-leb e (length s.now) w.inside) (le-leb a e w.ordered) in
+part_stands : (r s : Bor (List ℕ)) (a e : ℕ) → Within (length s.now) (record { from = a; to = e }) → PartOf r s a e → Stands r s a e
+part_stands r s a e w p =
+    let i : inside s.now a e ≡ true = and_true _ _ (le-leb e (length s.now) w.inside) (le-leb a e w.ordered) in
     rw i at p
 
-module _ (r label image : Bor (List ℕ)) (tag n a e : ℕ) (shows : Shows r label image (findOf label.now image.now tag n)) where
-  pub label-stands : findOf label.now image.now tag n ≡ Label a e → Text r label a e tag n (subsOf label.now)
-  label-stands q =
-      let h : LabelHas label.now image.now tag n a e = label-has label.now image.now tag n a e q in
-      let w : Within (length label.now) (record { from = a; to = e }) = seek-holds n a e (textsOf tag label.now) (within tag label.now) h.found in
-      let s : Stands r label a e = part-stands r label a e w (rw q at shows) in
-      record { ordered = w.ordered; inside = w.inside; stands = s; nth = rw s.text (payload-nth tag n a e label.now h.found) }
+module _ (r label image : Bor (List ℕ)) (tag n a e : ℕ) (shows : Shows r label image (find_of label.now image.now tag n)) where
+  pub label_stands : find_of label.now image.now tag n ≡ Label a e → Text r label a e tag n (subs_of label.now)
+  label_stands q =
+      let h : LabelHas label.now image.now tag n a e = label_has label.now image.now tag n a e q in
+      let w : Within (length label.now) (record { from = a; to = e }) = seek_holds n a e (texts_of tag label.now) (within tag label.now) h.found in
+      let s : Stands r label a e = part_stands r label a e w (rw q at shows) in
+      record { ordered = w.ordered; inside = w.inside; stands = s; nth = rw s.text (payload_nth tag n a e label.now h.found) }
 
-  pub image-stands : findOf label.now image.now tag n ≡ Image a e → Text r image a e tag n (subsInBlocks (blocksIn image.now))
-  image-stands q =
-      let h : ImageHas label.now image.now tag n a e = image-has label.now image.now tag n a e q in
-      let w : Within (length image.now) (record { from = a; to = e }) = seek-holds n a e (imageTexts tag image.now) (image-within tag image.now) h.found in
-      let s : Stands r image a e = part-stands r image a e w (rw q at shows) in
+  pub image_stands : find_of label.now image.now tag n ≡ Image a e → Text r image a e tag n (subs_in_blocks (blocks_in image.now))
+  image_stands q =
+      let h : ImageHas label.now image.now tag n a e = image_has label.now image.now tag n a e q in
+      let w : Within (length image.now) (record { from = a; to = e }) = seek_holds n a e (image_texts tag image.now) (image_within tag image.now) h.found in
+      let s : Stands r image a e = part_stands r image a e w (rw q at shows) in
       record {
         ordered = w.ordered;
         inside = w.inside;
         stands = s;
-        nth = rw s.text (rw (image-texts-are tag image.now) at (seek-nth image.now n a e (imageTexts tag image.now) h.found));
+        nth = rw s.text (rw (image_texts_are tag image.now) at (seek_nth image.now n a e (image_texts tag image.now) h.found));
       }

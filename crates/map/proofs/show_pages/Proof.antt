@@ -2,16 +2,16 @@
 use Prim.Native.Nat.{◌≤◌, ◌-◌}
 use mathlib.Core.Path.{◌≡◌}
 use lib.ListN.{length}
-use Rattle.places.specs.Limits.{chapterPages}
+use Rattle.places.specs.Limits.{chapter_pages}
 use borrow.Author.Rules.{rules}
 use Rattle.map.proofs.show_pages.Statement.{statement}
 use Rattle.map.proofs.show_pages.Tie as tie
 
 abbrev invariant-loop : tie.invariant-loop
-invariant-loop flips x line₀ y₀ line y = (y ≤ chapterPages) × (length line ≡ 52)
+invariant-loop flips x line₀ y₀ line y = (y ≤ chapter_pages) × (length line ≡ 52)
 
 abbrev decreases-loop : tie.decreases-loop
-decreases-loop flips x line₀ y₀ line y = chapterPages - y
+decreases-loop flips x line₀ y₀ line y = chapter_pages - y
 
 pub show-pages-spec : {M : Type 1} → statement M
 show-pages-spec =

@@ -1,11 +1,11 @@
 -- `metadata::date_of` meets its contract: field by field.
-use Rattle.metadata.specs.Dates.{dateOf}
+use Rattle.metadata.specs.Dates.{date_of}
 use borrow.Author.Rules.{rules}
 use Rattle.metadata.proofs.date_of.Statement.{statement}
 use Rattle.metadata.proofs.date_of.Tie as tie
 
 returns : tie.Need-returns
-unfolding dateOf
+unfolding date_of
 returns c = cc
 
 pub date-of-spec : {M : Type 1} → statement M

@@ -5,51 +5,51 @@ use Rattle.metadata.specs.declared.Given.{Given}
 use Rattle.metadata.specs.declared.Given.TheVariants.{Not, Is}
 use Rattle.metadata.specs.declared.Hours.{Hours}
 use Rattle.metadata.specs.declared.ReleaseDate.{ReleaseDate}
-use Rattle.metadata.specs.Records.{whole_at, startsFrom, starts, isCut}
-use Rattle.metadata.specs.Texts.{textsIn, textsOf, seekIn, givenTwice}
-use Rattle.metadata.specs.Dates.{dateOf}
+use Rattle.metadata.specs.Records.{whole_at, starts_from, starts, is_cut}
+use Rattle.metadata.specs.Texts.{texts_in, texts_of, seek_in, given_twice}
+use Rattle.metadata.specs.Dates.{date_of}
 
 -- two names, an author with no text between them, and a tag that 001 does not name
 abbrev payload : List ℕ
 payload = 0x00 ∷ 2 ∷ 0x41 ∷ 0x42 ∷ 0x02 ∷ 0 ∷ 0x00 ∷ 1 ∷ 0x43 ∷ 0x10 ∷ 0 ∷ []
 
-pub whole : isCut payload ≡ false
-unfolding isCut starts startsFrom whole_at
+pub whole : is_cut payload ≡ false
+unfolding is_cut starts starts_from whole_at
 whole = refl
 
 -- cut behind a tag, and in a text; a payload with no bytes is whole
-pub cut-in-head : isCut (0x02 ∷ 0 ∷ 0x03 ∷ []) ≡ true
-unfolding isCut starts startsFrom whole_at
-cut-in-head = refl
+pub cut_in_head : is_cut (0x02 ∷ 0 ∷ 0x03 ∷ []) ≡ true
+unfolding is_cut starts starts_from whole_at
+cut_in_head = refl
 
-pub cut-in-text : isCut (0x02 ∷ 2 ∷ 0x41 ∷ []) ≡ true
-unfolding isCut starts startsFrom whole_at
-cut-in-text = refl
+pub cut_in_text : is_cut (0x02 ∷ 2 ∷ 0x41 ∷ []) ≡ true
+unfolding is_cut starts starts_from whole_at
+cut_in_text = refl
 
-pub empty-whole : isCut [] ≡ false
-unfolding isCut starts startsFrom whole_at
-empty-whole = refl
+pub empty_whole : is_cut [] ≡ false
+unfolding is_cut starts starts_from whole_at
+empty_whole = refl
 
 -- the second name; the author's empty text, apart from none; a tag that 001 does not name
-pub second-name : seekIn 2 (textsOf 0x00 payload) ≡ At 8 9
-unfolding seekIn textsIn starts startsFrom whole_at
-second-name = refl
+pub second_name : seek_in 2 (texts_of 0x00 payload) ≡ At 8 9
+unfolding seek_in texts_in starts starts_from whole_at
+second_name = refl
 
-pub empty-text : seekIn 1 (textsOf 0x02 payload) ≡ At 6 6
-unfolding seekIn textsIn starts startsFrom whole_at
-empty-text = refl
+pub empty_text : seek_in 1 (texts_of 0x02 payload) ≡ At 6 6
+unfolding seek_in texts_in starts starts_from whole_at
+empty_text = refl
 
-pub no-second-author : seekIn 2 (textsOf 0x02 payload) ≡ Left 1
-unfolding seekIn textsIn starts startsFrom whole_at
-no-second-author = refl
+pub no_second_author : seek_in 2 (texts_of 0x02 payload) ≡ Left 1
+unfolding seek_in texts_in starts starts_from whole_at
+no_second_author = refl
 
-pub unnamed-tag : seekIn 1 (textsOf 0x10 payload) ≡ Left 1
-unfolding seekIn textsIn starts startsFrom whole_at
-unnamed-tag = refl
+pub unnamed_tag : seek_in 1 (texts_of 0x10 payload) ≡ Left 1
+unfolding seek_in texts_in starts starts_from whole_at
+unnamed_tag = refl
 
-pub name-twice : givenTwice 0x00 (textsOf 0x00 payload) ≡ true
-unfolding textsIn starts startsFrom whole_at
-name-twice = refl
+pub name_twice : given_twice 0x00 (texts_of 0x00 payload) ≡ true
+unfolding texts_in starts starts_from whole_at
+name_twice = refl
 
 -- a date of one byte gives the year alone (001, Metadata Tags); a day without a month; -0130 is -2 hours and 30 minutes, and a ninth byte
 -- is not looked at
@@ -69,14 +69,14 @@ dated day zoneHours zoneMinutes =
 abbrev none : Hours
 none = record { negative = false; size = 0 }
 
-pub year-alone : dateOf (82 ∷ []) ≡ dated Not none 0
-unfolding dateOf
-year-alone = refl
+pub year_alone : date_of (82 ∷ []) ≡ dated Not none 0
+unfolding date_of
+year_alone = refl
 
-pub day-alone : dateOf (82 ∷ 0 ∷ 7 ∷ []) ≡ dated (Is 7) none 0
-unfolding dateOf
-day-alone = refl
+pub day_alone : date_of (82 ∷ 0 ∷ 7 ∷ []) ≡ dated (Is 7) none 0
+unfolding date_of
+day_alone = refl
 
-pub west : dateOf (82 ∷ 0 ∷ 0 ∷ 0 ∷ 0 ∷ 0 ∷ 0xFE ∷ 30 ∷ 99 ∷ []) ≡ dated Not (record { negative = true; size = 2 }) 30
-unfolding dateOf
+pub west : date_of (82 ∷ 0 ∷ 0 ∷ 0 ∷ 0 ∷ 0 ∷ 0xFE ∷ 30 ∷ 99 ∷ []) ≡ dated Not (record { negative = true; size = 2 }) 30
+unfolding date_of
 west = refl

@@ -2,12 +2,12 @@
 use Rattle.std.specs.Prelude.{ℕ, zero, suc, ◌+◌, ◌≤◌, ◌≡◌, refl, List, [], ◌∷◌, ◌++◌, true, false, length, ltb}
 use Rattle.std.proofs.Common.{sym, ap, ◌∙◌, append_assoc, append-nil, arith, leb-true}
 use Rattle.std.proofs.lemmas.Bool.{lt-leb}
-use Rattle.metadata.specs.Records.{end_at, whole_at, startsFrom, starts, endFrom, isCut}
+use Rattle.metadata.specs.Records.{end_at, whole_at, starts_from, starts, end_from, is_cut}
 
 -- one that is whole ends in the payload; none stands at the payload's end or past it
-pub whole-ends : (s : List ℕ) (p : ℕ) → whole_at s p ≡ true → end_at s p ≤ length s
+pub whole_ends : (s : List ℕ) (p : ℕ) → whole_at s p ≡ true → end_at s p ≤ length s
 unfolding whole_at
-whole-ends s p w = leb-true _ _ w
+whole_ends s p w = leb-true _ _ w
 
 pub past_end : (s : List ℕ) (p : ℕ) → length s ≤ p → whole_at s p ≡ false
 unfolding whole_at
@@ -17,51 +17,51 @@ past_end s p h = lt-leb (end_at s p) (length s) (omega arith)
 pub record Turn (f : ℕ) (s : List ℕ) (p : ℕ) : Type 0 where
   pub rest : ℕ
   pub enough : length s ≤ end_at s p + rest
-  pub is : startsFrom f s p ≡ p ∷ startsFrom rest s (end_at s p)
+  pub is : starts_from f s p ≡ p ∷ starts_from rest s (end_at s p)
 
-pub walk-on : (f : ℕ) (s : List ℕ) (p : ℕ) → length s ≤ p + f → whole_at s p ≡ true → Turn f s p
-unfolding startsFrom
-walk-on zero s p h w = let e : end_at s p ≤ length s = whole-ends s p w in absurd (omega arith)
-walk-on (suc f) s p h w = record { rest = f; enough = omega arith; is = rw w }
+pub walk_on : (f : ℕ) (s : List ℕ) (p : ℕ) → length s ≤ p + f → whole_at s p ≡ true → Turn f s p
+unfolding starts_from
+walk_on zero s p h w = let e : end_at s p ≤ length s = whole_ends s p w in absurd (omega arith)
+walk_on (suc f) s p h w = record { rest = f; enough = omega arith; is = rw w }
 
-pub walk-stops : (f : ℕ) (s : List ℕ) (p : ℕ) → whole_at s p ≡ false → startsFrom f s p ≡ []
-unfolding startsFrom
-walk-stops zero s p w = refl
-walk-stops (suc f) s p w = rw w
+pub walk_stops : (f : ℕ) (s : List ℕ) (p : ℕ) → whole_at s p ≡ false → starts_from f s p ≡ []
+unfolding starts_from
+walk_stops zero s p w = refl
+walk_stops (suc f) s p w = rw w
 
 -- a place on the walk, with sub-records before it
 pub record Reached (s : List ℕ) (p : ℕ) : Type 0 where
   pub before : List ℕ
   pub fuel : ℕ
   pub enough : length s ≤ p + fuel
-  pub all : starts s ≡ before ++ startsFrom fuel s p
-  pub place : endFrom s 0 before ≡ p
+  pub all : starts s ≡ before ++ starts_from fuel s p
+  pub place : end_from s 0 before ≡ p
 
-pub reach-start : (s : List ℕ) → Reached s 0
+pub reach_start : (s : List ℕ) → Reached s 0
 unfolding starts
-reach-start s = record { before = []; fuel = length s; enough = omega arith; all = refl; place = refl }
+reach_start s = record { before = []; fuel = length s; enough = omega arith; all = refl; place = refl }
 
-end_more : (s : List ℕ) (q p : ℕ) (ps : List ℕ) → endFrom s q (ps ++ (p ∷ [])) ≡ end_at s p
+end_more : (s : List ℕ) (q p : ℕ) (ps : List ℕ) → end_from s q (ps ++ (p ∷ [])) ≡ end_at s p
 end_more s q p [] = refl
 end_more s q p (r ∷ ps) = end_more s (end_at s r) p ps
 
 module _ (s : List ℕ) (p : ℕ) (c : Reached s p) where
-  pub reach-more : whole_at s p ≡ true → Reached s (end_at s p)
-  reach-more w =
-      let t : Turn c.fuel s p = walk-on c.fuel s p c.enough w in
+  pub reach_more : whole_at s p ≡ true → Reached s (end_at s p)
+  reach_more w =
+      let t : Turn c.fuel s p = walk_on c.fuel s p c.enough w in
       record {
         before = c.before ++ (p ∷ []);
         fuel = t.rest;
         enough = t.enough;
-        all = c.all ∙ ap (◌++◌ c.before) t.is ∙ sym (append_assoc c.before (p ∷ []) (startsFrom t.rest s (end_at s p)));
+        all = c.all ∙ ap (◌++◌ c.before) t.is ∙ sym (append_assoc c.before (p ∷ []) (starts_from t.rest s (end_at s p)));
         place = end_more s 0 p c.before;
       }
 
-  pub reach-stop : whole_at s p ≡ false → endFrom s 0 (starts s) ≡ p
-  reach-stop w =
-      let e : starts s ≡ c.before = c.all ∙ ap (◌++◌ c.before) (walk-stops c.fuel s p w) ∙ append-nil c.before in
-      ap (endFrom s 0) e ∙ c.place
+  pub reach_stop : whole_at s p ≡ false → end_from s 0 (starts s) ≡ p
+  reach_stop w =
+      let e : starts s ≡ c.before = c.all ∙ ap (◌++◌ c.before) (walk_stops c.fuel s p w) ∙ append-nil c.before in
+      ap (end_from s 0) e ∙ c.place
 
-  pub cut_by : whole_at s p ≡ false → isCut s ≡ ltb p (length s)
-  unfolding isCut
-  cut_by w = rw (reach-stop w)
+  pub cut_by : whole_at s p ≡ false → is_cut s ≡ ltb p (length s)
+  unfolding is_cut
+  cut_by w = rw (reach_stop w)

@@ -1,27 +1,27 @@
 -- `owners::claim_pages` meets its contract. The loop's invariant: the first n places are filled in.
 use Prim.Native.Nat.{◌-◌}
 use borrow.Author.Rules.{rules}
-use Rattle.basics.specs.Laws.Tables.{Filled, filled_none, filled_more, filled-all}
-use Rattle.places.specs.Limits.{flipEntries}
-use Rattle.owners.specs.Owners.{claimsPage, claimedBy}
-use Rattle.owners.proofs.Loops.{claimed-next}
+use Rattle.basics.specs.Laws.Tables.{Filled, filled_none, filled_more, filled_all}
+use Rattle.places.specs.Limits.{flip_entries}
+use Rattle.owners.specs.Owners.{claims_page, claimed_by}
+use Rattle.owners.proofs.Loops.{claimed_next}
 use Rattle.owners.proofs.claim_pages.Statement.{statement}
 use Rattle.owners.proofs.claim_pages.Tie as tie
 
 abbrev invariant-loop : tie.invariant-loop
-invariant-loop owners e number claimed₀ n₀ claimed n = Filled 0 flipEntries (claimedBy claimsPage owners e number) n claimed
+invariant-loop owners e number claimed₀ n₀ claimed n = Filled 0 flip_entries (claimed_by claims_page owners e number) n claimed
 
 abbrev decreases-loop : tie.decreases-loop
-decreases-loop owners e number claimed₀ n₀ claimed n = flipEntries - n
+decreases-loop owners e number claimed₀ n₀ claimed n = flip_entries - n
 
 loop-holds : tie.Need-loop-init invariant-loop decreases-loop
 loop-holds c = search (rules, filled_none)
 
 loop-again : tie.Need-loop-preserved invariant-loop decreases-loop
-loop-again c = search (rules, claimed-next)
+loop-again c = search (rules, claimed_next)
 
 returns : tie.Need-returns invariant-loop decreases-loop
-returns c = search (rules, filled-all)
+returns c = search (rules, filled_all)
 
 pub claim-pages-spec : {M : Type 1} → statement M
 claim-pages-spec =

@@ -4,20 +4,20 @@ use Rattle.lines.specs.declared.Line.{Line}
 use Rattle.rules.specs.Accepted.{Accepted}
 use Rattle.rules.specs.Laws.Rules.{good}
 use Rattle.plan.specs.Planned.{Planned}
-use Rattle.plan.specs.Laws.Tables.{mapping-is, permissions-is, flips-is, pages-is}
-use Rattle.plan.specs.Laws.Covered.{covered-is, ram-is}
-use Rattle.plan.specs.Laws.Valid.{plan-valid}
-use Rattle.plan.specs.Laws.Fewest.{plan-fewest}
+use Rattle.plan.specs.Laws.Tables.{mapping_is, permissions_is, flips_is, pages_is}
+use Rattle.plan.specs.Laws.Covered.{covered_is, ram_is}
+use Rattle.plan.specs.Laws.Valid.{plan_valid}
+use Rattle.plan.specs.Laws.Fewest.{plan_fewest}
 
 pub planned : {bin : List ℕ} {lines : List Line} → Accepted bin lines → Planned lines
 planned {lines = lines} a =
     record {
-      mapping = mapping-is lines;
-      permissions = permissions-is lines;
-      flips = flips-is lines;
-      pages = pages-is lines;
-      covered = covered-is (good a).fine;
-      ram = ram-is (good a).fine;
-      valid = plan-valid (good a);
-      fewest = plan-fewest (good a);
+      mapping = mapping_is lines;
+      permissions = permissions_is lines;
+      flips = flips_is lines;
+      pages = pages_is lines;
+      covered = covered_is (good a).fine;
+      ram = ram_is (good a).fine;
+      valid = plan_valid (good a);
+      fewest = plan_fewest (good a);
     }

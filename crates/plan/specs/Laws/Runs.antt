@@ -2,7 +2,7 @@
 use Rattle.std.specs.Prelude.{ℕ, ◌-◌, ◌≡◌, true, not, ◌⊎◌, eqb}
 use Rattle.std.proofs.Common.{sym, ◌∙◌, inl, inr, ⊎_elim, ne_eqb, eqb-true}
 use Rattle.std.proofs.lemmas.Bool.{eqb-false}
-use Rattle.basics.specs.Laws.Tests.{cases, and_left, and_right, and-true, or_left, or_right, or_cases, not-true}
+use Rattle.basics.specs.Laws.Tests.{cases, and_left, and_right, and_true, or_left, or_right, or_cases, not-true}
 use Rattle.plan.specs.Fewest.{starts}
 
 pub record Starts (kind : ℕ → ℕ) (p : ℕ) : Type 0 where
@@ -20,10 +20,10 @@ starts_is kind p e =
           (or_cases (eqb p 0) _ (and_right (not (eqb (kind p) 0)) _ e));
     }
 
-pub starts-of : (kind : ℕ → ℕ) (p : ℕ) → Starts kind p → starts kind p ≡ true
+pub starts_of : (kind : ℕ → ℕ) (p : ℕ) → Starts kind p → starts kind p ≡ true
 unfolding starts
-starts-of kind p s =
-    and-true (not (eqb (kind p) 0)) _ (rw (ne_eqb (kind p) 0 s.some))
+starts_of kind p s =
+    and_true (not (eqb (kind p) 0)) _ (rw (ne_eqb (kind p) 0 s.some))
     (cases (eqb p 0) (λ z. or_left _ _ z) (λ z. or_right (eqb p 0) _ (rw (ne_eqb (kind (p - 1)) (kind p) (s.edge (eqb-false p 0 z))))))
 
 -- f has the kinds of g with a kind laid: p keeps its kind; or there was none, and a kind begins here or goes on
@@ -49,5 +49,5 @@ module _ {f g : ℕ → ℕ} {First : ℕ → Type 0} (laid : (p : ℕ) → Laid
     start (begun z h) = inr h
     start (more z h q) = absurd (s.edge h q)
 
-  pub laid-starts : starts f p ≡ true → (starts g p ≡ true) ⊎ (First p)
-  laid-starts e = ⊎_elim (λ s. inl (starts-of g p s)) (λ h. inr h) (start (starts_is f p e) (laid p))
+  pub laid_starts : starts f p ≡ true → (starts g p ≡ true) ⊎ (First p)
+  laid_starts e = ⊎_elim (λ s. inl (starts_of g p s)) (λ h. inr h) (start (starts_is f p e) (laid p))

@@ -4,23 +4,23 @@ use Rattle.std.specs.Prelude.{ℕ, ◌<◌, ◌*◌, ◌+◌, ◌/◌, ◌≤◌
 use Rattle.std.proofs.Common.{ap, ◌∙◌, ⊎_elim, inr, inl}
 use Rattle.std.proofs.Math.Option.{some, Option, none}
 use Rattle.basics.specs.Options.{is_some}
-use Rattle.basics.specs.Laws.Tables.{getD-table}
-use Rattle.basics.specs.Laws.Tests.{true-is-not-false}
+use Rattle.basics.specs.Laws.Tables.{get_d_table}
+use Rattle.basics.specs.Laws.Tests.{true_is_not_false}
 use Rattle.places.specs.declared.Console.{Console}
-use Rattle.places.specs.Limits.{chapterSize}
-use Rattle.switches.specs.Flips.{firstK}
+use Rattle.places.specs.Limits.{chapter_size}
+use Rattle.switches.specs.Flips.{first_k}
 use Rattle.cart.specs.declared.Answer.TheVariants.{Word, Silence}
 use Rattle.lines.specs.declared.Line.{Line}
 use Rattle.lines.specs.declared.Entry.{Entry}
 use Rattle.lines.specs.declared.Entry.TheVariants.{Rom, Paged, Ram}
-use Rattle.lines.specs.Lines.{line_at, isRam}
+use Rattle.lines.specs.Lines.{line_at, is_ram}
 use Rattle.rules.specs.Accepted.{Accepted}
-use Rattle.rules.specs.Laws.Rules.{good, uses-of, RomIs, under-rom, bare-none, under-or-bare}
+use Rattle.rules.specs.Laws.Rules.{good, uses_of, RomIs, under_rom, bare_none, under_or_bare}
 use Rattle.rules.specs.Chapters.{paged, uses}
 use Rattle.layout.specs.Laws.Layout.{place_of}
-use Rattle.layout.specs.Layout.{written_by, lineHeld, paragraphHeld, paragraphWords, written_of}
+use Rattle.layout.specs.Layout.{written_by, line_held, paragraph_held, paragraph_words, written_of}
 use Rattle.plays.specs.Loaded.{Loaded}
-use Rattle.plays.specs.Plain.{Plain, plainRead, wordBy, answerBy, shownLine}
+use Rattle.plays.specs.Plain.{Plain, plain_read, word_by, answer_by, shown_line}
 use Rattle.plays.specs.Laws.Held as Held
 
 module _ {bin : List ℕ} {lines : List Line} (accepted : Accepted bin lines) where
@@ -31,48 +31,48 @@ module _ {bin : List ℕ} {lines : List Line} (accepted : Accepted bin lines) wh
     loaded_word t a l e = Held.loaded_word bin (good accepted).fine ram loaded t a l e
 
     -- each word of a covered paragraph is that of the line behind it
-    pub covered-word : (p i : ℕ) (l : Line) → i < 256 → lineHeld lines p ≡ some l →
-        get_or ram (256 * p + i) 0 ≡ written_by bin l.entry (record { 0 = 256 * paragraphHeld lines p + i })
-    unfolding paragraphWords
-    covered-word p i l h e =
+    pub covered_word : (p i : ℕ) (l : Line) → i < 256 → line_held lines p ≡ some l →
+        get_or ram (256 * p + i) 0 ≡ written_by bin l.entry (record { 0 = 256 * paragraph_held lines p + i })
+    unfolding paragraph_words
+    covered_word p i l h e =
         loaded.words p i (ap is_some e) h
-        ∙ getD-table 0 256 (λ j. written_of bin (lineHeld lines p) (record { 0 = 256 * paragraphHeld lines p + j })) i h
+        ∙ get_d_table 0 256 (λ j. written_of bin (line_held lines p) (record { 0 = 256 * paragraph_held lines p + j })) i h
         ∙ rw e
 
   -- what is read of plain ROM
   pub record ReadsRom (c : Plain) (a : Console) : Type 0 where
     pub line : Line
     pub found : line_at lines 0 a.0 ≡ some line
-    pub rom : isRam line.entry ≡ false
-    pub reads : plainRead bin lines c a ≡ Word (written_by bin line.entry a)
+    pub rom : is_ram line.entry ≡ false
+    pub reads : plain_read bin lines c a ≡ Word (written_by bin line.entry a)
 
-  rom-word : (e : Entry) (mem : Console → ℕ) (a : Console) → isRam e ≡ false → wordBy bin mem e a ≡ written_by bin e a
-  rom-word (Rom lo hi at) mem a h = refl
-  rom-word (Paged lo hi at y) mem a h = refl
-  rom-word (Ram lo hi w) mem a h = true-is-not-false refl h
+  rom_word : (e : Entry) (mem : Console → ℕ) (a : Console) → is_ram e ≡ false → word_by bin mem e a ≡ written_by bin e a
+  rom_word (Rom lo hi at) mem a h = refl
+  rom_word (Paged lo hi at y) mem a h = refl
+  rom_word (Ram lo hi w) mem a h = true_is_not_false refl h
 
   -- in the flippable range, while a page is asked for that no line names: silence, or the plain ROM
-  module _ (c : Plain) (a : Console) (flips : paged lines (a.0 / chapterSize) ≡ true) (turns : firstK (a.0 / chapterSize) ≤ a.0 / 256 % 16)
-      (unnamed : uses lines (a.0 / chapterSize) (suc (c.number (a.0 / chapterSize))) ≡ false) where
-    no-page : (o : Option Line) → line_at lines (suc (c.number (a.0 / chapterSize))) a.0 ≡ o → o ≡ none
-    no-page none e = refl
-    no-page (some l) e = true-is-not-false (uses-of (good accepted).fine (suc (c.number (a.0 / chapterSize))) a.0 l e) unnamed
+  module _ (c : Plain) (a : Console) (flips : paged lines (a.0 / chapter_size) ≡ true) (turns : first_k (a.0 / chapter_size) ≤ a.0 / 256 % 16)
+      (unnamed : uses lines (a.0 / chapter_size) (suc (c.number (a.0 / chapter_size))) ≡ false) where
+    no_page : (o : Option Line) → line_at lines (suc (c.number (a.0 / chapter_size))) a.0 ≡ o → o ≡ none
+    no_page none e = refl
+    no_page (some l) e = true_is_not_false (uses_of (good accepted).fine (suc (c.number (a.0 / chapter_size))) a.0 l e) unnamed
 
-    by-plain : plainRead bin lines c a ≡ answerBy bin c.ram (line_at lines 0 a.0) a
-    unfolding plainRead shownLine
-    by-plain = rw (no-page (line_at lines (suc (c.number (a.0 / chapterSize))) a.0) refl)
+    by_plain : plain_read bin lines c a ≡ answer_by bin c.ram (line_at lines 0 a.0) a
+    unfolding plain_read shown_line
+    by_plain = rw (no_page (line_at lines (suc (c.number (a.0 / chapter_size))) a.0) refl)
 
-    pub unnamed-page : (plainRead bin lines c a ≡ Silence) ⊎ (ReadsRom c a)
-    unnamed-page =
+    pub unnamed_page : (plain_read bin lines c a ≡ Silence) ⊎ (ReadsRom c a)
+    unnamed_page =
         ⊎_elim
         (λ h.
-        let r : RomIs (line_at lines 0 a.0) = under-rom (good accepted) a.0 turns h in
+        let r : RomIs (line_at lines 0 a.0) = under_rom (good accepted) a.0 turns h in
         inr
         (record {
           line = r.line;
           found = r.found;
           rom = r.rom;
-          reads = by-plain ∙ rw (r.found, rom-word r.line.entry c.ram a r.rom);
+          reads = by_plain ∙ rw (r.found, rom_word r.line.entry c.ram a r.rom);
         }))
-        (λ h. inl (by-plain ∙ rw (bare-none (good accepted) a.0 turns h)))
-        (under-or-bare (good accepted) (a.0 / chapterSize) flips)
+        (λ h. inl (by_plain ∙ rw (bare_none (good accepted) a.0 turns h)))
+        (under_or_bare (good accepted) (a.0 / chapter_size) flips)

@@ -1,5 +1,5 @@
 -- `print::text_of` meets its contract, by the kind of the entry.
-use Rattle.print.specs.Laws.Texts.{rom_is, paged-is, ram-is}
+use Rattle.print.specs.Laws.Texts.{rom_is, paged_is, ram_is}
 use borrow.Author.Rules.{rules}
 use Rattle.print.proofs.text_of.Statement.{statement}
 use Rattle.print.proofs.text_of.Tie as tie
@@ -80,15 +80,15 @@ returns c = search (rules, rom_is)
 
 -- src/lib.rt:103:1
 returns-2 : tie.Need-returns-2
-returns-2 c = search (rules, paged-is)
+returns-2 c = search (rules, paged_is)
 
 -- src/lib.rt:103:1
 returns-3 : tie.Need-returns-3
-returns-3 c = search (rules, ram-is)
+returns-3 c = search (rules, ram_is)
 
 -- src/lib.rt:103:1
 returns-4 : tie.Need-returns-4
-returns-4 c = search (rules, ram-is)
+returns-4 c = search (rules, ram_is)
 
 pub text-of-spec : {M : Type 1} → statement M
 text-of-spec =

@@ -4,9 +4,9 @@ use Rattle.places.specs.Places.{page}
 use Rattle.lines.specs.declared.Entry.{Entry}
 use Rattle.lines.specs.declared.Entry.TheVariants.{Paged, Ram, Rom}
 use Rattle.text.specs.Bytes.{text}
-use Rattle.text.specs.Spelling.{upperDigit}
-use Rattle.grammar.specs.Print.{fourDigits}
-use Rattle.print.specs.Cfg.{entryLine}
+use Rattle.text.specs.Spelling.{upper_digit}
+use Rattle.grammar.specs.Print.{four_digits}
+use Rattle.print.specs.Cfg.{entry_line}
 use Rattle.print.specs.declared.Digits.{Digits}
 use Rattle.print.specs.declared.Text.{Text}
 
@@ -17,25 +17,25 @@ abbrev pub padded : List ℕ → Text
 padded x = record { bytes = filled x; length = length x }
 
 -- `$lo - $hi = RAM `, before the width
-abbrev pub ramFront : ℕ → ℕ → List ℕ
-ramFront lo hi = fourDigits lo ++ (text " - " ++ (fourDigits hi ++ text " = RAM "))
+abbrev pub ram_front : ℕ → ℕ → List ℕ
+ram_front lo hi = four_digits lo ++ (text " - " ++ (four_digits hi ++ text " = RAM "))
 
 -- the last five hex digits
-abbrev pub digitsOf : ℕ → Digits
-digitsOf n =
+abbrev pub digits_of : ℕ → Digits
+digits_of n =
     record {
-      a = upperDigit (n / 65536 % 16);
-      b = upperDigit (n / 4096 % 16);
-      c = upperDigit (n / 256 % 16);
-      d = upperDigit (n / 16 % 16);
-      e = upperDigit (n % 16);
+      a = upper_digit (n / 65536 % 16);
+      b = upper_digit (n / 4096 % 16);
+      c = upper_digit (n / 256 % 16);
+      d = upper_digit (n / 16 % 16);
+      e = upper_digit (n % 16);
     }
 
 -- a page's number is one digit
-abbrev pub pageDigit : Entry → Entry
-pageDigit (Rom lo hi at) = Rom lo hi at
-pageDigit (Paged lo hi at y) = Paged lo hi at (page (y.0 % 16))
-pageDigit (Ram lo hi w) = Ram lo hi w
+abbrev pub page_digit : Entry → Entry
+page_digit (Rom lo hi at) = Rom lo hi at
+page_digit (Paged lo hi at y) = Paged lo hi at (page (y.0 % 16))
+page_digit (Ram lo hi w) = Ram lo hi w
 
 unfoldable pub text_of : Entry → Text
-text_of e = padded (entryLine (pageDigit e))
+text_of e = padded (entry_line (page_digit e))

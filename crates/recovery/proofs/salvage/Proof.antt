@@ -1,11 +1,11 @@
 -- `recovery::salvage` meets its contract: one law for the answer and one for the buffer, for each way out.
-use Rattle.recovery.proofs.Answers.{head-answers, head-keeps, head-enough, head-room, denied-answers, denied-keeps, went-found, went-noted, went-answers, went-written}
+use Rattle.recovery.proofs.Answers.{head_answers, head_keeps, head-enough, head-room, denied-answers, denied-keeps, went-found, went-noted, went-answers, went-written}
 use borrow.Author.Rules.{rules}
 use Rattle.recovery.proofs.salvage.Statement.{statement}
 use Rattle.recovery.proofs.salvage.Tie as tie
 
 returns : tie.Need-returns
-returns c = (search (rules, head-answers), search (rules, head-keeps))
+returns c = (search (rules, head_answers), search (rules, head_keeps))
 
 survey-requires : tie.Need-survey-requires
 survey-requires c κs = (search rules, search (rules, head-enough), search (rules, head-room))

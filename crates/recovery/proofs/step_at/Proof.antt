@@ -1,17 +1,17 @@
 -- `recovery::step_at` meets its contract: one law for each way out.
-use Rattle.recovery.proofs.Laws.{steps, place-fits, frame-later, frame-inside}
+use Rattle.recovery.proofs.Laws.{steps, place_fits, frame_later, frame_inside}
 use borrow.Author.Rules.{rules}
 use Rattle.recovery.proofs.step_at.Statement.{statement}
 use Rattle.recovery.proofs.step_at.Tie as tie
 
 sub-judge : tie.Need-overflow-sub-judge
-sub-judge c = search (rules, frame-later)
+sub-judge c = search (rules, frame_later)
 
 part-judge-start : tie.Need-slice-bounds-judge-start
-part-judge-start c = search (rules, frame-later)
+part-judge-start c = search (rules, frame_later)
 
 part-judge-end : tie.Need-slice-bounds-judge-end
-part-judge-end c = search (rules, frame-inside)
+part-judge-end c = search (rules, frame_inside)
 
 returns : tie.Need-returns
 returns c = search (rules, steps)
@@ -20,7 +20,7 @@ returns-2 : tie.Need-returns-2
 returns-2 c = search (rules, steps)
 
 add-refuse : tie.Need-overflow-add-refuse
-add-refuse c = search (rules, place-fits)
+add-refuse c = search (rules, place_fits)
 
 returns-3 : tie.Need-returns-3
 returns-3 c = search (rules, steps)

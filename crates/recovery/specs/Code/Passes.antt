@@ -2,62 +2,62 @@
 use Rattle.std.specs.Prelude.{ℕ, ◌+◌, ◌≡◌, List, ◌++◌, map, Bool, cond, length, set, eqb, ltb}
 use Rattle.basics.specs.declared.Refusal.{Refusal}
 use Rattle.basics.specs.Lists.{part, flat}
-use Rattle.basics.specs.Refusals.{refuse, firstRefusal, passes}
-use Rattle.places.specs.Limits.{lentLimit, imageLimit}
-use Rattle.tables.specs.Tables.{tablesIn, flashWords, tablesRefusal}
+use Rattle.basics.specs.Refusals.{refuse, first_refusal, passes}
+use Rattle.places.specs.Limits.{lent_limit, image_limit}
+use Rattle.tables.specs.Tables.{tables_in, flash_words, tables_refusal}
 use Rattle.blocks.specs.declared.Judged.{Judged}
-use Rattle.blocks.specs.Blocks.{payloadIn, hunkType, tablesType, endMark}
-use Rattle.blocks.specs.Frames.{frame_at, onFrame}
-use Rattle.blocks.specs.Images.{firstBlock}
-use Rattle.load.specs.Code.Passes.{judgementOf}
+use Rattle.blocks.specs.Blocks.{payload_in, hunk_type, tables_type, end_mark}
+use Rattle.blocks.specs.Frames.{frame_at, on_frame}
+use Rattle.blocks.specs.Images.{first_block}
+use Rattle.load.specs.Code.Passes.{judgement_of}
 use Rattle.recovery.specs.declared.Stopped.TheVariants.{Nowhere, At}
 use Rattle.recovery.specs.declared.Step.{Step}
 use Rattle.recovery.specs.declared.Step.TheVariants.{Stops, No, Keeps, Drops}
 use Rattle.recovery.specs.declared.Found.{Found}
 use Rattle.recovery.specs.declared.Verdict.{Verdict}
 use Rattle.recovery.specs.declared.Verdict.TheVariants.{Refused, Goes}
-use Rattle.recovery.specs.Salvage.{leftOut, keptIn, dropsIn, stoppedOf, closing, blocksRows}
+use Rattle.recovery.specs.Salvage.{left_out, kept_in, drops_in, stopped_of, closing, blocks_rows}
 
 -- one step: the end or a block that is cut, a refusal, a block that is kept with its type, or one that is left out; each with the next place
-abbrev pub onJudged : Judged → ℕ → ℕ → Step
-onJudged j t q = cond (passes j.refusal) (Keeps t q) (cond (eqb t hunkType) (Drops q) (No j.refusal))
+abbrev pub on_judged : Judged → ℕ → ℕ → Step
+on_judged j t q = cond (passes j.refusal) (Keeps t q) (cond (eqb t hunk_type) (Drops q) (No j.refusal))
 
 unfoldable pub step_of : List ℕ → Bool → ℕ → Step
-step_of s earlier p = onFrame (frame_at s p) (Stops Nowhere) (Stops (At p)) (λ t q. onJudged (judgementOf lentLimit earlier p (part s p q)) t q)
+step_of s earlier p = on_frame (frame_at s p) (Stops Nowhere) (Stops (At p)) (λ t q. on_judged (judgement_of lent_limit earlier p (part s p q)) t q)
 
 -- what a load refuses of these flags and the tables in a payload; and that after a block of type t
-unfoldable pub lateOf : List ℕ → List ℕ → Refusal
-lateOf flags payload = tablesRefusal flags (tablesIn payload).flips lentLimit (flashWords flags)
+unfoldable pub late_of : List ℕ → List ℕ → Refusal
+late_of flags payload = tables_refusal flags (tables_in payload).flips lent_limit (flash_words flags)
 
-unfoldable pub lateAfter : Refusal → List ℕ → List ℕ → ℕ → Refusal
-lateAfter late flags x t = cond (eqb t tablesType) (lateOf flags (payloadIn x)) late
+unfoldable pub late_after : Refusal → List ℕ → List ℕ → ℕ → Refusal
+late_after late flags x t = cond (eqb t tables_type) (late_of flags (payload_in x)) late
 
 -- behind the blocks: "none" of 8, then what was refused of the tables
-unfoldable pub endedBy : ℕ → Bool → Refusal → Found → Verdict
-endedBy size tabled late found = cond tabled (cond (passes late) (Goes found) (Refused late)) (Refused (refuse 8 size))
+unfoldable pub ended_by : ℕ → Bool → Refusal → Found → Verdict
+ended_by size tabled late found = cond tabled (cond (passes late) (Goes found) (Refused late)) (Refused (refuse 8 size))
 
 -- the blocks kept and left out, the bytes of header and kept blocks, and where they stop
-abbrev pub foundOf : List ℕ → Found
-foundOf s =
+abbrev pub found_of : List ℕ → Found
+found_of s =
     record {
-      kept = length (keptIn s);
-      dropped = length (dropsIn s);
-      long = firstBlock + length (flat (keptIn s));
-      stopped = stoppedOf s;
+      kept = length (kept_in s);
+      dropped = length (drops_in s);
+      long = first_block + length (flat (kept_in s));
+      stopped = stopped_of s;
     }
 
-unfoldable pub surveyOf : List ℕ → Verdict
-surveyOf s = cond (passes (firstRefusal (blocksRows s))) (Goes (foundOf s)) (Refused (firstRefusal (blocksRows s)))
+unfoldable pub survey_of : List ℕ → Verdict
+survey_of s = cond (passes (first_refusal (blocks_rows s))) (Goes (found_of s)) (Refused (first_refusal (blocks_rows s)))
 
 -- notes of blocks: from the first on, whether each is left out, and then whatever stands there
 pub record Noted (xs : List (List ℕ)) (notes : List Bool) : Type 0 where
   pub rest : List Bool
-  pub is : notes ≡ map leftOut xs ++ rest
+  pub is : notes ≡ map left_out xs ++ rest
 
 -- so many bytes, closed
-abbrev pub closedSize : ℕ → ℕ
-closedSize n = n + length (closing n)
+abbrev pub closed_size : ℕ → ℕ
+closed_size n = n + length (closing n)
 
 -- a buffer with the end put behind so many bytes
-unfoldable pub endPut : ℕ → List ℕ → List ℕ
-endPut n out = cond (ltb n imageLimit) (set out n endMark) out
+unfoldable pub end_put : ℕ → List ℕ → List ℕ
+end_put n out = cond (ltb n image_limit) (set out n end_mark) out

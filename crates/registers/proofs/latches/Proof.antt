@@ -1,14 +1,14 @@
 -- `registers::latches` meets its contract: the RAM, and any other address.
 use borrow.Author.Rules.{rules}
-use Rattle.registers.proofs.Laws.{latches-ram, latches-taken}
+use Rattle.registers.proofs.Laws.{latches_ram, latches_taken}
 use Rattle.registers.proofs.latches.Statement.{statement}
 use Rattle.registers.proofs.latches.Tie as tie
 
 returns : tie.Need-returns
-returns c = search (rules, latches-ram)
+returns c = search (rules, latches_ram)
 
 returns-2 : tie.Need-returns-2
-returns-2 c = search (rules, latches-taken)
+returns-2 c = search (rules, latches_taken)
 
 pub latches-spec : {M : Type 1} → statement M
 latches-spec = tie.close (tie.spec (λ c κs. search rules) returns (λ c κs. search rules) returns-2)

@@ -1,11 +1,11 @@
 -- `registers::operate` meets its contract: the operand is stored, its function's two are handed over, and the results are laid down.
 use borrow.Author.Rules.{rules}
-use Rattle.registers.proofs.Laws.{operate-is}
+use Rattle.registers.proofs.Laws.{operate_is}
 use Rattle.registers.proofs.operate.Statement.{statement}
 use Rattle.registers.proofs.operate.Tie as tie
 
 returns : tie.Need-returns
-returns c = search (rules, operate-is)
+returns c = search (rules, operate_is)
 
 pub operate-spec : {M : Type 1} → statement M
 operate-spec =

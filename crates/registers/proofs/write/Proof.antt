@@ -1,21 +1,21 @@
 -- `registers::write` meets its contract: the word that turns on, and any other write while off and while on.
 use borrow.Author.Rules.{rules}
-use Rattle.registers.specs.Laws.Words.{tidy-now}
-use Rattle.registers.proofs.Laws.{write-turns, write-off, write-on}
+use Rattle.registers.specs.Laws.Words.{tidy_now}
+use Rattle.registers.proofs.Laws.{write_turns, write_off, write_on}
 use Rattle.registers.proofs.write.Statement.{statement}
 use Rattle.registers.proofs.write.Tie as tie
 
 returns : tie.Need-returns
-returns c = search (rules, write-turns)
+returns c = search (rules, write_turns)
 
 returns-2 : tie.Need-returns-2
-returns-2 c = search (rules, write-off)
+returns-2 c = search (rules, write_off)
 
 write-on-requires : tie.Need-write-on-requires
-write-on-requires c κs = search (rules, tidy-now)
+write-on-requires c κs = search (rules, tidy_now)
 
 returns-3 : tie.Need-returns-3
-returns-3 c = search (rules, write-on)
+returns-3 c = search (rules, write_on)
 
 pub write_spec : {M : Type 1} → statement M
 write_spec =

@@ -1,11 +1,11 @@
 -- `retrace::plan_behind` meets its contract, by what its callees ensure.
 use borrow.Author.Rules.{rules}
-use Rattle.retrace.proofs.Fills.{sketch-is}
+use Rattle.retrace.proofs.Fills.{sketch_is}
 use Rattle.retrace.proofs.plan_behind.Statement.{statement}
 use Rattle.retrace.proofs.plan_behind.Tie as tie
 
 returns : tie.Need-returns
-returns c = search (rules, sketch-is)
+returns c = search (rules, sketch_is)
 
 pub plan-behind-spec : {M : Type 1} → statement M
 plan-behind-spec =

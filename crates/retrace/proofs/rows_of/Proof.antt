@@ -2,7 +2,7 @@
 use borrow.Author.Rules.{rules}
 use Prim.Native.Nat.{◌-◌}
 use Rattle.places.specs.Limits.{chapters}
-use Rattle.retrace.proofs.Fills.{Rows, rows_none, rows_more, rows_all, rows-low}
+use Rattle.retrace.proofs.Fills.{Rows, rows_none, rows_more, rows_all, rows_low}
 use Rattle.retrace.proofs.rows_of.Statement.{statement}
 use Rattle.retrace.proofs.rows_of.Tie as tie
 
@@ -16,7 +16,7 @@ loop-holds : tie.Need-loop-init invariant-loop decreases-loop
 loop-holds c = search (rules, rows_none)
 
 row-at-requires : tie.Need-row-at-requires invariant-loop decreases-loop
-row-at-requires c κs = search (rules, rows-low)
+row-at-requires c κs = search (rules, rows_low)
 
 loop-again : tie.Need-loop-preserved invariant-loop decreases-loop
 loop-again c = search (rules, rows_more)

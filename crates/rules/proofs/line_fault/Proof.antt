@@ -1,7 +1,7 @@
 -- `rules::line_fault` meets its contract. The loop's invariant: the lines before line k pass 25 and 26.
 use Prim.Native.Nat.{◌-◌}
 use borrow.Author.Rules.{rules}
-use Rattle.rules.proofs.Checked.{Checked, checked-none, checked-hit, checked-more, checked-all}
+use Rattle.rules.proofs.Checked.{Checked, checked_none, checked_hit, checked_more, checked_all}
 use Rattle.rules.proofs.line_fault.Statement.{statement}
 use Rattle.rules.proofs.line_fault.Tie as tie
 
@@ -12,16 +12,16 @@ abbrev decreases-loop : tie.decreases-loop
 decreases-loop words n lines k₀ k = n - k
 
 loop-holds : tie.Need-loop-init invariant-loop decreases-loop
-loop-holds c = search (rules, checked-none)
+loop-holds c = search (rules, checked_none)
 
 returns : tie.Need-returns invariant-loop decreases-loop
-returns c = search (rules, checked-hit)
+returns c = search (rules, checked_hit)
 
 loop-again : tie.Need-loop-preserved invariant-loop decreases-loop
-loop-again c = search (rules, checked-more)
+loop-again c = search (rules, checked_more)
 
 returns-2 : tie.Need-returns-2 invariant-loop decreases-loop
-returns-2 c = search (rules, checked-all)
+returns-2 c = search (rules, checked_all)
 
 pub line-fault-spec : {M : Type 1} → statement M
 line-fault-spec =

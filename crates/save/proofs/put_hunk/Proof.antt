@@ -1,11 +1,11 @@
 -- `save::put_hunk` meets its contract: the payload in its part, then the frame.
 use borrow.Author.Rules.{rules}
-use Rattle.save.proofs.Laws.{hunk-placed}
+use Rattle.save.proofs.Laws.{hunk_placed}
 use Rattle.save.proofs.put_hunk.Statement.{statement}
 use Rattle.save.proofs.put_hunk.Tie as tie
 
 returns : tie.Need-returns
-returns c = search (rules, hunk-placed)
+returns c = search (rules, hunk_placed)
 
 pub put-hunk-spec : {M : Type 1} → statement M
 put-hunk-spec =

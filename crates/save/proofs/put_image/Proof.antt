@@ -1,11 +1,11 @@
 -- `save::put_image` meets its contract: what stands before the hunks in its part, then the hunks and the end in theirs.
 use borrow.Author.Rules.{rules}
-use Rattle.save.proofs.Laws.{image-written}
+use Rattle.save.proofs.Laws.{image_written}
 use Rattle.save.proofs.put_image.Statement.{statement}
 use Rattle.save.proofs.put_image.Tie as tie
 
 returns : tie.Need-returns
-returns c = search (rules, image-written)
+returns c = search (rules, image_written)
 
 pub put-image-spec : {M : Type 1} → statement M
 put-image-spec =

@@ -1,11 +1,11 @@
 -- `save::put_tables` meets its contract: the payload in its part, then the frame.
 use borrow.Author.Rules.{rules}
-use Rattle.blocks.specs.Laws.Payloads.{block-placed}
+use Rattle.blocks.specs.Laws.Payloads.{block_placed}
 use Rattle.save.proofs.put_tables.Statement.{statement}
 use Rattle.save.proofs.put_tables.Tie as tie
 
 returns : tie.Need-returns
-returns c = search (rules, block-placed)
+returns c = search (rules, block_placed)
 
 pub put-tables-spec : {M : Type 1} → statement M
 put-tables-spec =

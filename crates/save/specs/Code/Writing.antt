@@ -3,38 +3,38 @@ use Rattle.std.specs.Prelude.{ℕ, ◌+◌, List, [], ◌∷◌, ◌++◌, Bool,
 use Rattle.basics.specs.declared.Refusal.{Refusal}
 use Rattle.basics.specs.Lists.{joined}
 use Rattle.basics.specs.Counts.{any, lowest}
-use Rattle.basics.specs.Refusals.{refuse, firstRefusal}
-use Rattle.places.specs.Limits.{imageLimit, locutusParagraphs}
-use Rattle.header.specs.Header.{headerOf}
-use Rattle.tables.specs.Tables.{Tables, tablesPayload, flashWords, tablesRows}
-use Rattle.blocks.specs.Blocks.{frameSize, payloadLimit}
-use Rattle.save.specs.Chosen.{tablesBlock, hunkBlock}
+use Rattle.basics.specs.Refusals.{refuse, first_refusal}
+use Rattle.places.specs.Limits.{image_limit, locutus_paragraphs}
+use Rattle.header.specs.Header.{header_of}
+use Rattle.tables.specs.Tables.{Tables, tables_payload, flash_words, tables_rows}
+use Rattle.blocks.specs.Blocks.{frame_size, payload_limit}
+use Rattle.save.specs.Chosen.{tables_block, hunk_block}
 use Rattle.save.specs.Writing.{Content, marked, past}
 
 -- the longest block (001, Payload Length)
-abbrev pub blockLimit : ℕ
-blockLimit = frameSize + payloadLimit
+abbrev pub block_limit : ℕ
+block_limit = frame_size + payload_limit
 
 -- the header and the tables block, and how long they are; and the blocks of the marked paragraphs
-abbrev pub frontOf : List ℕ → List ℕ → Tables → List ℕ
-frontOf flags uid t = headerOf flags uid ++ tablesBlock t
+abbrev pub front_of : List ℕ → List ℕ → Tables → List ℕ
+front_of flags uid t = header_of flags uid ++ tables_block t
 
-abbrev pub frontSize : List ℕ → List ℕ → Tables → ℕ
-frontSize flags uid t = length (headerOf flags uid) + (frameSize + length (tablesPayload t))
+abbrev pub front_size : List ℕ → List ℕ → Tables → ℕ
+front_size flags uid t = length (header_of flags uid) + (frame_size + length (tables_payload t))
 
-abbrev pub hunkBytes : List ℕ → List Bool → List ℕ
-hunkBytes ram marks = joined hunkBlock (marked ram marks)
+abbrev pub hunk_bytes : List ℕ → List Bool → List ℕ
+hunk_bytes ram marks = joined hunk_block (marked ram marks)
 
 -- an image's length, as the sum of its parts
-abbrev pub imageSize : Content → ℕ
-imageSize c = frontSize c.flags c.uid c.tables + length (hunkBytes c.ram c.marks) + 1
+abbrev pub image_size : Content → ℕ
+image_size c = front_size c.flags c.uid c.tables + length (hunk_bytes c.ram c.marks) + 1
 
 -- the refusals of a buffer of so much room, a RAM of so many words lent, and an image so long
-unfoldable pub judgedBy : ℕ → List ℕ → List ℕ → ℕ → List Bool → ℕ → Refusal
-judgedBy room flags flips words marks long =
-    firstRefusal
-    (tablesRows flags flips words (flashWords flags)
-    ++ ((any locutusParagraphs (past marks words), refuse 9 (lowest locutusParagraphs (past marks words)))
-    ∷ (ltb imageLimit long, refuse 1 0)
+unfoldable pub judged_by : ℕ → List ℕ → List ℕ → ℕ → List Bool → ℕ → Refusal
+judged_by room flags flips words marks long =
+    first_refusal
+    (tables_rows flags flips words (flash_words flags)
+    ++ ((any locutus_paragraphs (past marks words), refuse 9 (lowest locutus_paragraphs (past marks words)))
+    ∷ (ltb image_limit long, refuse 1 0)
     ∷ (ltb room long, refuse 29 0)
     ∷ []))

@@ -6,102 +6,102 @@ use borrow.Author.Tests.{ltb-true, ltb-false, ne_eqb}
 use Rattle.basics.specs.declared.Refusal.{Refusal}
 use Rattle.basics.specs.Rows.{Gives, here, later, Silent, also, none, Row}
 use Rattle.basics.specs.Counts.{any, lowest}
-use Rattle.basics.specs.Refusals.{noRefusal, refuse}
-use Rattle.basics.specs.Laws.Tests.{cases, true-is-not-false, and-true}
+use Rattle.basics.specs.Refusals.{no_refusal, refuse}
+use Rattle.basics.specs.Laws.Tests.{cases, true_is_not_false, and_true}
 use Rattle.basics.specs.Laws.Counts.{any_of}
-use Rattle.basics.specs.Laws.Rows.{silent-first, silent-append, silent-left, silent-right}
-use Rattle.basics.specs.Laws.Refusals.{Refusing, refused-exactly, accepted-exactly, refusing-append}
-use Rattle.basics.specs.Laws.Lowest.{First, lowest-first, lowest-any}
-use Rattle.basics.specs.Laws.Puts.{put-room}
-use Rattle.places.specs.Limits.{imageLimit, lent, locutusParagraphs, paragraphSize}
-use Rattle.tables.specs.Tables.{flashWords, tablesRows}
-use Rattle.tables.specs.Laws.Refusals.{tables-refusing}
+use Rattle.basics.specs.Laws.Rows.{silent_first, silent_append, silent_left, silent_right}
+use Rattle.basics.specs.Laws.Refusals.{Refusing, refused_exactly, accepted_exactly, refusing_append}
+use Rattle.basics.specs.Laws.Lowest.{First, lowest_first, lowest_any}
+use Rattle.basics.specs.Laws.Puts.{put_room}
+use Rattle.places.specs.Limits.{image_limit, lent, locutus_paragraphs, paragraph_size}
+use Rattle.tables.specs.Tables.{flash_words, tables_rows}
+use Rattle.tables.specs.Laws.Refusals.{tables_refusing}
 use Rattle.save.specs.declared.Writing.{Writing}
-use Rattle.save.specs.Writing.{Content, isMarked, imageBy, pastLent, refusalRows, refusalOf, answerFor, writingOf, written_of}
+use Rattle.save.specs.Writing.{Content, is_marked, image_by, past_lent, refusal_rows, refusal_of, answer_for, writing_of, written_of}
 
 -- what the writer answers and leaves, for every buffer and content
 pub record Answers (out : List ℕ) (c : Content) : Type 0 where
   -- refused so exactly when the row of this refusal holds and none before it does; accepted exactly when none holds
-  pub refused : (r : Refusal) → (r.number ≡ 0 → ⊥) → ((writingOf out c).refusal ≡ r) ↔ Gives (refusalRows out c) r
-  pub accepted : ((writingOf out c).refusal.number ≡ 0) ↔ Silent (refusalRows out c)
+  pub refused : (r : Refusal) → (r.number ≡ 0 → ⊥) → ((writing_of out c).refusal ≡ r) ↔ Gives (refusal_rows out c) r
+  pub accepted : ((writing_of out c).refusal.number ≡ 0) ↔ Silent (refusal_rows out c)
   -- a refusal leaves the buffer, and answers no length but at 29
-  pub kept : ((writingOf out c).refusal.number ≡ 0 → ⊥) → written_of out c ≡ out
-  pub zero : ((writingOf out c).refusal.number ≡ 0 → ⊥) → ((writingOf out c).refusal.number ≡ 29 → ⊥) → (writingOf out c).length ≡ 0
-  pub needed : (writingOf out c).refusal.number ≡ 29 → (writingOf out c).length ≡ length (imageBy c)
+  pub kept : ((writing_of out c).refusal.number ≡ 0 → ⊥) → written_of out c ≡ out
+  pub zero : ((writing_of out c).refusal.number ≡ 0 → ⊥) → ((writing_of out c).refusal.number ≡ 29 → ⊥) → (writing_of out c).length ≡ 0
+  pub needed : (writing_of out c).refusal.number ≡ 29 → (writing_of out c).length ≡ length (image_by c)
   -- 9 names the lowest marked paragraph that does not lie in the words lent
-  pub lowest-named : (writingOf out c).refusal.number ≡ 9 → First (pastLent c) 0 (writingOf out c).refusal.place
+  pub lowest_named : (writing_of out c).refusal.number ≡ 9 → First (past_lent c) 0 (writing_of out c).refusal.place
 
 -- what a writing without refusal says
 pub record Accepted (out : List ℕ) (c : Content) : Type 0 where
-  pub supported : Silent (tablesRows c.flags c.tables.flips (lent c.ram) (flashWords c.flags))
-  pub inside : (p : ℕ) → p < locutusParagraphs → isMarked c.marks p ≡ true → paragraphSize * p + paragraphSize ≤ lent c.ram
-  pub short : length (imageBy c) ≤ imageLimit
-  pub room : length (imageBy c) ≤ length out
-  pub answer : writingOf out c ≡ answerFor noRefusal (length (imageBy c))
-  pub leaves : written_of out c ≡ imageBy c ++ drop (length (imageBy c)) out
+  pub supported : Silent (tables_rows c.flags c.tables.flips (lent c.ram) (flash_words c.flags))
+  pub inside : (p : ℕ) → p < locutus_paragraphs → is_marked c.marks p ≡ true → paragraph_size * p + paragraph_size ≤ lent c.ram
+  pub short : length (image_by c) ≤ image_limit
+  pub room : length (image_by c) ≤ length out
+  pub answer : writing_of out c ≡ answer_for no_refusal (length (image_by c))
+  pub leaves : written_of out c ≡ image_by c ++ drop (length (image_by c)) out
 
 module _ (out : List ℕ) (c : Content) where
   abbrev front : List (Row Refusal)
-  front = tablesRows c.flags c.tables.flips (lent c.ram) (flashWords c.flags)
+  front = tables_rows c.flags c.tables.flips (lent c.ram) (flash_words c.flags)
 
   abbrev rest : List (Row Refusal)
   rest =
-      (any locutusParagraphs (pastLent c), refuse 9 (lowest locutusParagraphs (pastLent c)))
-      ∷ (ltb imageLimit (length (imageBy c)), refuse 1 0)
-      ∷ (ltb (length out) (length (imageBy c)), refuse 29 0)
+      (any locutus_paragraphs (past_lent c), refuse 9 (lowest locutus_paragraphs (past_lent c)))
+      ∷ (ltb image_limit (length (image_by c)), refuse 1 0)
+      ∷ (ltb (length out) (length (image_by c)), refuse 29 0)
       ∷ []
 
-  every-row : Refusing (refusalRows out c)
-  every-row =
-      refusing-append front rest (tables-refusing c.flags c.tables.flips (lent c.ram) (flashWords c.flags))
+  every_row : Refusing (refusal_rows out c)
+  every_row =
+      refusing_append front rest (tables_refusing c.flags c.tables.flips (lent c.ram) (flash_words c.flags))
       ((λ z. omega arith), ((λ z. omega arith), ((λ z. omega arith), tt)))
 
   -- the place of the row of 9
-  nine : (r : Refusal) → r.number ≡ 9 → Gives (refusalRows out c) r → First (pastLent c) 0 r.place
-  unfolding tablesRows
+  nine : (r : Refusal) → r.number ≡ 9 → Gives (refusal_rows out c) r → First (past_lent c) 0 r.place
+  unfolding tables_rows
   nine r e (here h) = absurd (omega arith)
   nine r e (later g (here h)) = absurd (omega arith)
   nine r e (later f (later g (here h))) = absurd (omega arith)
-  nine r e (later f (later g (later h (here k)))) = lowest-first locutusParagraphs (pastLent c) (ltb-true _ _ (lowest-any locutusParagraphs (pastLent c) ∙ k))
+  nine r e (later f (later g (later h (here k)))) = lowest_first locutus_paragraphs (past_lent c) (ltb-true _ _ (lowest_any locutus_paragraphs (past_lent c) ∙ k))
   nine r e (later f (later g (later h (later k (here i))))) = absurd (omega arith)
   nine r e (later f (later g (later h (later k (later i (here j)))))) = absurd (omega arith)
 
   pub answers : Answers out c
-  unfolding writingOf written_of refusalOf
+  unfolding writing_of written_of refusal_of
   answers =
       record {
-        refused = λ r h. refused-exactly (refusalRows out c) every-row r h;
-        accepted = accepted-exactly (refusalRows out c) every-row;
+        refused = λ r h. refused_exactly (refusal_rows out c) every_row r h;
+        accepted = accepted_exactly (refusal_rows out c) every_row;
         kept = λ n. rw (ne_eqb _ _ n);
         zero = λ n m. rw (ne_eqb _ _ n, ne_eqb _ _ m);
         needed = λ e. rw e;
-        lowest-named = λ e.
-            nine (refusalOf out c) e
-            ((refused-exactly (refusalRows out c) every-row (refusalOf out c) (λ z. omega arith)).0 refl);
+        lowest_named = λ e.
+            nine (refusal_of out c) e
+            ((refused_exactly (refusal_rows out c) every_row (refusal_of out c) (λ z. omega arith)).0 refl);
       }
 
   -- a paragraph that is not past the words lent lies in them
-  lies-inside : any locutusParagraphs (pastLent c) ≡ false → (p : ℕ) → p < locutusParagraphs → isMarked c.marks p ≡ true → paragraphSize * p + paragraphSize ≤ lent c.ram
-  lies-inside e p l m =
-      cases (ltb (lent c.ram) (paragraphSize * p + paragraphSize))
-      (λ d. true-is-not-false (any_of locutusParagraphs (pastLent c) p l (and-true (isMarked c.marks p) _ m d)) e)
+  lies_inside : any locutus_paragraphs (past_lent c) ≡ false → (p : ℕ) → p < locutus_paragraphs → is_marked c.marks p ≡ true → paragraph_size * p + paragraph_size ≤ lent c.ram
+  lies_inside e p l m =
+      cases (ltb (lent c.ram) (paragraph_size * p + paragraph_size))
+      (λ d. true_is_not_false (any_of locutus_paragraphs (past_lent c) p l (and_true (is_marked c.marks p) _ m d)) e)
       (λ d. ltb-false _ _ d)
 
-  pub silent-accepted : Silent (refusalRows out c) → Accepted out c
-  unfolding writingOf written_of refusalOf
-  silent-accepted q = by (silent-left front rest q) (silent-right front rest q)
+  pub silent_accepted : Silent (refusal_rows out c) → Accepted out c
+  unfolding writing_of written_of refusal_of
+  silent_accepted q = by (silent_left front rest q) (silent_right front rest q)
     where
       by : Silent front → Silent rest → Accepted out c
       by a (also b (also d (also e none))) =
-          let r : refusalOf out c ≡ noRefusal = silent-first noRefusal (silent-append a (also b (also d (also e none)))) in
+          let r : refusal_of out c ≡ no_refusal = silent_first no_refusal (silent_append a (also b (also d (also e none)))) in
           record {
             supported = a;
-            inside = lies-inside b;
+            inside = lies_inside b;
             short = ltb-false _ _ d;
             room = ltb-false _ _ e;
             answer = rw r;
-            leaves = rw r (put-room (imageBy c) out (ltb-false _ _ e));
+            leaves = rw r (put_room (image_by c) out (ltb-false _ _ e));
           }
 
-  pub accepted-so : ((writingOf out c).refusal.number ≡ 0) ↔ Accepted out c
-  accepted-so = ((λ e. silent-accepted (answers.accepted.0 e)), (λ a. ap (λ (w : Writing). w.refusal.number) a.answer))
+  pub accepted_so : ((writing_of out c).refusal.number ≡ 0) ↔ Accepted out c
+  accepted_so = ((λ e. silent_accepted (answers.accepted.0 e)), (λ a. ap (λ (w : Writing). w.refusal.number) a.answer))

@@ -2,7 +2,7 @@
 use borrow.Author.Rules.{rules}
 use Prim.Native.Nat.{◌-◌}
 use lib.ListN.{length}
-use Rattle.sheet.proofs.Loops.{Fronting, front-none, front-more, front-end, front_same}
+use Rattle.sheet.proofs.Loops.{Fronting, front_none, front_more, front_end, front_same}
 use Rattle.sheet.proofs.put_entry.Statement.{statement}
 use Rattle.sheet.proofs.put_entry.Tie as tie
 
@@ -13,19 +13,19 @@ abbrev decreases-loop : tie.decreases-loop
 decreases-loop out₀ bytes i₀ out i = length out₀ - i
 
 loop-holds : tie.Need-loop-init invariant-loop decreases-loop
-loop-holds c = search (rules, front-none)
+loop-holds c = search (rules, front_none)
 
 loop-less : tie.Need-loop-smaller invariant-loop decreases-loop
 loop-less c = search (rules, front_same)
 
 loop-again : tie.Need-loop-preserved invariant-loop decreases-loop
-loop-again c = search (rules, front-more)
+loop-again c = search (rules, front_more)
 
 same_length : tie.Need-same-length invariant-loop decreases-loop
 same_length c = search (rules, front_same)
 
 returns : tie.Need-returns invariant-loop decreases-loop
-returns c = search (rules, front-end)
+returns c = search (rules, front_end)
 
 pub put-entry-spec : {M : Type 1} → statement M
 put-entry-spec =

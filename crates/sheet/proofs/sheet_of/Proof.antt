@@ -1,11 +1,11 @@
 -- `sheet::sheet_of` meets its contract, by what its callees ensure.
 use borrow.Author.Rules.{rules}
-use Rattle.sheet.proofs.Loops.{sheet-is}
+use Rattle.sheet.proofs.Loops.{sheet_is}
 use Rattle.sheet.proofs.sheet_of.Statement.{statement}
 use Rattle.sheet.proofs.sheet_of.Tie as tie
 
 returns : tie.Need-returns
-returns c = search (rules, sheet-is)
+returns c = search (rules, sheet_is)
 
 pub sheet-of-spec : {M : Type 1} → statement M
 sheet-of-spec =

@@ -3,7 +3,7 @@ use Prim.Native.Nat.{◌-◌}
 use native.Mathlib.Omega.{arith}
 use lib.ListN.{length, length-take}
 use borrow.Author.Rules.{rules}
-use Rattle.shelf.proofs.Laws.{Putting, put-none, put-more, put-length, put_is}
+use Rattle.shelf.proofs.Laws.{Putting, put_none, put_more, put_length, put_is}
 use Rattle.shelf.proofs.put_text.Statement.{statement}
 use Rattle.shelf.proofs.put_text.Tie as tie
 
@@ -14,7 +14,7 @@ abbrev decreases-loop : tie.decreases-loop
 decreases-loop out₀ text k₀ i₀ out k i = length text - i
 
 loop-holds : tie.Need-loop-init invariant-loop decreases-loop
-loop-holds c = search (rules, put-none)
+loop-holds c = search (rules, put_none)
 
 part-put-bytes-end : tie.Need-slice-bounds-put-bytes-end invariant-loop decreases-loop
 part-put-bytes-end c = search rules
@@ -23,13 +23,13 @@ slice-aggregate-put-bytes : tie.Need-slice-aggregate-put-bytes invariant-loop de
 slice-aggregate-put-bytes c = simp length-take (omega arith)
 
 loop-again : tie.Need-loop-preserved invariant-loop decreases-loop
-loop-again c = search (rules, put-more)
+loop-again c = search (rules, put_more)
 
 same_length : tie.Need-same-length invariant-loop decreases-loop
 same_length c = search rules
 
 returns : tie.Need-returns invariant-loop decreases-loop
-returns c = (search (rules, put-length), search (rules, put_is))
+returns c = (search (rules, put_length), search (rules, put_is))
 
 pub put-text-spec : {M : Type 1} → statement M
 put-text-spec =

@@ -3,13 +3,13 @@ use Prim.Native.Nat.{◌≤◌, ◌-◌}
 use mathlib.Core.Path.{◌≡◌, refl}
 use lib.ListN.{length, drop}
 use borrow.Author.Rules.{rules}
-use Rattle.sums.specs.Crc.{crcFrom}
+use Rattle.sums.specs.Crc.{crc_from}
 use Rattle.sums.proofs.bitwise.Statement.{statement}
 use Rattle.sums.proofs.Laws.{from_next, from_end}
 use Rattle.sums.proofs.bitwise.Tie as tie
 
 abbrev invariant-loop : tie.invariant-loop
-invariant-loop p c s x₀ i₀ i-end x i = (i ≤ length s) × (crcFrom p x (drop i s) ≡ crcFrom p c s)
+invariant-loop p c s x₀ i₀ i-end x i = (i ≤ length s) × (crc_from p x (drop i s) ≡ crc_from p c s)
 
 abbrev decreases-loop : tie.decreases-loop
 decreases-loop p c s x₀ i₀ i-end x i = length s - i

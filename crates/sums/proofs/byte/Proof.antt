@@ -1,11 +1,11 @@
 -- `sums::byte` meets its contract: eight bits of the sum and the byte together.
 use borrow.Author.Rules.{rules}
-use Rattle.sums.specs.Crc.{crcByte}
+use Rattle.sums.specs.Crc.{crc_byte}
 use Rattle.sums.proofs.byte.Statement.{statement}
 use Rattle.sums.proofs.byte.Tie as tie
 
 returns : tie.Need-returns
-unfolding crcByte
+unfolding crc_byte
 returns c = search rules
 
 pub byte-spec : {M : Type 1} → statement M

@@ -1,11 +1,11 @@
 -- `sums::eight` meets its contract: eight entries, each as `entry` answers it.
 use borrow.Author.Rules.{rules}
-use Rattle.sums.specs.Tables.{byEight}
+use Rattle.sums.specs.Tables.{by_eight}
 use Rattle.sums.proofs.eight.Statement.{statement}
 use Rattle.sums.proofs.eight.Tie as tie
 
 returns : tie.Need-returns
-unfolding byEight
+unfolding by_eight
 returns c =
     let near = c.before.before.before.before.before in
     let mid = near.before.before.before.before.before in

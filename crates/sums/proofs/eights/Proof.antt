@@ -4,19 +4,19 @@ use mathlib.Core.Path.{◌≡◌, refl}
 use native.Mathlib.Omega.{arith}
 use lib.ListN.{length}
 use borrow.Author.Rules.{rules}
-use Rattle.sums.specs.Tables.{byEights}
+use Rattle.sums.specs.Tables.{by_eights}
 use Rattle.sums.proofs.eights.Statement.{statement}
-use Rattle.sums.proofs.Laws.{eights-next}
+use Rattle.sums.proofs.Laws.{eights_next}
 use Rattle.sums.proofs.eights.Tie as tie
 
 abbrev invariant-loop : tie.invariant-loop
-invariant-loop t c s x₀ n₀ n-end x n = (n ≤ length s / 8) × (x ≡ byEights t c s n)
+invariant-loop t c s x₀ n₀ n-end x n = (n ≤ length s / 8) × (x ≡ by_eights t c s n)
 
 abbrev decreases-loop : tie.decreases-loop
 decreases-loop t c s x₀ n₀ n-end x n = length s / 8 - n
 
 loop-holds : tie.Need-loop-init invariant-loop decreases-loop
-unfolding byEights
+unfolding by_eights
 loop-holds c = (search rules, refl)
 
 returns : tie.Need-returns invariant-loop decreases-loop
@@ -25,4 +25,4 @@ returns c =
     rw n at c.before.loop.invariant.1
 
 pub eights-spec : {M : Type 1} → statement M
-eights-spec = tie.close (tie.spec invariant-loop decreases-loop loop-holds (λ c. search rules) (λ c κs. search rules) (λ c. search rules) (λ c. search rules) (λ c. search (rules, eights-next)) returns)
+eights-spec = tie.close (tie.spec invariant-loop decreases-loop loop-holds (λ c. search rules) (λ c κs. search rules) (λ c. search rules) (λ c. search rules) (λ c. search (rules, eights_next)) returns)

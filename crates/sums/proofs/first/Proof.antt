@@ -5,7 +5,7 @@ use native.Mathlib.Omega.{arith}
 use borrow.Author.Rules.{rules}
 use Rattle.basics.specs.Laws.Tables.{filled_none}
 use Rattle.sums.proofs.Laws.{Tabled, first_next}
-use Rattle.sums.specs.Tables.{tableEntries, entry_of}
+use Rattle.sums.specs.Tables.{table_entries, entry_of}
 use Rattle.sums.proofs.first.Statement.{statement}
 use Rattle.sums.proofs.first.Tie as tie
 
@@ -16,7 +16,7 @@ abbrev decreases-loop : tie.decreases-loop
 decreases-loop p t₀ i₀ t i = 256 - i
 
 loop-holds : tie.Need-loop-init invariant-loop decreases-loop
-loop-holds c = (search rules, filled_none 0 tableEntries (entry_of c.args.p) _ (search rules))
+loop-holds c = (search rules, filled_none 0 table_entries (entry_of c.args.p) _ (search rules))
 
 returns : tie.Need-returns invariant-loop decreases-loop
 returns c =

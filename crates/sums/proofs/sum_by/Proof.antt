@@ -3,17 +3,17 @@ use Prim.Native.Nat.{◌*◌, ◌/◌}
 use mathlib.Core.Path.{◌∙◌, ap₂}
 use lib.ListN.{length}
 use borrow.Author.Rules.{rules}
-use Rattle.basics.specs.Laws.Lists.{part-rest}
-use Rattle.sums.specs.Tables.{byTables, byBytes}
+use Rattle.basics.specs.Laws.Lists.{part_rest}
+use Rattle.sums.specs.Tables.{by_tables, by_bytes}
 use Rattle.sums.proofs.sum_by.Statement.{statement}
 use Rattle.sums.proofs.sum_by.Tie as tie
 
 returns : tie.Need-returns
-unfolding byTables
+unfolding by_tables
 returns c =
     let a = c.before.before.before.before.args in
     let s = a.s.now in
-    c.bytes.ensures ∙ ap₂ (byBytes a.t.now) c.before.before.eights.ensures (part-rest s (8 * (length s / 8)))
+    c.bytes.ensures ∙ ap₂ (by_bytes a.t.now) c.before.before.eights.ensures (part_rest s (8 * (length s / 8)))
 
 pub sum-by-spec : {M : Type 1} → statement M
 sum-by-spec =

@@ -12,104 +12,104 @@ use Rattle.std.specs.Int.Bits.{differ, bit_xor, xor_zero_r, xor_self, shifted_ha
 use Rattle.std.proofs.lemmas.Nat.{xor_shr}
 use Rattle.std.proofs.Math.Pow.{split, pow_pos}
 use Rattle.std.proofs.Math.ListN.{length}
-use Rattle.basics.specs.Laws.Xor.{digit, xor-half, xor-odd, odd-lt, xor-swap, xor-past}
+use Rattle.basics.specs.Laws.Xor.{digit, xor_half, xor_odd, odd_lt, xor_swap, xor_past}
 use Rattle.basics.specs.Laws.Octets.{Bytes}
-use Rattle.sums.specs.Crc.{crcBit, crcBits, crcByte, crcFrom, dowcrcOf, dowPoly}
+use Rattle.sums.specs.Crc.{crc_bit, crc_bits, crc_byte, crc_from, dowcrc_of, dow_poly}
 
 module _ (p : ℕ) where
   -- what an odd sum has added to it
   abbrev added : ℕ → ℕ
   added n = cond (eqb n 1) p 0
 
-  added-linear : (x y : ℕ) → x < 2 → y < 2 → added (differ x y) ≡ bit_xor (added x) (added y)
-  added-linear x y hx hy =
+  added_linear : (x y : ℕ) → x < 2 → y < 2 → added (differ x y) ≡ bit_xor (added x) (added y)
+  added_linear x y hx hy =
       digit (λ x. added (differ x y) ≡ bit_xor (added x) (added y)) refl
       (digit (λ y. added (differ 1 y) ≡ bit_xor p (added y)) (sym (xor_zero_r p)) (sym (xor_self p)) y hy) x hx
 
-  bit-linear : (a b : ℕ) → crcBit p (bit_xor a b) ≡ bit_xor (crcBit p a) (crcBit p b)
-  unfolding crcBit
-  bit-linear a b =
-      ap₂ bit_xor (xor-half a b) (ap added (xor-odd a b) ∙ added-linear (a % 2) (b % 2) (odd-lt a) (odd-lt b))
-      ∙ xor-swap (a / 2) (b / 2) (added (a % 2)) (added (b % 2))
+  bit_linear : (a b : ℕ) → crc_bit p (bit_xor a b) ≡ bit_xor (crc_bit p a) (crc_bit p b)
+  unfolding crc_bit
+  bit_linear a b =
+      ap₂ bit_xor (xor_half a b) (ap added (xor_odd a b) ∙ added_linear (a % 2) (b % 2) (odd_lt a) (odd_lt b))
+      ∙ xor_swap (a / 2) (b / 2) (added (a % 2)) (added (b % 2))
 
-  bits-linear : (n a b : ℕ) → crcBits p n (bit_xor a b) ≡ bit_xor (crcBits p n a) (crcBits p n b)
-  unfolding crcBits
-  bits-linear zero a b = refl
-  bits-linear (suc n) a b = ap (crcBits p n) (bit-linear a b) ∙ bits-linear n (crcBit p a) (crcBit p b)
+  bits_linear : (n a b : ℕ) → crc_bits p n (bit_xor a b) ≡ bit_xor (crc_bits p n a) (crc_bits p n b)
+  unfolding crc_bits
+  bits_linear zero a b = refl
+  bits_linear (suc n) a b = ap (crc_bits p n) (bit_linear a b) ∙ bits_linear n (crc_bit p a) (crc_bit p b)
 
   -- n steps shift n low zeros out
-  bits-shift : (n h : ℕ) → crcBits p n (h * 2 ^ n) ≡ h
-  unfolding crcBits crcBit
-  bits-shift zero h = mul-one h
-  bits-shift (suc n) h =
-      ap (crcBits p n) (ap₂ (λ (x y : ℕ). bit_xor x (added y)) (shifted_half h n) (shifted_even h n) ∙ xor_zero_r (h * 2 ^ n))
-      ∙ bits-shift n h
+  bits_shift : (n h : ℕ) → crc_bits p n (h * 2 ^ n) ≡ h
+  unfolding crc_bits crc_bit
+  bits_shift zero h = mul-one h
+  bits_shift (suc n) h =
+      ap (crc_bits p n) (ap₂ (λ (x y : ℕ). bit_xor x (added y)) (shifted_half h n) (shifted_even h n) ∙ xor_zero_r (h * 2 ^ n))
+      ∙ bits_shift n h
 
   -- so they go through the n low digits alone, and move the others down
-  pub bits-split : (n x : ℕ) → crcBits p n x ≡ bit_xor (x / 2 ^ n) (crcBits p n (x % 2 ^ n))
-  bits-split n x =
-      ap (crcBits p n) (sym (split x n) ∙ sym (xor_shifted (x / 2 ^ n) n (x % 2 ^ n) (mod-lt x (pow_pos n))))
-      ∙ bits-linear n (x / 2 ^ n * 2 ^ n) (x % 2 ^ n)
-      ∙ ap (λ (y : ℕ). bit_xor y (crcBits p n (x % 2 ^ n))) (bits-shift n (x / 2 ^ n))
+  pub bits_split : (n x : ℕ) → crc_bits p n x ≡ bit_xor (x / 2 ^ n) (crc_bits p n (x % 2 ^ n))
+  bits_split n x =
+      ap (crc_bits p n) (sym (split x n) ∙ sym (xor_shifted (x / 2 ^ n) n (x % 2 ^ n) (mod-lt x (pow_pos n))))
+      ∙ bits_linear n (x / 2 ^ n * 2 ^ n) (x % 2 ^ n)
+      ∙ ap (λ (y : ℕ). bit_xor y (crc_bits p n (x % 2 ^ n))) (bits_shift n (x / 2 ^ n))
 
-  pub bits-add : (m n k c : ℕ) → k ≡ m + n → crcBits p n (crcBits p m c) ≡ crcBits p k c
-  unfolding crcBits
-  bits-add zero n k c e = let z : n ≡ k = omega arith in rw z
-  bits-add (suc m) n zero c e = absurd (omega arith)
-  bits-add (suc m) n (suc k) c e = bits-add m n k (crcBit p c) (omega arith)
+  pub bits_add : (m n k c : ℕ) → k ≡ m + n → crc_bits p n (crc_bits p m c) ≡ crc_bits p k c
+  unfolding crc_bits
+  bits_add zero n k c e = let z : n ≡ k = omega arith in rw z
+  bits_add (suc m) n zero c e = absurd (omega arith)
+  bits_add (suc m) n (suc k) c e = bits_add m n k (crc_bit p c) (omega arith)
 
   -- one bit more
-  pub bits-next : (n x c y : ℕ) → x ≡ crcBits p n c → y ≡ crcBit p x → y ≡ crcBits p (n + 1) c
-  unfolding crcBits
-  bits-next n x c y e f = f ∙ ap (crcBit p) e ∙ bits-add n 1 (n + 1) c refl
+  pub bits_next : (n x c y : ℕ) → x ≡ crc_bits p n c → y ≡ crc_bit p x → y ≡ crc_bits p (n + 1) c
+  unfolding crc_bits
+  bits_next n x c y e f = f ∙ ap (crc_bit p) e ∙ bits_add n 1 (n + 1) c refl
 
   -- a byte by a table: what the table has at the low digits, and the rest moved down
-  pub byte-table : (c b : ℕ) → b < 256 → crcByte p c b ≡ bit_xor (c / 256) (crcBits p 8 (bit_xor c b % 256))
-  unfolding crcByte
-  byte-table c b h =
+  pub byte_table : (c b : ℕ) → b < 256 → crc_byte p c b ≡ bit_xor (c / 256) (crc_bits p 8 (bit_xor c b % 256))
+  unfolding crc_byte
+  byte_table c b h =
       let z : b / 256 ≡ 0 = omega arith in
-      bits-split 8 (bit_xor c b)
-      ∙ ap (λ (x : ℕ). bit_xor x (crcBits p 8 (bit_xor c b % 256))) (xor_shr c b 8 ∙ ap (bit_xor (c / 256)) z ∙ xor_zero_r (c / 256))
+      bits_split 8 (bit_xor c b)
+      ∙ ap (λ (x : ℕ). bit_xor x (crc_bits p 8 (bit_xor c b % 256))) (xor_shr c b 8 ∙ ap (bit_xor (c / 256)) z ∙ xor_zero_r (c / 256))
 
   -- a sum is linear in where it starts: what is added there goes through the steps of the bytes
-  from-linear : (u v : ℕ) (s : List ℕ) → crcFrom p (bit_xor u v) s ≡ bit_xor (crcFrom p u s) (crcBits p (8 * length s) v)
-  unfolding crcFrom crcByte crcBits
-  from-linear u v [] = refl
-  from-linear u v (b ∷ s) =
-      ap (λ (x : ℕ). crcFrom p x s) (ap (crcBits p 8) (xor-past u v b) ∙ bits-linear 8 (bit_xor u b) v)
-      ∙ from-linear (crcByte p u b) (crcBits p 8 v) s
-      ∙ ap (bit_xor (crcFrom p (crcByte p u b) s)) (bits-add 8 (8 * length s) (8 * suc (length s)) v (omega arith))
+  from_linear : (u v : ℕ) (s : List ℕ) → crc_from p (bit_xor u v) s ≡ bit_xor (crc_from p u s) (crc_bits p (8 * length s) v)
+  unfolding crc_from crc_byte crc_bits
+  from_linear u v [] = refl
+  from_linear u v (b ∷ s) =
+      ap (λ (x : ℕ). crc_from p x s) (ap (crc_bits p 8) (xor_past u v b) ∙ bits_linear 8 (bit_xor u b) v)
+      ∙ from_linear (crc_byte p u b) (crc_bits p 8 v) s
+      ∙ ap (bit_xor (crc_from p (crc_byte p u b) s)) (bits_add 8 (8 * length s) (8 * suc (length s)) v (omega arith))
 
   -- a byte and its followers: its entry, and what they make of the rest
-  pub from-peel : (c b : ℕ) (s : List ℕ) → b < 256
-      → crcFrom p c (b ∷ s) ≡ bit_xor (crcBits p (8 * length s + 8) (bit_xor c b % 256)) (crcFrom p (c / 256) s)
-  unfolding crcFrom
-  from-peel c b s h =
-      ap (λ (x : ℕ). crcFrom p x s) (byte-table c b h)
-      ∙ from-linear (c / 256) (crcBits p 8 (bit_xor c b % 256)) s
-      ∙ ap (bit_xor (crcFrom p (c / 256) s)) (bits-add 8 (8 * length s) (8 * length s + 8) (bit_xor c b % 256) (omega arith))
-      ∙ xor_comm (crcFrom p (c / 256) s) (crcBits p (8 * length s + 8) (bit_xor c b % 256))
+  pub from_peel : (c b : ℕ) (s : List ℕ) → b < 256
+      → crc_from p c (b ∷ s) ≡ bit_xor (crc_bits p (8 * length s + 8) (bit_xor c b % 256)) (crc_from p (c / 256) s)
+  unfolding crc_from
+  from_peel c b s h =
+      ap (λ (x : ℕ). crc_from p x s) (byte_table c b h)
+      ∙ from_linear (c / 256) (crc_bits p 8 (bit_xor c b % 256)) s
+      ∙ ap (bit_xor (crc_from p (c / 256) s)) (bits_add 8 (8 * length s) (8 * length s + 8) (bit_xor c b % 256) (omega arith))
+      ∙ xor_comm (crc_from p (c / 256) s) (crc_bits p (8 * length s + 8) (bit_xor c b % 256))
 
   -- a sum over a polynomial of k bits has k bits
   module _ (k : ℕ) (hp : p < 2 ^ k) where
-    bit-lt : (c : ℕ) → c < 2 ^ k → crcBit p c < 2 ^ k
-    unfolding crcBit
-    bit-lt c hc = xor_lt k (c / 2) (added (c % 2)) (omega arith) (added-lt (eqb (c % 2) 1))
+    bit_lt : (c : ℕ) → c < 2 ^ k → crc_bit p c < 2 ^ k
+    unfolding crc_bit
+    bit_lt c hc = xor_lt k (c / 2) (added (c % 2)) (omega arith) (added_lt (eqb (c % 2) 1))
       where
-        added-lt : (b : Bool) → cond b p 0 < 2 ^ k
-        added-lt true = hp
-        added-lt false = pow_pos k
+        added_lt : (b : Bool) → cond b p 0 < 2 ^ k
+        added_lt true = hp
+        added_lt false = pow_pos k
 
-    pub bits-lt : (n c : ℕ) → c < 2 ^ k → crcBits p n c < 2 ^ k
-    unfolding crcBits
-    bits-lt zero c hc = hc
-    bits-lt (suc n) c hc = bits-lt n (crcBit p c) (bit-lt c hc)
+    pub bits_lt : (n c : ℕ) → c < 2 ^ k → crc_bits p n c < 2 ^ k
+    unfolding crc_bits
+    bits_lt zero c hc = hc
+    bits_lt (suc n) c hc = bits_lt n (crc_bit p c) (bit_lt c hc)
 
-    pub from-lt : (c : ℕ) (s : List ℕ) → c < 2 ^ k → ((i : ℕ) → get_or s i 0 < 2 ^ k) → crcFrom p c s < 2 ^ k
-    unfolding crcFrom crcByte
-    from-lt c [] hc hs = hc
-    from-lt c (b ∷ s) hc hs = from-lt (crcByte p c b) s (bits-lt 8 (bit_xor c b) (xor_lt k c b hc (hs 0))) (λ i. hs (suc i))
+    pub from_lt : (c : ℕ) (s : List ℕ) → c < 2 ^ k → ((i : ℕ) → get_or s i 0 < 2 ^ k) → crc_from p c s < 2 ^ k
+    unfolding crc_from crc_byte
+    from_lt c [] hc hs = hc
+    from_lt c (b ∷ s) hc hs = from_lt (crc_byte p c b) s (bits_lt 8 (bit_xor c b) (xor_lt k c b hc (hs 0))) (λ i. hs (suc i))
 
 -- the three sums of bytes fit their fields
-pub dow-fits : (s : List ℕ) → Bytes s → dowcrcOf s < 256
-dow-fits s h = from-lt dowPoly 8 (lit< tt) 0 s (lit< tt) h
+pub dow_fits : (s : List ℕ) → Bytes s → dowcrc_of s < 256
+dow_fits s h = from_lt dow_poly 8 (lit< tt) 0 s (lit< tt) h

@@ -1,20 +1,20 @@
--- `switches::register_at` meets its contract: each return has decided the tests of `registerAt`.
+-- `switches::register_at` meets its contract: each return has decided the tests of `register_at`.
 use Rattle.std.proofs.Common.{rules}
 use Rattle.basics.specs.Laws.Tests.{tests}
-use Rattle.switches.specs.Banks.{registerAt}
+use Rattle.switches.specs.Banks.{register_at}
 use Rattle.switches.proofs.register_at.Statement.{statement}
 use Rattle.switches.proofs.register_at.Tie as tie
 
 returns : tie.Need-returns
-unfolding registerAt
+unfolding register_at
 returns c = search tests
 
 returns-2 : tie.Need-returns-2
-unfolding registerAt
+unfolding register_at
 returns-2 c = search tests
 
 returns-3 : tie.Need-returns-3
-unfolding registerAt
+unfolding register_at
 returns-3 c = search tests
 
 pub register-at-spec : {M : Type 1} → statement M

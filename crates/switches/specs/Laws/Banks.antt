@@ -8,13 +8,13 @@ use Rattle.std.proofs.lemmas.Bool.{eqb-false}
 use Rattle.basics.specs.Lists.{laid}
 use Rattle.basics.specs.Laws.Lists.{laid_out, laid_in}
 use Rattle.basics.specs.Laws.Tests.{compare, cases}
-use Rattle.places.specs.Limits.{chapterPages, chapterParagraphs}
+use Rattle.places.specs.Limits.{chapter_pages, chapter_paragraphs}
 use Rattle.places.specs.declared.Console.{Console}
 use Rattle.places.specs.Places.{console}
 use Rattle.switches.specs.declared.Register.TheVariants.{HalfPage, Elsewhere}
-use Rattle.switches.specs.Flips.{Active, firstK, flipPermissions, flipped}
-use Rattle.switches.specs.Banks.{halfPageParagraphs, registerAt, BANKSW, banked, numberFrom, switched, bankswitched}
-use Rattle.switches.specs.Laws.Flips.{length-turned, turned-in, turned-out, turned-at}
+use Rattle.switches.specs.Flips.{Active, first_k, flip_permissions, flipped}
+use Rattle.switches.specs.Banks.{half_page_paragraphs, register_at, BANKSW, banked, number_from, switched, bankswitched}
+use Rattle.switches.specs.Laws.Flips.{length_turned, turned_in, turned_out, turned_at}
 
 -- past the table there is no entry
 pub get_d_past : (l : List ℕ) (p : ℕ) → length l ≤ p → slice_index l p ≡ 0
@@ -23,39 +23,39 @@ get_d_past (x ∷ xs) zero h = absurd (omega arith)
 get_d_past (x ∷ xs) (suc p) h = get_d_past xs p (omega arith)
 
 -- the loop, done
-pub switched-all : (h v j : ℕ) (t m : List ℕ) → j ≤ halfPageParagraphs → halfPageParagraphs ≤ j
-    → t ≡ laid (halfPageParagraphs * h) j (numberFrom v) m → t ≡ switched h v m
+pub switched_all : (h v j : ℕ) (t m : List ℕ) → j ≤ half_page_paragraphs → half_page_paragraphs ≤ j
+    → t ≡ laid (half_page_paragraphs * h) j (number_from v) m → t ≡ switched h v m
 unfolding switched
-switched-all h v j t m a b q = let d : j ≡ halfPageParagraphs = omega arith in rw d at q
+switched_all h v j t m a b q = let d : j ≡ half_page_paragraphs = omega arith in rw d at q
 
 -- by its rule: entry p, number p % 8 of its half-page, takes its number where the half-page is h, or keeps its own
 module _ (h v : ℕ) (m : List ℕ) (p : ℕ) where
-  pub switched-in : p < length m → p / halfPageParagraphs ≡ h → slice_index (switched h v m) p ≡ numberFrom v (p % halfPageParagraphs)
+  pub switched_in : p < length m → p / half_page_paragraphs ≡ h → slice_index (switched h v m) p ≡ number_from v (p % half_page_paragraphs)
   unfolding switched
-  switched-in s e =
-      let i : p ≡ halfPageParagraphs * h + p % halfPageParagraphs = omega arith in
-      ap (λ (q : ℕ). slice_index (laid (halfPageParagraphs * h) halfPageParagraphs (numberFrom v) m) q) i
-      ∙ laid_in (halfPageParagraphs * h) (numberFrom v) m halfPageParagraphs (p % halfPageParagraphs) (omega arith) (omega arith)
+  switched_in s e =
+      let i : p ≡ half_page_paragraphs * h + p % half_page_paragraphs = omega arith in
+      ap (λ (q : ℕ). slice_index (laid (half_page_paragraphs * h) half_page_paragraphs (number_from v) m) q) i
+      ∙ laid_in (half_page_paragraphs * h) (number_from v) m half_page_paragraphs (p % half_page_paragraphs) (omega arith) (omega arith)
 
-  pub switched-out : (p / halfPageParagraphs ≢ h) → slice_index (switched h v m) p ≡ slice_index m p
+  pub switched_out : (p / half_page_paragraphs ≢ h) → slice_index (switched h v m) p ≡ slice_index m p
   unfolding switched
-  switched-out n = laid_out (halfPageParagraphs * h) (numberFrom v) m halfPageParagraphs p (side (compare (p / halfPageParagraphs) h))
+  switched_out n = laid_out (half_page_paragraphs * h) (number_from v) m half_page_paragraphs p (side (compare (p / half_page_paragraphs) h))
     where
-      side : (p / halfPageParagraphs ≡ h) ⊎ ((p / halfPageParagraphs < h) ⊎ (h < p / halfPageParagraphs))
-          → (p < halfPageParagraphs * h) ⊎ (halfPageParagraphs * h + halfPageParagraphs ≤ p)
+      side : (p / half_page_paragraphs ≡ h) ⊎ ((p / half_page_paragraphs < h) ⊎ (h < p / half_page_paragraphs))
+          → (p < half_page_paragraphs * h) ⊎ (half_page_paragraphs * h + half_page_paragraphs ≤ p)
       side (inl e) = absurd (n e)
       side (inr (inl l)) = inl (omega arith)
       side (inr (inr l)) = inr (omega arith)
 
-  pub switched-at : p < length m
-      → slice_index (switched h v m) p ≡ cond (p / halfPageParagraphs == h) (numberFrom v (p % halfPageParagraphs)) (slice_index m p)
-  switched-at s =
-      cases (p / halfPageParagraphs == h) (λ e. rw e (switched-in s (eqb-true _ _ e))) (λ e. rw e (switched-out (eqb-false _ _ e)))
+  pub switched_at : p < length m
+      → slice_index (switched h v m) p ≡ cond (p / half_page_paragraphs == h) (number_from v (p % half_page_paragraphs)) (slice_index m p)
+  switched_at s =
+      cases (p / half_page_paragraphs == h) (λ e. rw e (switched_in s (eqb-true _ _ e))) (λ e. rw e (switched_out (eqb-false _ _ e)))
 
 -- the registers stand at $0040-$005F
-pub register-low : (at : Console) (h : ℕ) → registerAt at ≡ HalfPage h → at.0 < 0x60
-unfolding registerAt
-register-low at h e =
+pub register_low : (at : Console) (h : ℕ) → register_at at ≡ HalfPage h → at.0 < 0x60
+unfolding register_at
+register_low at h e =
     cases (at.0 / 0x10 == 4) (λ a. omega (arith, eqb-true (at.0 / 0x10) 4 a))
     (λ a.
     cases (at.0 / 0x10 == 5) (λ b. omega (arith, eqb-true (at.0 / 0x10) 5 b))
@@ -63,13 +63,13 @@ register-low at h e =
 
 -- the two registers of chapter x move disjoint halves of it: $x000-$x7FF and $x800-$xFFF
 pub record Halves (x v : ℕ) (a : Active) : Type 0 where
-  pub lower : registerAt (console (0x40 + x)) ≡ HalfPage (16 * x)
-  pub upper : registerAt (console (0x50 + x)) ≡ HalfPage (16 * x + 8)
-  pub lower-moves : (p : ℕ) → (p / 16 ≡ x → 8 ≤ p % 16) → slice_index (bankswitched (16 * x) v a).mapping p ≡ slice_index a.mapping p
-  pub upper-moves : (p : ℕ) → (p / 16 ≡ x → p % 16 < 8) → slice_index (bankswitched (16 * x + 8) v a).mapping p ≡ slice_index a.mapping p
+  pub lower : register_at (console (0x40 + x)) ≡ HalfPage (16 * x)
+  pub upper : register_at (console (0x50 + x)) ≡ HalfPage (16 * x + 8)
+  pub lower_moves : (p : ℕ) → (p / 16 ≡ x → 8 ≤ p % 16) → slice_index (bankswitched (16 * x) v a).mapping p ≡ slice_index a.mapping p
+  pub upper_moves : (p : ℕ) → (p / 16 ≡ x → p % 16 < 8) → slice_index (bankswitched (16 * x + 8) v a).mapping p ≡ slice_index a.mapping p
 
 pub halves : (x : ℕ) → x < 16 → (v : ℕ) (a : Active) → Halves x v a
-unfolding registerAt
+unfolding register_at
 halves x h v a =
     let l : (0x40 + x) / 0x10 ≡ 4 = omega arith in
     let u : (0x50 + x) / 0x10 ≡ 5 = omega arith in
@@ -78,13 +78,13 @@ halves x h v a =
     record {
       lower = rw (l, d);
       upper = rw (u, e);
-      lower-moves = λ p k. switched-out (16 * x / 8) v a.mapping p (λ q. omega (arith, k (omega arith)));
-      upper-moves = λ p k. switched-out ((16 * x + 8) / 8) v a.mapping p (λ q. omega (arith, k (omega arith)));
+      lower_moves = λ p k. switched_out (16 * x / 8) v a.mapping p (λ q. omega (arith, k (omega arith)));
+      upper_moves = λ p k. switched_out ((16 * x + 8) / 8) v a.mapping p (λ q. omega (arith, k (omega arith)));
     }
 
 -- BANKSW survives a switch, so that the next one acts
-pub switch-keeps : (p v : ℕ) (a : Active) (q : ℕ) → banked (bankswitched p v a).permissions q ≡ banked a.permissions q
-switch-keeps p v a q = refl
+pub switch_keeps : (p v : ℕ) (a : Active) (q : ℕ) → banked (bankswitched p v a).permissions q ≡ banked a.permissions q
+switch_keeps p v a q = refl
 
 low_bits : (e : ℕ) → BANKSW (e % 8) ≡ false
 low_bits e = ne_eqb (e % 8 / 8 % 2) 1 (λ q. omega arith)
@@ -95,28 +95,28 @@ either false e x h = h
 
 -- a flip clears it in the paragraphs that it changes, and in no other
 module _ (flips : List ℕ) (n : ℕ) (a : Active) (p : ℕ) where
-  pub flip-clears : p < length a.permissions → p / chapterParagraphs ≡ n / chapterPages → firstK (n / chapterPages) ≤ p % chapterParagraphs
+  pub flip_clears : p < length a.permissions → p / chapter_paragraphs ≡ n / chapter_pages → first_k (n / chapter_pages) ≤ p % chapter_paragraphs
       → BANKSW (slice_index (flipped flips n a).permissions p) ≡ false
-  flip-clears s e l =
-      rw (turned-in (n / chapterPages) (flipPermissions (slice_index flips n)) a.permissions p s e l)
+  flip_clears s e l =
+      rw (turned_in (n / chapter_pages) (flip_permissions (slice_index flips n)) a.permissions p s e l)
       (low_bits (slice_index flips n))
 
-  pub flip-spares : (p / chapterParagraphs ≡ n / chapterPages → p % chapterParagraphs < firstK (n / chapterPages))
+  pub flip_spares : (p / chapter_paragraphs ≡ n / chapter_pages → p % chapter_paragraphs < first_k (n / chapter_pages))
       → slice_index (flipped flips n a).permissions p ≡ slice_index a.permissions p
-  flip-spares o = turned-out (n / chapterPages) (flipPermissions (slice_index flips n)) a.permissions p o
+  flip_spares o = turned_out (n / chapter_pages) (flip_permissions (slice_index flips n)) a.permissions p o
 
   -- so no flip sets it
-  pub flip-leaves-clear : BANKSW (slice_index a.permissions p) ≡ false → BANKSW (slice_index (flipped flips n a).permissions p) ≡ false
-  flip-leaves-clear h = by (compare p (length a.permissions))
+  pub flip_leaves_clear : BANKSW (slice_index a.permissions p) ≡ false → BANKSW (slice_index (flipped flips n a).permissions p) ≡ false
+  flip_leaves_clear h = by (compare p (length a.permissions))
     where
       past : length a.permissions ≤ p → BANKSW (slice_index (flipped flips n a).permissions p) ≡ false
       past l =
-          rw (get_d_past (flipped flips n a).permissions p (omega (arith, length-turned (n / chapterPages) (flipPermissions (slice_index flips n)) a.permissions)))
+          rw (get_d_past (flipped flips n a).permissions p (omega (arith, length_turned (n / chapter_pages) (flip_permissions (slice_index flips n)) a.permissions)))
 
       by : (p ≡ length a.permissions) ⊎ ((p < length a.permissions) ⊎ (length a.permissions < p))
           → BANKSW (slice_index (flipped flips n a).permissions p) ≡ false
       by (inl e) = past (omega arith)
       by (inr (inr l)) = past (omega arith)
       by (inr (inl l)) =
-          rw (turned-at (n / chapterPages) (flipPermissions (slice_index flips n)) a.permissions p l)
-          (either (p / chapterParagraphs == n / chapterPages && nat_le (firstK (n / chapterPages)) (p % chapterParagraphs)) (slice_index flips n) (slice_index a.permissions p) h)
+          rw (turned_at (n / chapter_pages) (flip_permissions (slice_index flips n)) a.permissions p l)
+          (either (p / chapter_paragraphs == n / chapter_pages && nat_le (first_k (n / chapter_pages)) (p % chapter_paragraphs)) (slice_index flips n) (slice_index a.permissions p) h)

@@ -3,16 +3,16 @@ use Rattle.std.specs.Prelude.{◌≡◌, [], ◌∷◌, replicate, refl}
 use Rattle.basics.specs.Lists.{laid}
 use Rattle.places.specs.Places.{console}
 use Rattle.switches.specs.declared.Register.TheVariants.{HalfPage, Elsewhere}
-use Rattle.switches.specs.Banks.{registerAt, switched}
+use Rattle.switches.specs.Banks.{register_at, switched}
 
 -- 001's example: $004C is the register of $C000-$C7FF; and the ends of the registers
 pub registers :
-    (registerAt (console 0x004C) ≡ HalfPage 0xC0) × (registerAt (console 0x0040) ≡ HalfPage 0) × (registerAt (console 0x005F) ≡ HalfPage 0xF8)
-    × (registerAt (console 0x003F) ≡ Elsewhere) × (registerAt (console 0x0060) ≡ Elsewhere) × (registerAt (console 0x0140) ≡ Elsewhere)
-unfolding registerAt
+    (register_at (console 0x004C) ≡ HalfPage 0xC0) × (register_at (console 0x0040) ≡ HalfPage 0) × (register_at (console 0x005F) ≡ HalfPage 0xF8)
+    × (register_at (console 0x003F) ≡ Elsewhere) × (register_at (console 0x0060) ≡ Elsewhere) × (register_at (console 0x0140) ≡ Elsewhere)
+unfolding register_at
 registers = (refl, refl, refl, refl, refl, refl)
 
 -- going round: half-page 0 switched to 254
-pub goes-round : switched 0 254 (replicate 9 0x1234) ≡ 254 ∷ 255 ∷ 0 ∷ 1 ∷ 2 ∷ 3 ∷ 4 ∷ 5 ∷ 0x1234 ∷ []
+pub goes_round : switched 0 254 (replicate 9 0x1234) ≡ 254 ∷ 255 ∷ 0 ∷ 1 ∷ 2 ∷ 3 ∷ 4 ∷ 5 ∷ 0x1234 ∷ []
 unfolding switched laid
-goes-round = refl
+goes_round = refl

@@ -2,7 +2,7 @@
 use Prim.Native.Nat.{◌≤◌, ◌+◌, ◌-◌}
 use lib.ListN.{get_or}
 use borrow.Author.Rules.{rules}
-use Rattle.basics.specs.Laws.Tables.{Filled, filled_none, filled_more, filled-all}
+use Rattle.basics.specs.Laws.Tables.{Filled, filled_none, filled_more, filled_all}
 use Rattle.places.specs.Limits.{paragraphs}
 use Rattle.tables.proofs.bytes_at.Statement.{statement}
 use Rattle.tables.proofs.bytes_at.Tie as tie
@@ -20,7 +20,7 @@ loop-again : tie.Need-loop-preserved invariant-loop decreases-loop
 loop-again c = search (rules, filled_more)
 
 returns : tie.Need-returns invariant-loop decreases-loop
-returns c = search (rules, filled-all)
+returns c = search (rules, filled_all)
 
 pub bytes-at-spec : {M : Type 1} → statement M
 bytes-at-spec =

@@ -1,11 +1,11 @@
 -- `tables::cartridge_of` meets its contract: the three tables, and the cartridge that is loaded with them.
 use borrow.Author.Rules.{rules}
-use Rattle.tables.specs.Tables.{cartridgeOf, tablesIn}
+use Rattle.tables.specs.Tables.{cartridge_of, tables_in}
 use Rattle.tables.proofs.cartridge_of.Statement.{statement}
 use Rattle.tables.proofs.cartridge_of.Tie as tie
 
 returns : tie.Need-returns
-unfolding cartridgeOf tablesIn
+unfolding cartridge_of tables_in
 returns c = cc
 
 pub cartridge-of-spec : {M : Type 1} → statement M

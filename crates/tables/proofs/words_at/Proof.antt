@@ -1,7 +1,7 @@
 -- `tables::words_at` meets its contract. The loop's invariant: the first i entries are filled.
 use Prim.Native.Nat.{◌≤◌, ◌+◌, ◌*◌, ◌-◌}
 use borrow.Author.Rules.{rules}
-use Rattle.basics.specs.Laws.Tables.{Filled, filled_none, filled_more, filled-all}
+use Rattle.basics.specs.Laws.Tables.{Filled, filled_none, filled_more, filled_all}
 use Rattle.basics.specs.Bytes.{at16}
 use Rattle.places.specs.Limits.{paragraphs}
 use Rattle.tables.proofs.words_at.Statement.{statement}
@@ -20,7 +20,7 @@ loop-again : tie.Need-loop-preserved invariant-loop decreases-loop
 loop-again c = search (rules, filled_more)
 
 returns : tie.Need-returns invariant-loop decreases-loop
-returns c = search (rules, filled-all)
+returns c = search (rules, filled_all)
 
 pub words-at-spec : {M : Type 1} → statement M
 words-at-spec =

@@ -4,60 +4,60 @@ use mathlib.Core.List.{List, ◌++◌, append_assoc, append-nil, []}
 use Rattle.std.proofs.Common.{sym, ◌∙◌, arith, length-append}
 use Rattle.std.proofs.Math.Path.{ap}
 use Rattle.basics.specs.Bytes.{bytes16, at16}
-use Rattle.basics.specs.Laws.Bytes.{length-bytes16}
+use Rattle.basics.specs.Laws.Bytes.{length_bytes16}
 use Rattle.basics.specs.Laws.Tables.{table_of}
-use Rattle.basics.specs.Laws.Stands.{stands-in, stands_word, stands_after}
+use Rattle.basics.specs.Laws.Stands.{stands_in, stands_word, stands_after}
 use Rattle.places.specs.Limits.{paragraphs}
 use Rattle.jlp.specs.declared.Jlp.{Jlp}
-use Rattle.tables.specs.Tables.{Tables, permissionsAt, flipsAt, tablesSize, tablesPayload, wordsAt, bytes_at, tablesIn, cartridgeWith, cartridgeOf}
+use Rattle.tables.specs.Tables.{Tables, permissions_at, flips_at, tables_size, tables_payload, words_at, bytes_at, tables_in, cartridge_with, cartridge_of}
 
 -- a table that stands at p, back
-words_back : (ws x : List ℕ) (p : ℕ) (r : List ℕ) → length ws ≡ paragraphs → drop p x ≡ bytes16 ws ++ r → wordsAt x p ≡ ws
+words_back : (ws x : List ℕ) (p : ℕ) (r : List ℕ) → length ws ≡ paragraphs → drop p x ≡ bytes16 ws ++ r → words_at x p ≡ ws
 words_back ws x p r e st =
     sym (table_of 0 paragraphs (λ i. at16 x (p + 2 * i)) ws e (λ i h. sym (stands_word x p ws r st i (p + 2 * i) refl (omega arith))))
 
 bytes_back : (bs x : List ℕ) (p : ℕ) (r : List ℕ) → length bs ≡ paragraphs → drop p x ≡ bs ++ r → bytes_at x p ≡ bs
 bytes_back bs x p r e st =
-    sym (table_of 0 paragraphs (λ i. get_or x (p + i) 0) bs e (λ i h. sym (stands-in x p bs r st i (p + i) refl (omega arith))))
+    sym (table_of 0 paragraphs (λ i. get_or x (p + i) 0) bs e (λ i h. sym (stands_in x p bs r st i (p + i) refl (omega arith))))
 
 module _ (t : Tables) (em : length t.mapping ≡ paragraphs) (ep : length t.permissions ≡ paragraphs) (ef : length t.flips ≡ paragraphs) where
-  pub length-tables : length (tablesPayload t) ≡ tablesSize
-  unfolding tablesPayload
-  length-tables = simp (length-append, length-bytes16) (omega arith)
+  pub length_tables : length (tables_payload t) ≡ tables_size
+  unfolding tables_payload
+  length_tables = simp (length-append, length_bytes16) (omega arith)
 
   -- bytes that begin with the payload, r behind it
-  module _ (x r : List ℕ) (st : x ≡ tablesPayload t ++ r) where
-    at-mapping : x ≡ bytes16 t.mapping ++ (t.permissions ++ (bytes16 t.flips ++ r))
-    unfolding tablesPayload
-    at-mapping = st ∙ simp append_assoc
+  module _ (x r : List ℕ) (st : x ≡ tables_payload t ++ r) where
+    at_mapping : x ≡ bytes16 t.mapping ++ (t.permissions ++ (bytes16 t.flips ++ r))
+    unfolding tables_payload
+    at_mapping = st ∙ simp append_assoc
 
-    at-permissions : drop permissionsAt x ≡ t.permissions ++ (bytes16 t.flips ++ r)
-    at-permissions = stands_after x 0 (bytes16 t.mapping) _ at-mapping permissionsAt (omega (arith, length-bytes16 t.mapping))
+    at_permissions : drop permissions_at x ≡ t.permissions ++ (bytes16 t.flips ++ r)
+    at_permissions = stands_after x 0 (bytes16 t.mapping) _ at_mapping permissions_at (omega (arith, length_bytes16 t.mapping))
 
-    at-flips : drop flipsAt x ≡ bytes16 t.flips ++ r
-    at-flips = stands_after x permissionsAt t.permissions _ at-permissions flipsAt (omega arith)
+    at_flips : drop flips_at x ≡ bytes16 t.flips ++ r
+    at_flips = stands_after x permissions_at t.permissions _ at_permissions flips_at (omega arith)
 
-    pub tables-back : tablesIn x ≡ t
-    unfolding tablesIn
-    tables-back =
+    pub tables_back : tables_in x ≡ t
+    unfolding tables_in
+    tables_back =
         rw (
-          words_back t.mapping x 0 _ em at-mapping,
-          bytes_back t.permissions x permissionsAt _ ep at-permissions,
-          words_back t.flips x flipsAt r ef at-flips,
+          words_back t.mapping x 0 _ em at_mapping,
+          bytes_back t.permissions x permissions_at _ ep at_permissions,
+          words_back t.flips x flips_at r ef at_flips,
         )
 
-    pub cartridge-back : (jlp : Jlp) → cartridgeOf jlp x ≡ cartridgeWith jlp t
-    unfolding cartridgeOf
-    cartridge-back jlp = ap (cartridgeWith jlp) tables-back
+    pub cartridge_back : (jlp : Jlp) → cartridge_of jlp x ≡ cartridge_with jlp t
+    unfolding cartridge_of
+    cartridge_back jlp = ap (cartridge_with jlp) tables_back
 
   -- the payload itself
-  pub payload-tables : tablesIn (tablesPayload t) ≡ t
-  payload-tables = tables-back (tablesPayload t) [] (sym (append-nil (tablesPayload t)))
+  pub payload_tables : tables_in (tables_payload t) ≡ t
+  payload_tables = tables_back (tables_payload t) [] (sym (append-nil (tables_payload t)))
 
-  pub payload-back : (jlp : Jlp) → cartridgeOf jlp (tablesPayload t) ≡ cartridgeWith jlp t
-  payload-back = cartridge-back (tablesPayload t) [] (sym (append-nil (tablesPayload t)))
+  pub payload_back : (jlp : Jlp) → cartridge_of jlp (tables_payload t) ≡ cartridge_with jlp t
+  payload_back = cartridge_back (tables_payload t) [] (sym (append-nil (tables_payload t)))
 
 -- a payload's cartridge has the payload's flips
-pub cartridge-flips : (jlp : Jlp) (payload : List ℕ) → (cartridgeOf jlp payload).flips ≡ (tablesIn payload).flips
-unfolding cartridgeOf
-cartridge-flips jlp payload = refl
+pub cartridge_flips : (jlp : Jlp) (payload : List ℕ) → (cartridge_of jlp payload).flips ≡ (tables_in payload).flips
+unfolding cartridge_of
+cartridge_flips jlp payload = refl

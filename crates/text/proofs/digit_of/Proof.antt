@@ -1,6 +1,6 @@
 -- `text::digit_of` meets its contract: a row for each digit, and the last for every other byte.
 use borrow.Author.Rules.{rules}
-use Rattle.text.proofs.Tests.{digit-row, no_digit}
+use Rattle.text.proofs.Tests.{digit_row, no_digit}
 use Rattle.text.proofs.digit_of.Statement.{statement}
 use Rattle.text.proofs.digit_of.Tie as tie
 
@@ -8,26 +8,26 @@ pub digit-of-spec : {M : Type 1} → statement M
 digit-of-spec =
     tie.close
     (tie.spec
-    (λ c. search (rules, digit-row))
-    (λ c. search (rules, digit-row))
-    (λ c. search (rules, digit-row))
-    (λ c. search (rules, digit-row))
-    (λ c. search (rules, digit-row))
-    (λ c. search (rules, digit-row))
-    (λ c. search (rules, digit-row))
-    (λ c. search (rules, digit-row))
-    (λ c. search (rules, digit-row))
-    (λ c. search (rules, digit-row))
-    (λ c. search (rules, digit-row))
-    (λ c. search (rules, digit-row))
-    (λ c. search (rules, digit-row))
-    (λ c. search (rules, digit-row))
-    (λ c. search (rules, digit-row))
-    (λ c. search (rules, digit-row))
-    (λ c. search (rules, digit-row))
-    (λ c. search (rules, digit-row))
-    (λ c. search (rules, digit-row))
-    (λ c. search (rules, digit-row))
-    (λ c. search (rules, digit-row))
-    (λ c. search (rules, digit-row))
+    (λ c. search (rules, digit_row))
+    (λ c. search (rules, digit_row))
+    (λ c. search (rules, digit_row))
+    (λ c. search (rules, digit_row))
+    (λ c. search (rules, digit_row))
+    (λ c. search (rules, digit_row))
+    (λ c. search (rules, digit_row))
+    (λ c. search (rules, digit_row))
+    (λ c. search (rules, digit_row))
+    (λ c. search (rules, digit_row))
+    (λ c. search (rules, digit_row))
+    (λ c. search (rules, digit_row))
+    (λ c. search (rules, digit_row))
+    (λ c. search (rules, digit_row))
+    (λ c. search (rules, digit_row))
+    (λ c. search (rules, digit_row))
+    (λ c. search (rules, digit_row))
+    (λ c. search (rules, digit_row))
+    (λ c. search (rules, digit_row))
+    (λ c. search (rules, digit_row))
+    (λ c. search (rules, digit_row))
+    (λ c. search (rules, digit_row))
     (λ c. search (rules, no_digit)))

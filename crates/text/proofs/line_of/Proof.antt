@@ -5,7 +5,7 @@ use mathlib.Core.Logic.{⊎_elim}
 use native.Mathlib.Omega.{arith}
 use borrow.Author.Rules.{rules}
 use Rattle.text.specs.Lines.{line_of}
-use Rattle.text.proofs.Tests.{line-start, line-few, line-more, line_same, line-all}
+use Rattle.text.proofs.Tests.{line_start, line_few, line_more, line_same, line_all}
 use Rattle.text.proofs.line_of.Statement.{statement}
 use Rattle.text.proofs.line_of.Tie as tie
 
@@ -16,16 +16,16 @@ abbrev decreases-loop : tie.decreases-loop
 decreases-loop text at n₀ i₀ n i = at - i
 
 loop-holds : tie.Need-loop-init invariant-loop decreases-loop
-loop-holds c = search (rules, line-start)
+loop-holds c = search (rules, line_start)
 
 add-n : tie.Need-overflow-add-n invariant-loop decreases-loop
-add-n c = omega (arith, line-few c.before.before.before.before.before.args.text.now _ _ c.before.before.before.loop.invariant.1)
+add-n c = omega (arith, line_few c.before.before.before.before.before.args.text.now _ _ c.before.before.before.loop.invariant.1)
 
 loop-again : tie.Need-loop-preserved invariant-loop decreases-loop
-loop-again c = ⊎_elim (λ w. search (rules, line-more)) (λ w. search (rules, line_same)) c.if1.branch
+loop-again c = ⊎_elim (λ w. search (rules, line_more)) (λ w. search (rules, line_same)) c.if1.branch
 
 returns : tie.Need-returns invariant-loop decreases-loop
-returns c = search (rules, line-all)
+returns c = search (rules, line_all)
 
 pub line-of-spec : {M : Type 1} → statement M
 line-of-spec =

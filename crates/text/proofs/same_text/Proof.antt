@@ -4,7 +4,7 @@ use mathlib.Core.Path.{◌≡◌}
 use lib.ListN.{length, drop}
 use borrow.Author.Rules.{rules}
 use Rattle.text.specs.Spelling.{same}
-use Rattle.text.proofs.Spelling.{same_byte, other_byte, same-longer, same_end}
+use Rattle.text.proofs.Spelling.{same_byte, other_byte, same_longer, same_end}
 use Rattle.text.proofs.same_text.Statement.{statement}
 use Rattle.text.proofs.same_text.Tie as tie
 
@@ -15,7 +15,7 @@ abbrev decreases-loop : tie.decreases-loop
 decreases-loop s t i₀ i = length s - i
 
 returns : tie.Need-returns invariant-loop decreases-loop
-returns c = search (rules, same-longer)
+returns c = search (rules, same_longer)
 
 returns-2 : tie.Need-returns-2 invariant-loop decreases-loop
 returns-2 c = search (rules, other_byte)

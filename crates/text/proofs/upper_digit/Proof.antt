@@ -1,16 +1,16 @@
 -- `text::upper_digit` meets its contract: `0` to `9`, then `A` to `F`.
 use borrow.Author.Rules.{rules}
 use Rattle.basics.specs.Laws.Tests.{tests}
-use Rattle.text.specs.Spelling.{upperDigit}
+use Rattle.text.specs.Spelling.{upper_digit}
 use Rattle.text.proofs.upper_digit.Statement.{statement}
 use Rattle.text.proofs.upper_digit.Tie as tie
 
 returns : tie.Need-returns
-unfolding upperDigit
+unfolding upper_digit
 returns c = search tests
 
 returns-2 : tie.Need-returns-2
-unfolding upperDigit
+unfolding upper_digit
 returns-2 c = search tests
 
 pub upper-digit-spec : {M : Type 1} → statement M

@@ -11,36 +11,36 @@ use Rattle.basics.specs.Laws.Tests.{cases}
 use Rattle.text.specs.Bytes.{until}
 
 -- the test of the byte at a place
-abbrev pub passesAt : (ℕ → ℕ → Bool) → List ℕ → ℕ → Bool
-passesAt f s i = f (get_or s i 0) (get_or s (suc i) 0)
+abbrev pub passes_at : (ℕ → ℕ → Bool) → List ℕ → ℕ → Bool
+passes_at f s i = f (get_or s i 0) (get_or s (suc i) 0)
 
 module _ (f : ℕ → ℕ → Bool) where
-  pub until-most : (s : List ℕ) → until f s ≤ length s
+  pub until_most : (s : List ℕ) → until f s ≤ length s
   unfolding until
-  until-most [] = omega arith
-  until-most (b ∷ s) = cases (f b (get_or s 0 0)) (λ e. rw e (omega arith)) (λ e. rw e (omega (arith, until-most s)))
+  until_most [] = omega arith
+  until_most (b ∷ s) = cases (f b (get_or s 0 0)) (λ e. rw e (omega arith)) (λ e. rw e (omega (arith, until_most s)))
 
   -- the byte that is found passes, and none before it does
-  pub until-passes : (s : List ℕ) → until f s < length s → passesAt f s (until f s) ≡ true
+  pub until_passes : (s : List ℕ) → until f s < length s → passes_at f s (until f s) ≡ true
   unfolding until
-  until-passes [] h = absurd (omega arith)
-  until-passes (b ∷ s) h =
+  until_passes [] h = absurd (omega arith)
+  until_passes (b ∷ s) h =
       cases (f b (get_or s 0 0)) (λ e. rw e e)
-      (λ e. let l : suc (until f s) < suc (length s) = rw e at h in rw e (until-passes s (omega arith)))
+      (λ e. let l : suc (until f s) < suc (length s) = rw e at h in rw e (until_passes s (omega arith)))
 
-  pub until-before : (s : List ℕ) (i : ℕ) → i < until f s → passesAt f s i ≡ false
+  pub until_before : (s : List ℕ) (i : ℕ) → i < until f s → passes_at f s i ≡ false
   unfolding until
-  until-before [] i h = absurd (omega arith)
-  until-before (b ∷ s) zero h = cases (f b (get_or s 0 0)) (λ e. let l : 0 < 0 = rw e at h in absurd (omega arith)) (λ e. e)
-  until-before (b ∷ s) (suc i) h =
+  until_before [] i h = absurd (omega arith)
+  until_before (b ∷ s) zero h = cases (f b (get_or s 0 0)) (λ e. let l : 0 < 0 = rw e at h in absurd (omega arith)) (λ e. e)
+  until_before (b ∷ s) (suc i) h =
       cases (f b (get_or s 0 0)) (λ e. let l : suc i < 0 = rw e at h in absurd (omega arith))
-      (λ e. let l : suc i < suc (until f s) = rw e at h in until-before s i (omega arith))
+      (λ e. let l : suc i < suc (until f s) = rw e at h in until_before s i (omega arith))
 
 -- a loop that has come to place i, and x is the place that it looks for; n is the byte behind i
 module _ (f : ℕ → ℕ → Bool) (s : List ℕ) (i x : ℕ) (so : x ≡ i + until f (drop i s)) where
-  pub until-past : length s ≤ i → i ≡ x
+  pub until_past : length s ≤ i → i ≡ x
   unfolding until
-  until-past h = let z : until f (drop i s) ≡ 0 = rw (drop_of_length-le s h) in omega arith
+  until_past h = let z : until f (drop i s) ≡ 0 = rw (drop_of_length-le s h) in omega arith
 
   module _ (n : ℕ) (l : i < length s) (next : n ≡ get_or s (i + 1) 0) where
     step : (t : Bool) → f (get_or s i 0) n ≡ t → x ≡ i + cond t 0 (suc (until f (drop (i + 1) s)))
@@ -51,8 +51,8 @@ module _ (f : ℕ → ℕ → Bool) (s : List ℕ) (i x : ℕ) (so : x ≡ i + u
         let m : get_or (drop (i + 1) s) 0 0 ≡ n = get_or-drop (i + 1) s 0 0 ∙ ap (λ (k : ℕ). get_or s k 0) z ∙ sym next in
         so ∙ rw (c, m, e)
 
-    pub until-hit : f (get_or s i 0) n ≡ true → i ≡ x
-    until-hit e = omega (arith, step true e)
+    pub until_hit : f (get_or s i 0) n ≡ true → i ≡ x
+    until_hit e = omega (arith, step true e)
 
-    pub until-miss : f (get_or s i 0) n ≡ false → x ≡ i + 1 + until f (drop (i + 1) s)
-    until-miss e = omega (arith, step false e)
+    pub until_miss : f (get_or s i 0) n ≡ false → x ≡ i + 1 + until f (drop (i + 1) s)
+    until_miss e = omega (arith, step false e)

@@ -1,11 +1,11 @@
 -- `unbuild::unbuild_loaded` meets its contract, by what its callees ensure.
 use borrow.Author.Rules.{rules}
-use Rattle.unbuild.proofs.Loads.{answers-plain}
+use Rattle.unbuild.proofs.Loads.{answers_plain}
 use Rattle.unbuild.proofs.unbuild_loaded.Statement.{statement}
 use Rattle.unbuild.proofs.unbuild_loaded.Tie as tie
 
 returns : tie.Need-returns
-returns c = search (rules, answers-plain)
+returns c = search (rules, answers_plain)
 
 pub unbuild-loaded-spec : {M : Type 1} → statement M
 unbuild-loaded-spec =

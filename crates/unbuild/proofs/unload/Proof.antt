@@ -1,11 +1,11 @@
 -- `unbuild::unload` meets its contract: its two RAMs are zeros and ones.
 use borrow.Author.Rules.{rules}
-use Rattle.unbuild.proofs.Loads.{whole-zeros, whole-ones}
+use Rattle.unbuild.proofs.Loads.{whole_zeros, whole_ones_lem}
 use Rattle.unbuild.proofs.unload.Statement.{statement}
 use Rattle.unbuild.proofs.unload.Tie as tie
 
 unload-into-requires : tie.Need-unload-into-requires
-unload-into-requires c κs = search (rules, whole-zeros, whole-ones)
+unload-into-requires c κs = search (rules, whole_zeros, whole_ones_lem)
 
 pub unload-spec : {M : Type 1} → statement M
 unload-spec =

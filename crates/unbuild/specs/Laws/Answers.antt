@@ -4,9 +4,9 @@ use Rattle.std.proofs.Common.{◌∙◌, sym, le-ltb, lt-ltb}
 use Rattle.std.proofs.Math.Path.{refl}
 use Rattle.std.proofs.Math.Bool.{false, true}
 use Rattle.std.proofs.Math.Dec.{ltb}
-use Rattle.basics.specs.Lists.{putFront}
-use Rattle.basics.specs.Refusals.{noRefusal, refuse}
-use Rattle.places.specs.Limits.{binLimit}
+use Rattle.basics.specs.Lists.{put_front}
+use Rattle.basics.specs.Refusals.{no_refusal, refuse}
+use Rattle.places.specs.Limits.{bin_limit}
 use Rattle.unbuild.specs.Code.Answers.{AnswersBy, bare, refusalBy}
 use Rattle.unbuild.specs.declared.Unbuilding.{Unbuilding}
 
@@ -20,24 +20,24 @@ module _ (b c bin cfg : List ℕ) where
   unfolding refusalBy
   unfit-any d e r bin' cfg' a = record { answer = a.answer; bin-after = a.bin-after; cfg-after = a.cfg-after }
 
-  pub answers-long : binLimit < length b → AnswersBy false b c bin cfg (bare (refuse 32 0)) bin cfg
+  pub answers-long : bin_limit < length b → AnswersBy false b c bin cfg (bare (refuse 32 0)) bin cfg
   unfolding refusalBy
-  answers-long h = record { answer = rw (lt-ltb binLimit (length b) h); bin-after = rw (lt-ltb binLimit (length b) h); cfg-after = rw (lt-ltb binLimit (length b) h) }
+  answers-long h = record { answer = rw (lt-ltb bin_limit (length b) h); bin-after = rw (lt-ltb bin_limit (length b) h); cfg-after = rw (lt-ltb bin_limit (length b) h) }
 
-  module _ (h : length b ≤ binLimit) (n m : ℕ) (en : n ≡ length b) (em : m ≡ length c) (s : Bool) (es : s ≡ (ltb (length bin) n || ltb (length cfg) m)) where
+  module _ (h : length b ≤ bin_limit) (n m : ℕ) (en : n ≡ length b) (em : m ≡ length c) (s : Bool) (es : s ≡ (ltb (length bin) n || ltb (length cfg) m)) where
     pub answers-short : s ≡ true → AnswersBy false b c bin cfg (record { refusal = refuse 29 0; bin = n; cfg = m }) bin cfg
     unfolding refusalBy
     answers-short e =
         let t : ltb (length bin) (length b) || ltb (length cfg) (length c) ≡ true = rw (← en, ← em) (sym es ∙ e) in
-        record { answer = rw (le-ltb binLimit (length b) h, t, en, em); bin-after = rw (le-ltb binLimit (length b) h, t); cfg-after = rw (le-ltb binLimit (length b) h, t) }
+        record { answer = rw (le-ltb bin_limit (length b) h, t, en, em); bin-after = rw (le-ltb bin_limit (length b) h, t); cfg-after = rw (le-ltb bin_limit (length b) h, t) }
 
-    pub answers-written : s ≡ false → (bin' cfg' : List ℕ) → bin' ≡ putFront b bin → cfg' ≡ putFront c cfg
-        → AnswersBy false b c bin cfg (record { refusal = noRefusal; bin = n; cfg = m }) bin' cfg'
+    pub answers-written : s ≡ false → (bin' cfg' : List ℕ) → bin' ≡ put_front b bin → cfg' ≡ put_front c cfg
+        → AnswersBy false b c bin cfg (record { refusal = no_refusal; bin = n; cfg = m }) bin' cfg'
     unfolding refusalBy
     answers-written e bin' cfg' eb ec =
         let t : ltb (length bin) (length b) || ltb (length cfg) (length c) ≡ false = rw (← en, ← em) (sym es ∙ e) in
         record {
-          answer = rw (le-ltb binLimit (length b) h, t, en, em);
-          bin-after = eb ∙ rw (le-ltb binLimit (length b) h, t);
-          cfg-after = ec ∙ rw (le-ltb binLimit (length b) h, t);
+          answer = rw (le-ltb bin_limit (length b) h, t, en, em);
+          bin-after = eb ∙ rw (le-ltb bin_limit (length b) h, t);
+          cfg-after = ec ∙ rw (le-ltb bin_limit (length b) h, t);
         }

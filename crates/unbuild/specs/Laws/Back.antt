@@ -7,61 +7,61 @@ use Rattle.std.proofs.Math.Bool.{false}
 use Rattle.std.proofs.Math.Dec.{eqb}
 use Rattle.std.proofs.Math.Seq.{take-append_seam}
 use borrow.Author.Tests.{le-ltb}
-use Rattle.basics.specs.Laws.Rows.{silent-append, silent-first}
-use Rattle.basics.specs.Laws.Tests.{not-false, or-false-left, or-false-right}
-use Rattle.basics.specs.Refusals.{noRefusal, passes}
+use Rattle.basics.specs.Laws.Rows.{silent_append, silent_first}
+use Rattle.basics.specs.Laws.Tests.{not-false, or_false_left, or_false_right}
+use Rattle.basics.specs.Refusals.{no_refusal, passes}
 use Rattle.basics.specs.Rows.{none as silence, also as still}
 use Rattle.basics.specs.declared.Refusal.{Refusal}
-use Rattle.places.specs.Limits.{binLimit, lentLimit}
-use Rattle.load.specs.Load.{flashAsked, loadingOf}
-use Rattle.cfg.specs.File.{entriesOf}
-use Rattle.build.specs.Building.{buildingOf, builds, builtOf, pressedImage, refusalOf, tooLarge, tooShort, wrongBin}
-use Rattle.unbuild.specs.Behind.{binBehind, cfgBehind, planBehind, rebuilds, unbuildable}
+use Rattle.places.specs.Limits.{bin_limit, lent_limit}
+use Rattle.load.specs.Load.{flash_asked, loading_of}
+use Rattle.cfg.specs.File.{entries_of}
+use Rattle.build.specs.Building.{building_of, builds, built_of, pressed_image, refusal_of, too_large, too_short, wrong_bin}
+use Rattle.unbuild.specs.Behind.{bin_behind, cfg_behind, plan_behind, rebuilds, unbuildable}
 use Rattle.unbuild.specs.Content.{SameContent}
-use Rattle.unbuild.specs.Laws.Exactly.{Apart, canonical-apart, canonical-source}
+use Rattle.unbuild.specs.Laws.Exactly.{Apart, canonical_apart, canonical_source}
 use Rattle.unbuild.specs.Laws.Pressed.{no_label}
 
 pub record BackAgain (s out : List ℕ) : Type 0 where
   -- nothing is refused, and the image that is then at the buffer's front holds what s does
-  pub builds : builds (binBehind s) (cfgBehind s) [] out ≡ true
-  pub front : take (buildingOf (binBehind s) (cfgBehind s) [] out).length (builtOf (binBehind s) (cfgBehind s) [] out) ≡ pressedImage (binBehind s) (cfgBehind s) []
-  pub same : SameContent (pressedImage (binBehind s) (cfgBehind s) []) s
+  pub builds : builds (bin_behind s) (cfg_behind s) [] out ≡ true
+  pub front : take (building_of (bin_behind s) (cfg_behind s) [] out).length (built_of (bin_behind s) (cfg_behind s) [] out) ≡ pressed_image (bin_behind s) (cfg_behind s) []
+  pub same : SameContent (pressed_image (bin_behind s) (cfg_behind s) []) s
 
-module _ (s out : List ℕ) (loads : (loadingOf s lentLimit (flashAsked s)).refusal.number ≡ 0) (e : unbuildable s ≡ false) (short : length (binBehind s) ≤ binLimit)
-    (room : length (pressedImage (binBehind s) (cfgBehind s) []) ≤ length out) where
-  rebuilt : rebuilds (planBehind s) s ≡ true
+module _ (s out : List ℕ) (loads : (loading_of s lent_limit (flash_asked s)).refusal.number ≡ 0) (e : unbuildable s ≡ false) (short : length (bin_behind s) ≤ bin_limit)
+    (room : length (pressed_image (bin_behind s) (cfg_behind s) []) ≤ length out) where
+  rebuilt : rebuilds (plan_behind s) s ≡ true
   unfolding unbuildable
-  rebuilt = not-false (rebuilds (planBehind s) s) e
+  rebuilt = not-false (rebuilds (plan_behind s) s) e
 
-  apart : Apart (binBehind s) (cfgBehind s)
-  apart = canonical-apart s loads rebuilt
+  apart : Apart (bin_behind s) (cfg_behind s)
+  apart = canonical_apart s loads rebuilt
 
-  bin-right : wrongBin (binBehind s) ≡ false
-  unfolding wrongBin
-  bin-right =
-      let a : eqb (length (binBehind s)) 0 ≡ false = or-false-left _ _ apart.whole in
-      let b : eqb (length (binBehind s) % 2) 1 ≡ false = or-false-right (eqb (length (binBehind s)) 0) _ apart.whole in
-      rw (a, b, le-ltb binLimit (length (binBehind s)) short)
+  bin_right : wrong_bin (bin_behind s) ≡ false
+  unfolding wrong_bin
+  bin_right =
+      let a : eqb (length (bin_behind s)) 0 ≡ false = or_false_left _ _ apart.whole in
+      let b : eqb (length (bin_behind s) % 2) 1 ≡ false = or_false_right (eqb (length (bin_behind s)) 0) _ apart.whole in
+      rw (a, b, le-ltb bin_limit (length (bin_behind s)) short)
 
-  enough : tooShort (binBehind s) (cfgBehind s) [] out ≡ false
-  unfolding tooShort
-  enough = le-ltb (length out) (length (pressedImage (binBehind s) (cfgBehind s) [])) room
+  enough : too_short (bin_behind s) (cfg_behind s) [] out ≡ false
+  unfolding too_short
+  enough = le-ltb (length out) (length (pressed_image (bin_behind s) (cfg_behind s) [])) room
 
-  large : tooLarge (entriesOf (cfgBehind s)) ≡ false
+  large : too_large (entries_of (cfg_behind s)) ≡ false
   large = apart.fits
 
-  passed : refusalOf (binBehind s) (cfgBehind s) [] out ≡ noRefusal
-  unfolding refusalOf
+  passed : refusal_of (bin_behind s) (cfg_behind s) [] out ≡ no_refusal
+  unfolding refusal_of
   passed =
-      silent-first noRefusal
-      (still bin-right (silent-append apart.reads (silent-append apart.judges (still large (still no_label (still enough silence))))))
+      silent_first no_refusal
+      (still bin_right (silent_append apart.reads (silent_append apart.judges (still large (still no_label (still enough silence))))))
 
-  pub back-again : BackAgain s out
-  unfolding buildingOf builtOf
-  back-again =
-      let image : List ℕ = pressedImage (binBehind s) (cfgBehind s) [] in
+  pub back_again : BackAgain s out
+  unfolding building_of built_of
+  back_again =
+      let image : List ℕ = pressed_image (bin_behind s) (cfg_behind s) [] in
       record {
         builds = ap (λ (r : Refusal). passes r) passed;
         front = rw passed (take-append_seam image (drop (length image) out));
-        same = (canonical-source s loads rebuilt).same;
+        same = (canonical_source s loads rebuilt).same;
       }

@@ -3,13 +3,13 @@ use mathlib.Core.Path.{◌≡◌, ◌∙◌, ap, sym}
 use borrow.Author.Rules.{rules}
 use Rattle.lookup.specs.declared.Found.{Found}
 use Rattle.exports.specs.declared.desk.FoundText.{FoundText}
-use Rattle.exports.specs.Desk.{foundAs}
+use Rattle.exports.specs.Desk.{found_as}
 use Rattle.exports.proofs.desk.found_as.Statement.{statement}
 use Rattle.exports.proofs.desk.found_as.Tie as tie
 
 -- the answer to one case
-of-case : (f g : Found) (r : FoundText) → f ≡ g → r ≡ foundAs g → r ≡ foundAs f
-of-case f g r e h = h ∙ ap foundAs (sym e)
+of-case : (f g : Found) (r : FoundText) → f ≡ g → r ≡ found_as g → r ≡ found_as f
+of-case f g r e h = h ∙ ap found_as (sym e)
 
 returns : tie.Need-returns
 returns c = search (rules, of-case)

@@ -4,13 +4,13 @@ use borrow.Author.Rules.{rules}
 use Rattle.recovery.specs.declared.Stopped.{Stopped}
 use Rattle.recovery.specs.declared.Salvaging.{Salvaging}
 use Rattle.exports.specs.declared.desk.Salvaged.{Salvaged}
-use Rattle.exports.specs.Desk.{stoppedAs}
+use Rattle.exports.specs.Desk.{stopped_as}
 use Rattle.exports.proofs.desk.salvaged_as.Statement.{statement}
 use Rattle.exports.proofs.desk.salvaged_as.Tie as tie
 
 -- the answer to one case
-of-case : (s : Salvaging) (x y : Stopped) (r : Salvaged) → x ≡ y → r ≡ stoppedAs s y → r ≡ stoppedAs s x
-of-case s x y r e h = h ∙ ap (stoppedAs s) (sym e)
+of-case : (s : Salvaging) (x y : Stopped) (r : Salvaged) → x ≡ y → r ≡ stopped_as s y → r ≡ stopped_as s x
+of-case s x y r e h = h ∙ ap (stopped_as s) (sym e)
 
 returns : tie.Need-returns
 returns c = search (rules, of-case)

@@ -1,9 +1,9 @@
 -- `exports::lent::luigi_write` meets its contract: the short way, and the long one from the RAM that it has left, with tidy words.
 use borrow.Author.Rules.{rules}
 use Rattle.switches.specs.Flips.{active}
-use Rattle.registers.specs.Laws.Words.{tidy-now}
-use Rattle.direct.specs.Laws.Direct.{stored-left, asked-left}
-use Rattle.exports.specs.Laws.Runs.{left-from}
+use Rattle.registers.specs.Laws.Words.{tidy_now}
+use Rattle.direct.specs.Laws.Direct.{stored_left, asked_left}
+use Rattle.exports.specs.Laws.Runs.{left_from}
 use Rattle.exports.proofs.lent.luigi_write.Statement.{statement}
 use Rattle.exports.proofs.lent.luigi_write.Tie as tie
 
@@ -14,8 +14,8 @@ returns c =
     let laid = asked.before.before in
     let given = laid.before.before.before.before.args in
     let words = laid.tidy.new.0 in
-    left-from given.accelerators.now words (active given.mapping.now given.permissions.now) given.flips.now _ _ given.readable.now given.flash.now given.ram.now _ _ _ _ _ _ _ laid.tidy.ensures
-    (stored-left words (active given.mapping.now given.permissions.now) given.flips.now _ _ given.readable.now given.flash.now given.ram.now _ _ _ asked.is-on.ensures stored.store.ensures.0 stored.store.ensures.1 (tidy-now given.accelerators.now words laid.tidy.ensures) c.if1.true)
+    left_from given.accelerators.now words (active given.mapping.now given.permissions.now) given.flips.now _ _ given.readable.now given.flash.now given.ram.now _ _ _ _ _ _ _ laid.tidy.ensures
+    (stored_left words (active given.mapping.now given.permissions.now) given.flips.now _ _ given.readable.now given.flash.now given.ram.now _ _ _ asked.is-on.ensures stored.store.ensures.0 stored.store.ensures.1 (tidy_now given.accelerators.now words laid.tidy.ensures) c.if1.true)
 
 returns-2 : tie.Need-returns-2
 returns-2 c =
@@ -27,8 +27,8 @@ returns-2 c =
     let laid = asked.before.before in
     let given = laid.before.before.before.before.args in
     let words = laid.tidy.new.0 in
-    left-from given.accelerators.now words (active given.mapping.now given.permissions.now) given.flips.now _ _ given.readable.now given.flash.now given.ram.now _ _ _ _ _ _ _ laid.tidy.ensures
-    (asked-left words (active given.mapping.now given.permissions.now) given.flips.now _ _ given.readable.now given.flash.now given.ram.now _ _ _ asked.is-on.ensures stored.store.ensures.0 stored.store.ensures.1 _ _ _ _ _ _ _ tested.if1.false wrote.write.ensures)
+    left_from given.accelerators.now words (active given.mapping.now given.permissions.now) given.flips.now _ _ given.readable.now given.flash.now given.ram.now _ _ _ _ _ _ _ laid.tidy.ensures
+    (asked_left words (active given.mapping.now given.permissions.now) given.flips.now _ _ given.readable.now given.flash.now given.ram.now _ _ _ asked.is-on.ensures stored.store.ensures.0 stored.store.ensures.1 _ _ _ _ _ _ _ tested.if1.false wrote.write.ensures)
 
 pub luigi-write-spec : {M : Type 1} → statement M
 luigi-write-spec =

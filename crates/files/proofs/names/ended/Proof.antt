@@ -1,7 +1,7 @@
 -- `names::ended` meets its contract: the last byte is stored as 0, behind what was copied.
 use native.Mathlib.Omega.{arith}
 use lib.ListN.{length-take}
-use Rattle.files.proofs.Loops.{ended-last}
+use Rattle.files.proofs.Loops.{ended_last}
 use Rattle.files.proofs.names.ended.Statement.{statement}
 use Rattle.files.proofs.names.ended.Tie as tie
 
@@ -18,7 +18,7 @@ returns : tie.Need-returns
 returns c =
     let put = c.before.put in
     let least = c.before.before.before.before in
-    ended-last least.before.before.before.args.name.now put.new.0 least.before.buffer.result least.least.result put.ensures (omega arith)
+    ended_last least.before.before.before.args.name.now put.new.0 least.before.buffer.result least.least.result put.ensures (omega arith)
     (omega arith) least.before.buffer.ensures
 
 pub ended-spec : {M : Type 1} → statement M

@@ -6,7 +6,7 @@ use mathlib.Core.Path.{◌≡◌}
 use lib.ListN.{length}
 use borrow.Author.Rules.{rules}
 use Rattle.basics.specs.Counts.{all}
-use Rattle.files.proofs.Loops.{sound, sound_none, sound_more, too_long, has-zero, name-good}
+use Rattle.files.proofs.Loops.{sound, sound_none, sound_more, too_long, has_zero, name_good}
 use Rattle.files.proofs.names.is_name.Statement.{statement}
 use Rattle.files.proofs.names.is_name.Tie as tie
 
@@ -23,13 +23,13 @@ loop-holds : tie.Need-loop-init invariant-loop decreases-loop
 loop-holds c = search (rules, sound_none)
 
 returns-2 : tie.Need-returns-2 invariant-loop decreases-loop
-returns-2 c = search (rules, has-zero)
+returns-2 c = search (rules, has_zero)
 
 loop-again : tie.Need-loop-preserved invariant-loop decreases-loop
 loop-again c = search (rules, sound_more)
 
 returns-3 : tie.Need-returns-3 invariant-loop decreases-loop
-returns-3 c = search (rules, name-good)
+returns-3 c = search (rules, name_good)
 
 pub is-name-spec : {M : Type 1} → statement M
 is-name-spec =

@@ -3,15 +3,15 @@ use native.Mathlib.Omega.{arith}
 use lib.ListN.{length-take, length-append, length-drop}
 use borrow.Author.Rules.{rules}
 use Rattle.files.proofs.Loops.{counted}
-use Rattle.files.proofs.Parts.{short-length, short-out, whole_length, whole_out}
+use Rattle.files.proofs.Parts.{short_length, short_out, whole_length, whole_out}
 use Rattle.files.proofs.names.part_name.Statement.{statement}
 use Rattle.files.proofs.names.part_name.Tie as tie
 
 returns : tie.Need-returns
-returns c = (short-length _ _ c.before.folder.ensures.0 _ (omega arith), short-out _ _ c.before.folder.ensures.0 _ _ (omega arith), search rules)
+returns c = (short_length _ _ c.before.folder.ensures.0 _ (omega arith), short_out _ _ c.before.folder.ensures.0 _ _ (omega arith), search rules)
 
 returns-2 : tie.Need-returns-2
-returns-2 c = (short-length _ _ c.before.before.folder.ensures.0 _ (omega arith), short-out _ _ c.before.before.folder.ensures.0 _ _ (omega arith), search rules)
+returns-2 c = (short_length _ _ c.before.before.folder.ensures.0 _ (omega arith), short_out _ _ c.before.before.folder.ensures.0 _ _ (omega arith), search rules)
 
 slice-aggregate-put-part : tie.Need-slice-aggregate-put-part
 slice-aggregate-put-part c = simp length-take (omega arith)

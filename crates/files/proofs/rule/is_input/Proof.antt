@@ -2,7 +2,7 @@
 use Prim.Native.Nat.{◌-◌, ◌≤◌}
 use native.Mathlib.Omega.{arith}
 use borrow.Author.Rules.{rules}
-use Rattle.files.proofs.Loops.{Passed, input-found, input-passed, input_none}
+use Rattle.files.proofs.Loops.{Passed, input_found, input_passed, input_none}
 use Rattle.files.proofs.rule.is_input.Statement.{statement}
 use Rattle.files.proofs.rule.is_input.Tie as tie
 
@@ -16,10 +16,10 @@ loop-holds : tie.Need-loop-init invariant-loop decreases-loop
 loop-holds c = search rules
 
 returns : tie.Need-returns invariant-loop decreases-loop
-returns c = search (rules, input-found)
+returns c = search (rules, input_found)
 
 loop-again : tie.Need-loop-preserved invariant-loop decreases-loop
-loop-again c = (search rules, search (rules, input-passed))
+loop-again c = (search rules, search (rules, input_passed))
 
 returns-2 : tie.Need-returns-2 invariant-loop decreases-loop
 returns-2 c = search (rules, input_none)

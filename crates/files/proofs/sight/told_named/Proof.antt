@@ -53,7 +53,7 @@ use Rattle.libc.proofs.lstat.Symbol.{name as #libc·lstat}
 use Rattle.libc.proofs.lstat.Met as lstat-thm
 use Rattle.files.specs.contracts.sight.Told as T
 use Rattle.files.proofs.sight.Told.TheLaws as T'
-use Rattle.files.proofs.Filled.{told, mach, made, device-fits, node-fits, mode-fits, owner-fits, group-fits}
+use Rattle.files.proofs.Filled.{told, mach, made, device_fits, node_fits, mode_fits, owner_fits, group_fits}
 use Rattle.files.specs.contracts.sight.blank as blank
 use Rattle.files.proofs.sight.blank.Symbol as blank-def
 use Rattle.files.proofs.sight.blank.Symbol.{name as #blank}
@@ -148,11 +148,11 @@ module _ {M : Type 1} {𝓤 : Ura M} (𝓛 : Logic 𝓤) (mem' : Memory → SPro
         rewrite ! 0 (λ (y : Val). ‵ (fat full_share (lone (S.the_row).mir) l₂ 0 y)) (ap only (LL.tells S.the_type S'.the_laws zs.1.0 _ is₃)) refl $
         rewrite ! 20 (λ (y : Val). ‵ (fat full_share (ty_int w32) l₃ 0 y)) (ap only is₂.0) refl $
         -- [_2; ..; _10; ..; _9; ..; _8; ..; _7; ..; _6; ..; _5; ..; _4; ..; _3; ..; what frees _2; _1; ..; _0; ..]: s is back, and its fields are read
-        assigns ! (of_opd ! (load ! (from ! (fld ! refl (stop !))) (look_in ! 0 (sub ! 0 refl (whole !))))) (from ! (stop !)) (init ! 14 refl (tt, record { fits = device-fits zs.1.0 u is₃ })) $
-        assigns ! (of_opd ! (load ! (from ! (fld ! refl (stop !))) (look_in ! 0 (sub ! 1 refl (whole !))))) (from ! (stop !)) (init ! 12 refl (tt, record { fits = node-fits zs.1.0 u is₃ })) $
-        assigns ! (of_opd ! (load ! (from ! (fld ! refl (stop !))) (look_in ! 0 (sub ! 3 refl (whole !))))) (from ! (stop !)) (init ! 10 refl (tt, record { fits = mode-fits zs.1.0 u is₃ })) $
-        assigns ! (of_opd ! (load ! (from ! (fld ! refl (stop !))) (look_in ! 0 (sub ! 4 refl (whole !))))) (from ! (stop !)) (init ! 8 refl (tt, record { fits = owner-fits zs.1.0 u is₃ })) $
-        assigns ! (of_opd ! (load ! (from ! (fld ! refl (stop !))) (look_in ! 0 (sub ! 5 refl (whole !))))) (from ! (stop !)) (init ! 6 refl (tt, record { fits = group-fits zs.1.0 u is₃ })) $
+        assigns ! (of_opd ! (load ! (from ! (fld ! refl (stop !))) (look_in ! 0 (sub ! 0 refl (whole !))))) (from ! (stop !)) (init ! 14 refl (tt, record { fits = device_fits zs.1.0 u is₃ })) $
+        assigns ! (of_opd ! (load ! (from ! (fld ! refl (stop !))) (look_in ! 0 (sub ! 1 refl (whole !))))) (from ! (stop !)) (init ! 12 refl (tt, record { fits = node_fits zs.1.0 u is₃ })) $
+        assigns ! (of_opd ! (load ! (from ! (fld ! refl (stop !))) (look_in ! 0 (sub ! 3 refl (whole !))))) (from ! (stop !)) (init ! 10 refl (tt, record { fits = mode_fits zs.1.0 u is₃ })) $
+        assigns ! (of_opd ! (load ! (from ! (fld ! refl (stop !))) (look_in ! 0 (sub ! 4 refl (whole !))))) (from ! (stop !)) (init ! 8 refl (tt, record { fits = owner_fits zs.1.0 u is₃ })) $
+        assigns ! (of_opd ! (load ! (from ! (fld ! refl (stop !))) (look_in ! 0 (sub ! 5 refl (whole !))))) (from ! (stop !)) (init ! 6 refl (tt, record { fits = group_fits zs.1.0 u is₃ })) $
         assigns ! (agg ! (and_then ! (load ! (from ! (stop !)) (look ! 20 refl)) (and_then ! (load ! (from ! (stop !)) (look ! 14 refl)) (and_then ! (load ! (from ! (stop !)) (look ! 12 refl)) (and_then ! (load ! (from ! (stop !)) (look ! 10 refl)) (and_then ! (load ! (from ! (stop !)) (look ! 8 refl)) (and_then ! (load ! (from ! (stop !)) (look ! 6 refl)) (no_more !)))))))) (from ! (stop !)) (init ! 25 refl ((LL.lawful T.the_type T'.the_laws 𝓛).typed (told s zs.1.0) _ (made zs.1.0 u is₃ s is₂.1)).0) $
         returns ! (look ! 25 refl) $ forget ! 0 refl $ forget ! 6 refl $ forget ! 8 refl $ forget ! 10 refl $ forget ! 12 refl $ forget ! 14 refl $ forget ! 16 refl $ forget ! 18 refl $ forget ! 20 refl $ forget ! 23 refl $ forget ! 25 refl $
         move ! (25 ∷ 26 ∷ []) $ free1 ! $ move ! (23 ∷ 24 ∷ []) $ free1 ! $ move ! (0 ∷ 22 ∷ []) $ free1 ! $ move ! (19 ∷ 20 ∷ []) $ free1 ! $ move ! (17 ∷ 18 ∷ []) $ free1 ! $ move ! (15 ∷ 16 ∷ []) $ free1 ! $ move ! (13 ∷ 14 ∷ []) $ free1 ! $ move ! (11 ∷ 12 ∷ []) $ free1 ! $ move ! (9 ∷ 10 ∷ []) $ free1 ! $ move ! (7 ∷ 8 ∷ []) $ free1 ! $ move ! (5 ∷ 6 ∷ []) $ free1 ! $ free0 ! $

@@ -50,7 +50,7 @@ use Rattle.libc.proofs.fstat.Symbol.{name as #libc·fstat}
 use Rattle.libc.proofs.fstat.Met as fstat-thm
 use Rattle.files.specs.contracts.sight.Told as T
 use Rattle.files.proofs.sight.Told.TheLaws as T'
-use Rattle.files.proofs.Filled.{told, mach, made, device-fits, node-fits, mode-fits, owner-fits, group-fits}
+use Rattle.files.proofs.Filled.{told, mach, made, device_fits, node_fits, mode_fits, owner_fits, group_fits}
 use Rattle.files.specs.contracts.sight.blank as blank
 use Rattle.files.proofs.sight.blank.Symbol as blank-def
 use Rattle.files.proofs.sight.blank.Symbol.{name as #blank}
@@ -134,11 +134,11 @@ module _ {M : Type 1} {𝓤 : Ura M} (𝓛 : Logic 𝓤) (mem' : Memory → SPro
         rewrite ! 0 (λ (y : Val). ‵ (fat full_share (lone (S.the_row).mir) l₂ 0 y)) (ap only (LL.tells S.the_type S'.the_laws zs.1.0 _ is₃)) refl $
         rewrite ! 17 (λ (y : Val). ‵ (fat full_share (ty_int w32) l₃ 0 y)) (ap only is₂.0) refl $
         -- [_2; ..; _10; ..; _9; ..; _8; ..; _7; ..; _6; ..; _5; ..; _4; ..; _3; ..; what frees _2; _1; ..; _0; ..]: s is back, and its fields are read
-        assigns ! (of_opd ! (load ! (from ! (fld ! refl (stop !))) (look_in ! 0 (sub ! 0 refl (whole !))))) (from ! (stop !)) (init ! 11 refl (tt, record { fits = device-fits zs.1.0 u is₃ })) $
-        assigns ! (of_opd ! (load ! (from ! (fld ! refl (stop !))) (look_in ! 0 (sub ! 1 refl (whole !))))) (from ! (stop !)) (init ! 9 refl (tt, record { fits = node-fits zs.1.0 u is₃ })) $
-        assigns ! (of_opd ! (load ! (from ! (fld ! refl (stop !))) (look_in ! 0 (sub ! 3 refl (whole !))))) (from ! (stop !)) (init ! 7 refl (tt, record { fits = mode-fits zs.1.0 u is₃ })) $
-        assigns ! (of_opd ! (load ! (from ! (fld ! refl (stop !))) (look_in ! 0 (sub ! 4 refl (whole !))))) (from ! (stop !)) (init ! 5 refl (tt, record { fits = owner-fits zs.1.0 u is₃ })) $
-        assigns ! (of_opd ! (load ! (from ! (fld ! refl (stop !))) (look_in ! 0 (sub ! 5 refl (whole !))))) (from ! (stop !)) (init ! 3 refl (tt, record { fits = group-fits zs.1.0 u is₃ })) $
+        assigns ! (of_opd ! (load ! (from ! (fld ! refl (stop !))) (look_in ! 0 (sub ! 0 refl (whole !))))) (from ! (stop !)) (init ! 11 refl (tt, record { fits = device_fits zs.1.0 u is₃ })) $
+        assigns ! (of_opd ! (load ! (from ! (fld ! refl (stop !))) (look_in ! 0 (sub ! 1 refl (whole !))))) (from ! (stop !)) (init ! 9 refl (tt, record { fits = node_fits zs.1.0 u is₃ })) $
+        assigns ! (of_opd ! (load ! (from ! (fld ! refl (stop !))) (look_in ! 0 (sub ! 3 refl (whole !))))) (from ! (stop !)) (init ! 7 refl (tt, record { fits = mode_fits zs.1.0 u is₃ })) $
+        assigns ! (of_opd ! (load ! (from ! (fld ! refl (stop !))) (look_in ! 0 (sub ! 4 refl (whole !))))) (from ! (stop !)) (init ! 5 refl (tt, record { fits = owner_fits zs.1.0 u is₃ })) $
+        assigns ! (of_opd ! (load ! (from ! (fld ! refl (stop !))) (look_in ! 0 (sub ! 5 refl (whole !))))) (from ! (stop !)) (init ! 3 refl (tt, record { fits = group_fits zs.1.0 u is₃ })) $
         assigns ! (agg ! (and_then ! (load ! (from ! (stop !)) (look ! 17 refl)) (and_then ! (load ! (from ! (stop !)) (look ! 11 refl)) (and_then ! (load ! (from ! (stop !)) (look ! 9 refl)) (and_then ! (load ! (from ! (stop !)) (look ! 7 refl)) (and_then ! (load ! (from ! (stop !)) (look ! 5 refl)) (and_then ! (load ! (from ! (stop !)) (look ! 3 refl)) (no_more !)))))))) (from ! (stop !)) (init ! 22 refl ((LL.lawful T.the_type T'.the_laws 𝓛).typed (told s zs.1.0) _ (made zs.1.0 u is₃ s is₂.1)).0) $
         returns ! (look ! 22 refl) $ forget ! 0 refl $ forget ! 3 refl $ forget ! 5 refl $ forget ! 7 refl $ forget ! 9 refl $ forget ! 11 refl $ forget ! 13 refl $ forget ! 15 refl $ forget ! 17 refl $ forget ! 20 refl $ forget ! 22 refl $
         move ! (22 ∷ 23 ∷ []) $ free1 ! $ move ! (20 ∷ 21 ∷ []) $ free1 ! $ move ! (0 ∷ 19 ∷ []) $ free1 ! $ move ! (16 ∷ 17 ∷ []) $ free1 ! $ move ! (14 ∷ 15 ∷ []) $ free1 ! $ move ! (12 ∷ 13 ∷ []) $ free1 ! $ move ! (10 ∷ 11 ∷ []) $ free1 ! $ move ! (8 ∷ 9 ∷ []) $ free1 ! $ move ! (6 ∷ 7 ∷ []) $ free1 ! $ move ! (4 ∷ 5 ∷ []) $ free1 ! $ move ! (2 ∷ 3 ∷ []) $ free1 ! $ free0 ! $

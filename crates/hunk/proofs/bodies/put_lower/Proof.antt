@@ -8,7 +8,7 @@ use Rattle.basics.specs.Laws.Lists.{laid_none}
 use Rattle.hunk.specs.Forms.{lower}
 use borrow.Author.Rules.{rules}
 use Rattle.hunk.proofs.Stored.{laid_done}
-use Rattle.hunk.proofs.Packed.{lower-more}
+use Rattle.hunk.proofs.Packed.{lower_more}
 use Rattle.hunk.proofs.bodies.put_lower.Statement.{statement}
 use Rattle.hunk.proofs.bodies.put_lower.Tie as tie
 
@@ -22,7 +22,7 @@ loop-holds : tie.Need-loop-init invariant-loop decreases-loop
 loop-holds c = search (rules, laid_none)
 
 loop-again : tie.Need-loop-preserved invariant-loop decreases-loop
-loop-again c = search (rules, lower-more)
+loop-again c = search (rules, lower_more)
 
 returns : tie.Need-returns invariant-loop decreases-loop
 returns c = search (rules, laid_done)

@@ -2,7 +2,7 @@
 use native.Mathlib.Omega.{arith}
 use lib.ListN.{length-set}
 use borrow.Author.Rules.{rules}
-use Rattle.hunk.proofs.Packed.{packet-put}
+use Rattle.hunk.proofs.Packed.{packet_put}
 use Rattle.hunk.proofs.bodies.put_packet.Statement.{statement}
 use Rattle.hunk.proofs.bodies.put_packet.Tie as tie
 
@@ -19,7 +19,7 @@ slice-write-out-5 : tie.Need-slice-write-out-5
 slice-write-out-5 c = simp length-set (omega arith)
 
 returns : tie.Need-returns
-returns c = search packet-put
+returns c = search packet_put
 
 pub put-packet-spec : {M : Type 1} → statement M
 put-packet-spec =

@@ -7,7 +7,7 @@ use Rattle.basics.specs.Lists.{laid}
 use Rattle.basics.specs.Laws.Lists.{laid_none}
 use Rattle.hunk.specs.Forms.{packets}
 use borrow.Author.Rules.{rules}
-use Rattle.hunk.proofs.Packed.{packets-turn, packets-done}
+use Rattle.hunk.proofs.Packed.{packets_turn, packets_done}
 use Rattle.hunk.proofs.bodies.put_packets.Statement.{statement}
 use Rattle.hunk.proofs.bodies.put_packets.Tie as tie
 
@@ -21,10 +21,10 @@ loop-holds : tie.Need-loop-init invariant-loop decreases-loop
 loop-holds c = search (rules, laid_none)
 
 loop-again : tie.Need-loop-preserved invariant-loop decreases-loop
-loop-again c = search (rules, packets-turn)
+loop-again c = search (rules, packets_turn)
 
 returns : tie.Need-returns invariant-loop decreases-loop
-returns c = search (rules, packets-done)
+returns c = search (rules, packets_done)
 
 pub put-packets-spec : {M : Type 1} → statement M
 put-packets-spec =

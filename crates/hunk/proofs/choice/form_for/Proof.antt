@@ -1,12 +1,12 @@
 -- `hunk::choice::form_for` meets its contract: by the largest word but the last.
 use native.Mathlib.Omega.{arith}
 use borrow.Author.Rules.{rules}
-use Rattle.hunk.proofs.Chosen.{form-chosen}
+use Rattle.hunk.proofs.Chosen.{form_chosen}
 use Rattle.hunk.proofs.choice.form_for.Statement.{statement}
 use Rattle.hunk.proofs.choice.form_for.Tie as tie
 
 returns : tie.Need-returns
-returns c = search (rules, form-chosen)
+returns c = search (rules, form_chosen)
 
 pub form-for-spec : {M : Type 1} → statement M
 form-for-spec =

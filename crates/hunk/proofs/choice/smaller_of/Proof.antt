@@ -1,7 +1,7 @@
 -- `hunk::choice::smaller_of` meets its contract: its test is the definition's.
 use native.Mathlib.Omega.{arith}
 use borrow.Author.Rules.{rules}
-use Rattle.hunk.proofs.Chosen.{takes_first, takes-second}
+use Rattle.hunk.proofs.Chosen.{takes_first, takes_second}
 use Rattle.hunk.proofs.choice.smaller_of.Statement.{statement}
 use Rattle.hunk.proofs.choice.smaller_of.Tie as tie
 
@@ -9,7 +9,7 @@ returns : tie.Need-returns
 returns c = search (rules, takes_first)
 
 returns-2 : tie.Need-returns-2
-returns-2 c = search (rules, takes-second)
+returns-2 c = search (rules, takes_second)
 
 pub smaller-of-spec : {M : Type 1} → statement M
 smaller-of-spec =

@@ -2,7 +2,7 @@
 use native.Mathlib.Omega.{arith}
 use lib.ListN.{length-set}
 use borrow.Author.Rules.{rules}
-use Rattle.hunk.proofs.Stored.{packet-laid}
+use Rattle.hunk.proofs.Stored.{packet_laid}
 use Rattle.hunk.proofs.stores.packet.Statement.{statement}
 use Rattle.hunk.proofs.stores.packet.Tie as tie
 
@@ -16,7 +16,7 @@ slice-write-ram-4 : tie.Need-slice-write-ram-4
 slice-write-ram-4 c = simp length-set (omega arith)
 
 returns : tie.Need-returns
-returns c = search packet-laid
+returns c = search packet_laid
 
 pub packet-spec : {M : Type 1} → statement M
 packet-spec =

@@ -7,7 +7,7 @@ use borrow.Author.Rules.{rules}
 use Rattle.basics.specs.Lists.{laid}
 use Rattle.basics.specs.Laws.Lists.{laid_none}
 use Rattle.hunk.specs.Forms.{packed}
-use Rattle.hunk.proofs.Stored.{packed-turn, laid-done-4}
+use Rattle.hunk.proofs.Stored.{packed_turn, laid_done_4}
 use Rattle.hunk.proofs.stores.packets.Statement.{statement}
 use Rattle.hunk.proofs.stores.packets.Tie as tie
 
@@ -21,10 +21,10 @@ loop-holds : tie.Need-loop-init invariant-loop decreases-loop
 loop-holds c = search (rules, laid_none)
 
 loop-again : tie.Need-loop-preserved invariant-loop decreases-loop
-loop-again c = search (rules, packed-turn)
+loop-again c = search (rules, packed_turn)
 
 returns : tie.Need-returns invariant-loop decreases-loop
-returns c = search (rules, laid-done-4)
+returns c = search (rules, laid_done_4)
 
 pub packets-spec : {M : Type 1} → statement M
 packets-spec =

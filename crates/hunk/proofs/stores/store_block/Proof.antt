@@ -1,12 +1,12 @@
 -- `hunk::stores::store_block` meets its contract: one law for each form, for its words and for where its bytes lie.
 use native.Mathlib.Omega.{arith}
 use borrow.Author.Rules.{rules}
-use Rattle.hunk.proofs.Stored.{room-begins, rooms, stores}
+use Rattle.hunk.proofs.Stored.{room_begins, rooms, stores}
 use Rattle.hunk.proofs.stores.store_block.Statement.{statement}
 use Rattle.hunk.proofs.stores.store_block.Tie as tie
 
 shared-slice-read-wide : tie.Need-shared-slice-read-wide
-shared-slice-read-wide c = search (rules, room-begins)
+shared-slice-read-wide c = search (rules, room_begins)
 
 store-bytes-requires : tie.Need-store-bytes-requires
 store-bytes-requires c κs = search (rules, rooms)

@@ -8,7 +8,7 @@ use Rattle.basics.specs.Laws.Lists.{laid_none}
 use Rattle.hunk.specs.Forms.{word_for}
 use Rattle.hunk.specs.declared.Form.TheVariants.{Bytes}
 use borrow.Author.Rules.{rules}
-use Rattle.hunk.proofs.Stored.{bytes-more, bytes-last}
+use Rattle.hunk.proofs.Stored.{bytes_more, bytes_last}
 use Rattle.hunk.proofs.stores.store_bytes.Statement.{statement}
 use Rattle.hunk.proofs.stores.store_bytes.Tie as tie
 
@@ -22,10 +22,10 @@ loop-holds : tie.Need-loop-init invariant-loop decreases-loop
 loop-holds c = search (rules, laid_none)
 
 loop-again : tie.Need-loop-preserved invariant-loop decreases-loop
-loop-again c = search (rules, bytes-more)
+loop-again c = search (rules, bytes_more)
 
 returns : tie.Need-returns invariant-loop decreases-loop
-returns c = search (rules, bytes-last)
+returns c = search (rules, bytes_last)
 
 pub store-bytes-spec : {M : Type 1} → statement M
 store-bytes-spec =

@@ -2,7 +2,7 @@
 use Prim.Native.Nat.{◌-◌}
 use borrow.Author.Rules.{rules}
 use Rattle.places.specs.Limits.{paragraphs}
-use Rattle.layout.proofs.Claiming.{Claiming, claiming-not, claiming-none, claiming-more, claiming-all}
+use Rattle.layout.proofs.Claiming.{Claiming, claiming_not, claiming_none, claiming_more, claiming_all}
 use Rattle.layout.proofs.cells.claim.Statement.{statement}
 use Rattle.layout.proofs.cells.claim.Tie as tie
 
@@ -13,16 +13,16 @@ abbrev decreases-loop : tie.decreases-loop
 decreases-loop numbers₀ e number t p₀ numbers p = paragraphs - p
 
 returns : tie.Need-returns invariant-loop decreases-loop
-returns c = search (rules, claiming-not)
+returns c = search (rules, claiming_not)
 
 loop-holds : tie.Need-loop-init invariant-loop decreases-loop
-loop-holds c = search (rules, claiming-none)
+loop-holds c = search (rules, claiming_none)
 
 loop-again : tie.Need-loop-preserved invariant-loop decreases-loop
-loop-again c = search (rules, claiming-more)
+loop-again c = search (rules, claiming_more)
 
 returns-2 : tie.Need-returns-2 invariant-loop decreases-loop
-returns-2 c = search (rules, claiming-all)
+returns-2 c = search (rules, claiming_all)
 
 pub claim-spec : {M : Type 1} → statement M
 claim-spec =

@@ -1,8 +1,8 @@
 -- `layout::entries::flips_of` meets its contract. The loop's invariant: the first n entries are written.
 use Prim.Native.Nat.{◌-◌}
 use borrow.Author.Rules.{rules}
-use Rattle.places.specs.Limits.{flipEntries}
-use Rattle.layout.proofs.Rows.{Writing, writing-none, writing-most, writing_more, writing-all}
+use Rattle.places.specs.Limits.{flip_entries}
+use Rattle.layout.proofs.Rows.{Writing, writing_none, writing_most, writing_more, writing_all}
 use Rattle.layout.proofs.entries.flips_of.Statement.{statement}
 use Rattle.layout.proofs.entries.flips_of.Tie as tie
 
@@ -10,19 +10,19 @@ abbrev invariant-loop : tie.invariant-loop
 invariant-loop used page under paged rows flips₀ n₀ flips n = Writing used page under paged rows n flips
 
 abbrev decreases-loop : tie.decreases-loop
-decreases-loop used page under paged rows flips₀ n₀ flips n = flipEntries - n
+decreases-loop used page under paged rows flips₀ n₀ flips n = flip_entries - n
 
 loop-holds : tie.Need-loop-init invariant-loop decreases-loop
-loop-holds c = search (rules, writing-none)
+loop-holds c = search (rules, writing_none)
 
 flip-entry-requires : tie.Need-flip-entry-requires invariant-loop decreases-loop
-flip-entry-requires c κs = search (rules, writing-most)
+flip-entry-requires c κs = search (rules, writing_most)
 
 loop-again : tie.Need-loop-preserved invariant-loop decreases-loop
 loop-again c = search (rules, writing_more)
 
 returns : tie.Need-returns invariant-loop decreases-loop
-returns c = search (rules, writing-all)
+returns c = search (rules, writing_all)
 
 pub flips-of-spec : {M : Type 1} → statement M
 flips-of-spec =

@@ -1,14 +1,14 @@
 -- `layout::entries::permissions_of` meets its contract. The loop's invariant: the first p paragraphs have their permissions.
 use Prim.Native.Nat.{◌-◌}
 use borrow.Author.Rules.{rules}
-use Rattle.basics.specs.Laws.Tables.{Filled, filled_none, filled_more, filled-all}
+use Rattle.basics.specs.Laws.Tables.{Filled, filled_none, filled_more, filled_all}
 use Rattle.places.specs.Limits.{paragraphs}
-use Rattle.layout.specs.Code.Entries.{permissionsIn}
+use Rattle.layout.specs.Code.Entries.{permissions_in}
 use Rattle.layout.proofs.entries.permissions_of.Statement.{statement}
 use Rattle.layout.proofs.entries.permissions_of.Tie as tie
 
 abbrev invariant-loop : tie.invariant-loop
-invariant-loop paged flips kinds permissions₀ p₀ permissions p = Filled 0 paragraphs (permissionsIn paged flips kinds) p permissions
+invariant-loop paged flips kinds permissions₀ p₀ permissions p = Filled 0 paragraphs (permissions_in paged flips kinds) p permissions
 
 abbrev decreases-loop : tie.decreases-loop
 decreases-loop paged flips kinds permissions₀ p₀ permissions p = paragraphs - p
@@ -20,7 +20,7 @@ loop-again : tie.Need-loop-preserved invariant-loop decreases-loop
 loop-again c = search (rules, filled_more)
 
 returns : tie.Need-returns invariant-loop decreases-loop
-returns c = search (rules, filled-all)
+returns c = search (rules, filled_all)
 
 pub permissions-of-spec : {M : Type 1} → statement M
 permissions-of-spec =

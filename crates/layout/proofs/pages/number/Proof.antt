@@ -2,7 +2,7 @@
 use Prim.Native.Nat.{◌-◌}
 use borrow.Author.Rules.{rules}
 use Rattle.places.specs.Limits.{slots}
-use Rattle.layout.proofs.Numbering.{Numbering, numbering-none, numbering-more, numbering-all}
+use Rattle.layout.proofs.Numbering.{Numbering, numbering_none, numbering_more, numbering_all}
 use Rattle.layout.proofs.pages.number.Statement.{statement}
 use Rattle.layout.proofs.pages.number.Tie as tie
 
@@ -13,13 +13,13 @@ abbrev decreases-loop : tie.decreases-loop
 decreases-loop used page₀ slot₀ n₀ s₀ page slot n s = slots - s
 
 loop-holds : tie.Need-loop-init invariant-loop decreases-loop
-loop-holds c = search (rules, numbering-none)
+loop-holds c = search (rules, numbering_none)
 
 loop-again : tie.Need-loop-preserved invariant-loop decreases-loop
-loop-again c = numbering-more _ _ _ _ _ c.before.before.before.before.before.loop.invariant c.before.before.before.before.loop-test.true _ _ c.before.before.slot-if.ensures c.one-if.ensures
+loop-again c = numbering_more _ _ _ _ _ c.before.before.before.before.before.loop.invariant c.before.before.before.before.loop-test.true _ _ c.before.before.slot-if.ensures c.one-if.ensures
 
 returns : tie.Need-returns invariant-loop decreases-loop
-returns c = numbering-all _ _ _ _ _ c.before.loop.invariant c.loop-test.false
+returns c = numbering_all _ _ _ _ _ c.before.loop.invariant c.loop-test.false
 
 pub number-spec : {M : Type 1} → statement M
 number-spec =

@@ -1,25 +1,25 @@
 -- `layout::pour::clear` meets its contract. The loop's invariant: the first i words are zeros.
 use Prim.Native.Nat.{◌-◌}
 use borrow.Author.Rules.{rules}
-use Rattle.places.specs.Limits.{paragraphSize}
-use Rattle.layout.proofs.Laying.{Laying, laying-none, laying-more, laying-all}
+use Rattle.places.specs.Limits.{paragraph_size}
+use Rattle.layout.proofs.Laying.{Laying, laying_none, laying_more, laying_all}
 use Rattle.layout.proofs.pour.clear.Statement.{statement}
 use Rattle.layout.proofs.pour.clear.Tie as tie
 
 abbrev invariant-loop : tie.invariant-loop
-invariant-loop ram₀ t i₀ ram i = Laying ram₀ t paragraphSize (λ j. 0) i ram
+invariant-loop ram₀ t i₀ ram i = Laying ram₀ t paragraph_size (λ j. 0) i ram
 
 abbrev decreases-loop : tie.decreases-loop
-decreases-loop ram₀ t i₀ ram i = paragraphSize - i
+decreases-loop ram₀ t i₀ ram i = paragraph_size - i
 
 loop-holds : tie.Need-loop-init invariant-loop decreases-loop
-loop-holds c = search (rules, laying-none)
+loop-holds c = search (rules, laying_none)
 
 loop-again : tie.Need-loop-preserved invariant-loop decreases-loop
-loop-again c = search (rules, laying-more)
+loop-again c = search (rules, laying_more)
 
 returns : tie.Need-returns invariant-loop decreases-loop
-returns c = laying-all _ _ _ _ _ _ c.before.loop.invariant c.loop-test.false
+returns c = laying_all _ _ _ _ _ _ c.before.loop.invariant c.loop-test.false
 
 pub clear_spec : {M : Type 1} → statement M
 clear_spec =

@@ -1,14 +1,14 @@
 -- `layout::survey::kind_if` meets its contract.
 use borrow.Author.Rules.{rules}
-use Rattle.layout.proofs.Surveying.{kind-none, kind-some}
+use Rattle.layout.proofs.Surveying.{kind_none, kind_some}
 use Rattle.layout.proofs.survey.kind_if.Statement.{statement}
 use Rattle.layout.proofs.survey.kind_if.Tie as tie
 
 returns : tie.Need-returns
-returns c = search (rules, kind-none)
+returns c = search (rules, kind_none)
 
 returns-2 : tie.Need-returns-2
-returns-2 c = search (rules, kind-some)
+returns-2 c = search (rules, kind_some)
 
 pub kind-if-spec : {M : Type 1} → statement M
 kind-if-spec =

@@ -2,14 +2,14 @@
 use Prim.Native.Nat.{◌-◌}
 use mathlib.Core.Bool.{false}
 use borrow.Author.Rules.{rules}
-use Rattle.basics.specs.Laws.Tables.{Filled, filled_none, filled_more, filled-all}
+use Rattle.basics.specs.Laws.Tables.{Filled, filled_none, filled_more, filled_all}
 use Rattle.places.specs.Limits.{chapters}
-use Rattle.layout.specs.Code.Survey.{underIn}
+use Rattle.layout.specs.Code.Survey.{under_in}
 use Rattle.layout.proofs.survey.under_of.Statement.{statement}
 use Rattle.layout.proofs.survey.under_of.Tie as tie
 
 abbrev invariant-loop : tie.invariant-loop
-invariant-loop kinds under₀ x₀ under x = Filled false chapters (underIn kinds) x under
+invariant-loop kinds under₀ x₀ under x = Filled false chapters (under_in kinds) x under
 
 abbrev decreases-loop : tie.decreases-loop
 decreases-loop kinds under₀ x₀ under x = chapters - x
@@ -21,7 +21,7 @@ loop-again : tie.Need-loop-preserved invariant-loop decreases-loop
 loop-again c = search (rules, filled_more)
 
 returns : tie.Need-returns invariant-loop decreases-loop
-returns c = search (rules, filled-all)
+returns c = search (rules, filled_all)
 
 pub under-of-spec : {M : Type 1} → statement M
 under-of-spec =

@@ -2,14 +2,14 @@
 use Prim.Native.Nat.{◌/◌, ◌%◌, ◌-◌}
 use mathlib.Core.Bool.{false}
 use borrow.Author.Rules.{rules}
-use Rattle.basics.specs.Laws.Tables.{Filled, filled_none, filled_more, filled-all}
+use Rattle.basics.specs.Laws.Tables.{Filled, filled_none, filled_more, filled_all}
 use Rattle.places.specs.Limits.{slots, layers}
-use Rattle.layout.specs.Code.Survey.{usedIn}
+use Rattle.layout.specs.Code.Survey.{used_in}
 use Rattle.layout.proofs.survey.used_of.Statement.{statement}
 use Rattle.layout.proofs.survey.used_of.Tie as tie
 
 abbrev invariant-loop : tie.invariant-loop
-invariant-loop numbers used₀ s₀ used s = Filled false slots (λ i. usedIn numbers (i / layers) (i % layers)) s used
+invariant-loop numbers used₀ s₀ used s = Filled false slots (λ i. used_in numbers (i / layers) (i % layers)) s used
 
 abbrev decreases-loop : tie.decreases-loop
 decreases-loop numbers used₀ s₀ used s = slots - s
@@ -21,7 +21,7 @@ loop-again : tie.Need-loop-preserved invariant-loop decreases-loop
 loop-again c = search (rules, filled_more)
 
 returns : tie.Need-returns invariant-loop decreases-loop
-returns c = search (rules, filled-all)
+returns c = search (rules, filled_all)
 
 pub used-of-spec : {M : Type 1} → statement M
 used-of-spec =

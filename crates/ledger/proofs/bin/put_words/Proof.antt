@@ -1,11 +1,11 @@
 -- `ledger::bin::put_words` meets its contract: a part of the RAM, or word by word.
 use borrow.Author.Rules.{rules}
-use Rattle.ledger.proofs.Bins.{from-part}
+use Rattle.ledger.proofs.Bins.{from_part}
 use Rattle.ledger.proofs.bin.put_words.Statement.{statement}
 use Rattle.ledger.proofs.bin.put_words.Tie as tie
 
 returns : tie.Need-returns
-returns c = search (rules, from-part)
+returns c = search (rules, from_part)
 
 pub put-words-spec : {M : Type 1} → statement M
 put-words-spec =

@@ -1,11 +1,11 @@
 -- `ledger::entries::page_entry` meets its contract, by what its callees ensure.
 use borrow.Author.Rules.{rules}
-use Rattle.ledger.proofs.Loops.{page-is}
+use Rattle.ledger.proofs.Loops.{page_is}
 use Rattle.ledger.proofs.entries.page_entry.Statement.{statement}
 use Rattle.ledger.proofs.entries.page_entry.Tie as tie
 
 returns : tie.Need-returns
-returns c = search (rules, page-is)
+returns c = search (rules, page_is)
 
 pub page-entry-spec : {M : Type 1} → statement M
 page-entry-spec =

@@ -1,7 +1,7 @@
 -- `ledger::entries::page_offset` meets its contract. The loop's invariant: o is the offset of page i.
 use borrow.Author.Rules.{rules}
 use Prim.Native.Nat.{◌-◌}
-use Rattle.ledger.proofs.Loops.{Offsets, offsets-none, offsets-more, offsets-all, offsets-few}
+use Rattle.ledger.proofs.Loops.{Offsets, offsets_none, offsets_more, offsets_all, offsets_few}
 use Rattle.ledger.proofs.entries.page_offset.Statement.{statement}
 use Rattle.ledger.proofs.entries.page_offset.Tie as tie
 
@@ -12,13 +12,13 @@ abbrev decreases-loop : tie.decreases-loop
 decreases-loop kinds pages n o₀ i₀ o i = n - i
 
 loop-holds : tie.Need-loop-init invariant-loop decreases-loop
-loop-holds c = search (rules, offsets-none)
+loop-holds c = search (rules, offsets_none)
 
 loop-again : tie.Need-loop-preserved invariant-loop decreases-loop
-loop-again c = search (rules, offsets-more)
+loop-again c = search (rules, offsets_more)
 
 returns : tie.Need-returns invariant-loop decreases-loop
-returns c = search (rules, offsets-all, offsets-few)
+returns c = search (rules, offsets_all, offsets_few)
 
 pub page-offset-spec : {M : Type 1} → statement M
 page-offset-spec =

@@ -1,7 +1,7 @@
 -- `ledger::entries::rom_offset` meets its contract. The loop's invariant: n of the first i paragraphs are ROM.
 use borrow.Author.Rules.{rules}
 use Prim.Native.Nat.{◌-◌}
-use Rattle.ledger.proofs.Loops.{Roms, roms-none, roms-more, roms-all, roms-few}
+use Rattle.ledger.proofs.Loops.{Roms, roms_none, roms_more, roms_all, roms_few}
 use Rattle.ledger.proofs.entries.rom_offset.Statement.{statement}
 use Rattle.ledger.proofs.entries.rom_offset.Tie as tie
 
@@ -12,13 +12,13 @@ abbrev decreases-loop : tie.decreases-loop
 decreases-loop kinds pages p n₀ i₀ n i = p - i
 
 loop-holds : tie.Need-loop-init invariant-loop decreases-loop
-loop-holds c = search (rules, roms-none)
+loop-holds c = search (rules, roms_none)
 
 loop-again : tie.Need-loop-preserved invariant-loop decreases-loop
-loop-again c = search (rules, roms-more)
+loop-again c = search (rules, roms_more)
 
 returns : tie.Need-returns invariant-loop decreases-loop
-returns c = search (rules, roms-all, roms-few)
+returns c = search (rules, roms_all, roms_few)
 
 pub rom-offset-spec : {M : Type 1} → statement M
 rom-offset-spec =

@@ -1,7 +1,7 @@
 -- `ledger::entries::run_at` meets its contract. The loop's invariant: r is the reach in n paragraphs.
 use borrow.Author.Rules.{rules}
 use Prim.Native.Nat.{◌-◌}
-use Rattle.ledger.proofs.Loops.{Running, running_none, running_more, running-all, running-within}
+use Rattle.ledger.proofs.Loops.{Running, running_none, running_more, running_all, running_within}
 use Rattle.places.specs.Limits.{paragraphs}
 use Rattle.ledger.proofs.entries.run_at.Statement.{statement}
 use Rattle.ledger.proofs.entries.run_at.Tie as tie
@@ -19,7 +19,7 @@ loop-again : tie.Need-loop-preserved invariant-loop decreases-loop
 loop-again c = search (rules, running_more)
 
 returns : tie.Need-returns invariant-loop decreases-loop
-returns c = search (rules, running-all, running-within)
+returns c = search (rules, running_all, running_within)
 
 pub run-at-spec : {M : Type 1} → statement M
 run-at-spec =

@@ -1,11 +1,11 @@
 -- `ledger::entries::starts_ram` meets its contract, by what its callees ensure.
 use borrow.Author.Rules.{rules}
-use Rattle.ledger.proofs.Loops.{ram-starts}
+use Rattle.ledger.proofs.Loops.{ram_starts}
 use Rattle.ledger.proofs.entries.starts_ram.Statement.{statement}
 use Rattle.ledger.proofs.entries.starts_ram.Tie as tie
 
 returns : tie.Need-returns
-returns c = search (rules, ram-starts)
+returns c = search (rules, ram_starts)
 
 pub starts-ram-spec : {M : Type 1} → statement M
 starts-ram-spec =

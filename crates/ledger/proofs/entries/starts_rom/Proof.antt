@@ -1,11 +1,11 @@
 -- `ledger::entries::starts_rom` meets its contract, by what its callees ensure.
 use borrow.Author.Rules.{rules}
-use Rattle.ledger.proofs.Loops.{rom-starts}
+use Rattle.ledger.proofs.Loops.{rom_starts}
 use Rattle.ledger.proofs.entries.starts_rom.Statement.{statement}
 use Rattle.ledger.proofs.entries.starts_rom.Tie as tie
 
 returns : tie.Need-returns
-returns c = search (rules, rom-starts)
+returns c = search (rules, rom_starts)
 
 pub starts-rom-spec : {M : Type 1} → statement M
 starts-rom-spec =

@@ -1,7 +1,7 @@
 -- `ledger::homes::base_of` meets its contract. The loop's invariant: the first i chapters have b pages.
 use borrow.Author.Rules.{rules}
 use Prim.Native.Nat.{◌-◌}
-use Rattle.ledger.proofs.Housing.{Based, based-none, based-more, based-all, based-few}
+use Rattle.ledger.proofs.Housing.{Based, based_none, based_more, based_all, based_few}
 use Rattle.ledger.proofs.homes.base_of.Statement.{statement}
 use Rattle.ledger.proofs.homes.base_of.Tie as tie
 
@@ -12,13 +12,13 @@ abbrev decreases-loop : tie.decreases-loop
 decreases-loop kinds pages x b₀ i₀ b i = x - i
 
 loop-holds : tie.Need-loop-init invariant-loop decreases-loop
-loop-holds c = search (rules, based-none)
+loop-holds c = search (rules, based_none)
 
 loop-again : tie.Need-loop-preserved invariant-loop decreases-loop
-loop-again c = search (rules, based-more)
+loop-again c = search (rules, based_more)
 
 returns : tie.Need-returns invariant-loop decreases-loop
-returns c = search (rules, based-all, based-few)
+returns c = search (rules, based_all, based_few)
 
 pub base-of-spec : {M : Type 1} → statement M
 base-of-spec =

@@ -1,23 +1,23 @@
 -- `ledger::homes::has_plain` meets its contract. The loop's invariant: r says whether one of the first k paragraphs is plain.
 use borrow.Author.Rules.{rules}
 use Prim.Native.Nat.{◌-◌}
-use Rattle.places.specs.Limits.{chapterParagraphs}
-use Rattle.basics.specs.Laws.Joined.{Somewhere, somewhere-none, somewhere-more}
+use Rattle.places.specs.Limits.{chapter_paragraphs}
+use Rattle.basics.specs.Laws.Joined.{Somewhere, somewhere_none, somewhere_more}
 use Rattle.ledger.proofs.Housing.{plain, plains_all}
 use Rattle.ledger.proofs.homes.has_plain.Statement.{statement}
 use Rattle.ledger.proofs.homes.has_plain.Tie as tie
 
 abbrev invariant-loop : tie.invariant-loop
-invariant-loop kinds pages x r₀ k₀ r k = Somewhere chapterParagraphs (plain kinds x) k r
+invariant-loop kinds pages x r₀ k₀ r k = Somewhere chapter_paragraphs (plain kinds x) k r
 
 abbrev decreases-loop : tie.decreases-loop
-decreases-loop kinds pages x r₀ k₀ r k = chapterParagraphs - k
+decreases-loop kinds pages x r₀ k₀ r k = chapter_paragraphs - k
 
 loop-holds : tie.Need-loop-init invariant-loop decreases-loop
-loop-holds c = search (rules, somewhere-none)
+loop-holds c = search (rules, somewhere_none)
 
 loop-again : tie.Need-loop-preserved invariant-loop decreases-loop
-loop-again c = search (rules, somewhere-more)
+loop-again c = search (rules, somewhere_more)
 
 returns : tie.Need-returns invariant-loop decreases-loop
 returns c = search (rules, plains_all)

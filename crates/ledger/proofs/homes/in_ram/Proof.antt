@@ -1,11 +1,11 @@
 -- `ledger::homes::in_ram` meets its contract, by what its callees ensure.
 use borrow.Author.Rules.{rules}
-use Rattle.ledger.proofs.Housing.{ram-in}
+use Rattle.ledger.proofs.Housing.{ram_in_lem}
 use Rattle.ledger.proofs.homes.in_ram.Statement.{statement}
 use Rattle.ledger.proofs.homes.in_ram.Tie as tie
 
 returns : tie.Need-returns
-returns c = search (rules, ram-in)
+returns c = search (rules, ram_in_lem)
 
 pub in-ram-spec : {M : Type 1} → statement M
 in-ram-spec =

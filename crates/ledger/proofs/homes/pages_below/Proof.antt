@@ -1,7 +1,7 @@
 -- `ledger::homes::pages_below` meets its contract. The loop's invariant: n of the first i pages are there.
 use borrow.Author.Rules.{rules}
 use Prim.Native.Nat.{◌-◌}
-use Rattle.ledger.proofs.Housing.{Below, below_none, below_more, below_all, below-few}
+use Rattle.ledger.proofs.Housing.{Below, below_none, below_more, below_all, below_few}
 use Rattle.ledger.proofs.homes.pages_below.Statement.{statement}
 use Rattle.ledger.proofs.homes.pages_below.Tie as tie
 
@@ -18,7 +18,7 @@ loop-again : tie.Need-loop-preserved invariant-loop decreases-loop
 loop-again c = search (rules, below_more)
 
 returns : tie.Need-returns invariant-loop decreases-loop
-returns c = search (rules, below_all, below-few)
+returns c = search (rules, below_all, below_few)
 
 pub pages-below-spec : {M : Type 1} → statement M
 pages-below-spec =

@@ -1,11 +1,11 @@
 -- `ledger::homes::plain_place` meets its contract, by what its callee ensures.
 use borrow.Author.Rules.{rules}
-use Rattle.ledger.proofs.Housing.{plain-place}
+use Rattle.ledger.proofs.Housing.{plain_place_lem}
 use Rattle.ledger.proofs.homes.plain_place.Statement.{statement}
 use Rattle.ledger.proofs.homes.plain_place.Tie as tie
 
 returns : tie.Need-returns
-returns c = search (rules, plain-place)
+returns c = search (rules, plain_place_lem)
 
 pub plain-place-spec : {M : Type 1} → statement M
 plain-place-spec =

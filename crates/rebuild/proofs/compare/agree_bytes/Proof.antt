@@ -4,7 +4,7 @@ use Prim.Native.Nat.{◌-◌}
 use lib.Dec.{eqb}
 use lib.ListN.{get_or}
 use Rattle.places.specs.Limits.{paragraphs}
-use Rattle.basics.specs.Laws.Joined.{Everywhere, everywhere-none, everywhere-by, everywhere-all}
+use Rattle.basics.specs.Laws.Joined.{Everywhere, everywhere_none, everywhere_by, everywhere_all}
 use Rattle.rebuild.proofs.compare.agree_bytes.Statement.{statement}
 use Rattle.rebuild.proofs.compare.agree_bytes.Tie as tie
 
@@ -15,13 +15,13 @@ abbrev decreases-loop : tie.decreases-loop
 decreases-loop a b r₀ i₀ r i = paragraphs - i
 
 loop-holds : tie.Need-loop-init invariant-loop decreases-loop
-loop-holds c = search (rules, everywhere-none)
+loop-holds c = search (rules, everywhere_none)
 
 loop-again : tie.Need-loop-preserved invariant-loop decreases-loop
-loop-again c = search (rules, everywhere-by)
+loop-again c = search (rules, everywhere_by)
 
 returns : tie.Need-returns invariant-loop decreases-loop
-returns c = search (rules, everywhere-all)
+returns c = search (rules, everywhere_all)
 
 pub agree-bytes-spec : {M : Type 1} → statement M
 agree-bytes-spec =

@@ -2,28 +2,28 @@
 use borrow.Author.Rules.{rules}
 use Prim.Native.Nat.{◌-◌}
 use mathlib.Core.Bool.{◌||◌, not}
-use Rattle.places.specs.Limits.{locutusParagraphs}
-use Rattle.plan.specs.Image.{ramCoveredOf}
-use Rattle.canon.specs.Made.{blankIn}
-use Rattle.ledger.specs.Held.{planIn, words_in}
-use Rattle.basics.specs.Laws.Joined.{Everywhere, everywhere-none, everywhere-by, everywhere-all}
+use Rattle.places.specs.Limits.{locutus_paragraphs}
+use Rattle.plan.specs.Image.{ram_covered_of}
+use Rattle.canon.specs.Made.{blank_in}
+use Rattle.ledger.specs.Held.{plan_in, words_in}
+use Rattle.basics.specs.Laws.Joined.{Everywhere, everywhere_none, everywhere_by, everywhere_all}
 use Rattle.rebuild.proofs.compare.ram_fits.Statement.{statement}
 use Rattle.rebuild.proofs.compare.ram_fits.Tie as tie
 
 abbrev invariant-loop : tie.invariant-loop
-invariant-loop kinds pages ram r₀ p₀ r p = Everywhere locutusParagraphs (λ j. not (ramCoveredOf (planIn kinds pages) j) || blankIn (words_in ram) j) p r
+invariant-loop kinds pages ram r₀ p₀ r p = Everywhere locutus_paragraphs (λ j. not (ram_covered_of (plan_in kinds pages) j) || blank_in (words_in ram) j) p r
 
 abbrev decreases-loop : tie.decreases-loop
-decreases-loop kinds pages ram r₀ p₀ r p = locutusParagraphs - p
+decreases-loop kinds pages ram r₀ p₀ r p = locutus_paragraphs - p
 
 loop-holds : tie.Need-loop-init invariant-loop decreases-loop
-loop-holds c = search (rules, everywhere-none)
+loop-holds c = search (rules, everywhere_none)
 
 loop-again : tie.Need-loop-preserved invariant-loop decreases-loop
-loop-again c = everywhere-by _ _ _ _ _ _ c.before.before.before.loop.invariant c.before.before.loop-test.true c.before.ram-fits-at.ensures c.both.ensures
+loop-again c = everywhere_by _ _ _ _ _ _ c.before.before.before.loop.invariant c.before.before.loop-test.true c.before.ram-fits-at.ensures c.both.ensures
 
 returns : tie.Need-returns invariant-loop decreases-loop
-returns c = search (rules, everywhere-all)
+returns c = search (rules, everywhere_all)
 
 pub ram-fits-spec : {M : Type 1} → statement M
 ram-fits-spec =

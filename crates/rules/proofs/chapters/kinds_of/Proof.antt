@@ -1,7 +1,7 @@
 -- `rules::chapters::kinds_of` meets its contract. The loop's invariant: the kinds are those of the lines before line k.
 use Prim.Native.Nat.{◌-◌}
 use borrow.Author.Rules.{rules}
-use Rattle.rules.proofs.Covers.{Kinding, kinding-none, kinding-more, kinding-all}
+use Rattle.rules.proofs.Covers.{Kinding, kinding_none, kinding_more, kinding_all}
 use Rattle.rules.proofs.chapters.kinds_of.Statement.{statement}
 use Rattle.rules.proofs.chapters.kinds_of.Tie as tie
 
@@ -12,13 +12,13 @@ abbrev decreases-loop : tie.decreases-loop
 decreases-loop n lines kinds₀ k₀ kinds k = n - k
 
 loop-holds : tie.Need-loop-init invariant-loop decreases-loop
-loop-holds c = search (rules, kinding-none)
+loop-holds c = search (rules, kinding_none)
 
 loop-again : tie.Need-loop-preserved invariant-loop decreases-loop
-loop-again c = search (rules, kinding-more)
+loop-again c = search (rules, kinding_more)
 
 returns : tie.Need-returns invariant-loop decreases-loop
-returns c = search (rules, kinding-all)
+returns c = search (rules, kinding_all)
 
 pub kinds-of-spec : {M : Type 1} → statement M
 kinds-of-spec =

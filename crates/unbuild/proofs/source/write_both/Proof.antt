@@ -1,17 +1,17 @@
 -- `unbuild::source::write_both` meets its contract: one buffer is too short, or both are written.
 use borrow.Author.Rules.{rules}
-use Rattle.unbuild.proofs.Sources.{both-short, both-written, text-few}
+use Rattle.unbuild.proofs.Sources.{both_short, both_written, text_few}
 use Rattle.unbuild.proofs.source.write_both.Statement.{statement}
 use Rattle.unbuild.proofs.source.write_both.Tie as tie
 
 returns : tie.Need-returns
-returns c = search (rules, both-short)
+returns c = search (rules, both_short)
 
 write-cfg-requires : tie.Need-write-cfg-requires
-write-cfg-requires c κs = search (rules, text-few)
+write-cfg-requires c κs = search (rules, text_few)
 
 returns-2 : tie.Need-returns-2
-returns-2 c = search (rules, both-written)
+returns-2 c = search (rules, both_written)
 
 pub write-both-spec : {M : Type 1} → statement M
 write-both-spec =

@@ -1,14 +1,14 @@
 -- `unbuild::source::write_source` meets its contract: 31, 32, or what is behind them.
 use borrow.Author.Rules.{rules}
-use Rattle.unbuild.proofs.Sources.{size_low, source_fits, source-long, source-unfit}
+use Rattle.unbuild.proofs.Sources.{size_low, source_fits, source_long, source_unfit}
 use Rattle.unbuild.proofs.source.write_source.Statement.{statement}
 use Rattle.unbuild.proofs.source.write_source.Tie as tie
 
 returns : tie.Need-returns
-returns c = search (rules, source-unfit)
+returns c = search (rules, source_unfit)
 
 returns-2 : tie.Need-returns-2
-returns-2 c = search (rules, source-long)
+returns-2 c = search (rules, source_long)
 
 write-both-requires : tie.Need-write-both-requires
 write-both-requires c κs = search (rules, size_low)
