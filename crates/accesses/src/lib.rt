@@ -1,4 +1,6 @@
 // A list of bus accesses as text, and the runner: one pass that checks every line, then one that makes the accesses up to the limit (02, W-214).
+#![tactic(auto)]
+
 ghost use Rattle.std.specs.Prelude.{◌+◌, ◌≤◌, ◌<◌, ◌≡◌, length, take};
 ghost use Rattle.basics.specs.Lists.{part};
 ghost use Rattle.switches.specs.Flips.{active};

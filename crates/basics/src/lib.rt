@@ -1,4 +1,6 @@
 // Bytes and words as numbers, and refusals: the leaves that every crate above calls.
+#![tactic(auto)]
+
 ghost use Rattle.std.specs.Prelude.{◌/◌, ◌%◌, ◌<◌, ◌≤◌, min, ◌≡◌, ◌&&◌, ◌||◌, length, get_or};
 ghost use Rattle.basics.specs.Bytes.{at16, bytes16};
 ghost use Rattle.basics.specs.Lists.{put_front};

@@ -1,1 +1,3 @@
 // The plan behind an image: definitions and theorems; no code.
+#![tactic(auto)]
+

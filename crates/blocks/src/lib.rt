@@ -1,4 +1,6 @@
 // Blocks: the frame of one, read and written, and its judgement (01, "File layout", "Load order").
+#![tactic(auto)]
+
 ghost use Rattle.std.specs.Prelude.{◌≡◌, not, ◌+◌, ◌≤◌, length, get_or, drop, eqb};
 ghost use Rattle.hunk.specs.Hunk.{check_hunk};
 ghost use Rattle.blocks.specs.Blocks.{frame_of, put_frame, payload_in, sum_said};

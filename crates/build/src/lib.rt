@@ -1,4 +1,6 @@
 // The builder: an image from a publisher's BIN, CFG and label file (01, "How an image is laid out by the builder").
+#![tactic(auto)]
+
 ghost use Rattle.std.specs.Prelude.{◌+◌, ◌*◌, ◌≤◌, ◌≡◌, false, ltb, length, take};
 ghost use Rattle.basics.specs.Bytes.{le32};
 ghost use Rattle.basics.specs.Lists.{part};

@@ -1,6 +1,8 @@
 // Runs a list of bus accesses on an image. The image, the list and, where one is given, a limit on lines are the arguments. Prints what the bench reads:
 // `word=` with four hex digits, or silence, for each read that was run, then `lines=`; `result=refused` with number and place, where the load or the run
 // refuses; or `result=stopped` with the file and the reason.
+#![tactic(auto)]
+
 ghost use Rattle.std.specs.Prelude.{◌≡◌, ◌≤◌, length};
 
 use basics::Refusal;

@@ -1,4 +1,6 @@
 // The image card, run on empty input.
+#![tactic(auto)]
+
 fn main() {
     report::card();
 }

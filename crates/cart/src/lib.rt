@@ -1,4 +1,6 @@
 // The cartridge that answers the console: reads, writes and resets over lent RAM and flash (01, "The machine"; 02, W-206 and W-209).
+#![tactic(auto)]
+
 ghost use Rattle.std.specs.Prelude.{◌≡◌, ◌+◌, ◌%◌, ◌≤◌, length, if◌then◌else◌, slice_index};
 ghost use Rattle.places.specs.Limits.{paragraphs};
 ghost use Rattle.switches.specs.Flips.{active, asks, flip_from, flip_size, flipped};

@@ -1,4 +1,6 @@
 // A CFG is read: its entries, or refusal 22, 23 or 24 with its line (01, "What a CFG may say").
+#![tactic(auto)]
+
 ghost use Rattle.std.specs.Prelude.{◌≤◌, ◌<◌, ◌≡◌, [], length, set};
 ghost use Rattle.places.specs.Limits.{cfg_limit};
 ghost use Rattle.cfg.specs.File.{says_of, shown, refused, reading_of};

@@ -1,5 +1,7 @@
 // What shows at each of the console's paragraphs, by a cartridge's tables and accelerators as they are: of one that was just loaded, what power-on shows.
 // And what each page of a chapter shows.
+#![tactic(auto)]
+
 ghost use Rattle.std.specs.Prelude.{◌/◌, ◌≡◌, ◌&&◌};
 ghost use Rattle.places.specs.Limits.{chapter_paragraphs};
 ghost use Rattle.jlp.specs.Window.{in_window};

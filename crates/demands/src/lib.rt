@@ -1,5 +1,7 @@
 // What an auditor opens first: the three demands and the bench cases (specs/). The two functions make what the demands speak of, by the
 // public functions themselves: a title pressed and loaded, and a cartridge written and loaded.
+#![tactic(auto)]
+
 ghost use Rattle.std.specs.Prelude.{◌≡◌, length, take};
 ghost use Rattle.tables.specs.Tables.{tables};
 ghost use Rattle.save.specs.Writing.{content};

@@ -1,6 +1,8 @@
 // Reads and writes by the lent tables that act and by lent words of accelerators: what the cartridge's own answer and leave (01, "The machine"; 02, W-202,
 // W-206 and W-209). Most need ask nobody but a word of the RAM: for these there are short ways, which say where somebody is to be asked first, and then do
 // nothing. They are small, so that a loop over accesses has them in it.
+#![tactic(auto)]
+
 ghost use Rattle.std.specs.Prelude.{◌≡◌};
 ghost use Rattle.switches.specs.Flips.{active};
 ghost use Rattle.flash.specs.Flash.{memories, acted};

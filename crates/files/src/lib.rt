@@ -1,5 +1,7 @@
 // What the desk's programs do with files: read one whole, write one whole beside its target and move it into place, and say
 // what stopped them. Functions on slices and numbers promise equations; what the system does is tried by tests/files.sh.
+#![tactic(auto)]
+
 mod names;
 mod reading;
 mod rule;

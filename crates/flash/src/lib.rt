@@ -1,5 +1,7 @@
 // Saved games: rows of 96 words in a lent flash, eight rows to a sector, and the registers that act on them (02, W-209; 000, "JLP Flash").
 // No word of the cartridge.
+#![tactic(auto)]
+
 ghost use Rattle.std.specs.Prelude.{◌+◌, ◌≤◌, ◌≡◌, length, get_or};
 ghost use Rattle.basics.specs.Lists.{laid};
 ghost use Rattle.flash.specs.Flash.{row_words, sector_words, sector_limit, erased_word, in_range, row_lent, sector_lent, ram_lent, empty_at, readable, writable, read_ram, written_flash, erased_flash, memories, acted};

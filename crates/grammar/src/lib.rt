@@ -1,4 +1,6 @@
 // One line of a CFG: its words, and what they say (01, "What a CFG may say").
+#![tactic(auto)]
+
 ghost use Rattle.std.specs.Prelude.{◌≤◌, ◌<◌, ◌≡◌, length};
 ghost use Rattle.text.specs.Spelling.{same};
 ghost use Rattle.grammar.specs.Words.{kind_of, words_of, word};

@@ -1,4 +1,6 @@
 // The header of an image, both ways: checked and written; and the compatibility fields of its flags.
+#![tactic(auto)]
+
 ghost use Rattle.std.specs.Prelude.{◌≤◌, ◌≡◌, length};
 ghost use Rattle.basics.specs.Lists.{put_front};
 ghost use Rattle.header.specs.Header.{header_size, flags_size, uid_size, header_of, wrong_length, wrong_magic, wrong_version, wrong_header_sum, header_refusal};

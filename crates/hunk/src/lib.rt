@@ -1,5 +1,7 @@
 // Data hunks, both ways: a check that names the byte where one breaks, a store of its words, and a payload written of a paragraph's
 // words (001, "Block Type 0x02: Data Hunk").
+#![tactic(auto)]
+
 mod bodies;
 mod choice;
 mod data;

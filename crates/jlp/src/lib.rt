@@ -1,6 +1,8 @@
 // The JLP accelerators by value: which writes they take, what a write leaves of them, and what their registers answer (02, W-206; 000,
 // "JLP Multiply and Divide Accelerators", "JLP CRC-16 Accelerator"); the flash's registers are among theirs (02, W-209). Numbers to numbers:
 // no word of the cartridge, of its RAM or of its flash.
+#![tactic(auto)]
+
 mod arith;
 mod sum;
 

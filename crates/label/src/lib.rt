@@ -1,4 +1,6 @@
 // A publisher's label file as a metadata block: its bytes as they stand, in one frame (02, "W-204").
+#![tactic(auto)]
+
 ghost use Rattle.std.specs.Prelude.{◌≡◌, ◌+◌, ◌≤◌, length};
 ghost use Rattle.blocks.specs.Blocks.{frame_size, payload_limit};
 ghost use Rattle.label.specs.Label.{label_block, wrong_label, writing_of, written_of};

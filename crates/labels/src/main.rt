@@ -2,6 +2,8 @@
 // then a line for each text, by tag and then by its number, the label file's before the image's; then `twice=` for a single-value tag that
 // the image, or the label file, gives twice; and `texts=`, how many lines those were. A refusal is `result=refused` with number and place,
 // and what cannot be read `result=stopped` with the file and the reason. Texts are shown by `shelf`, release dates by `date`.
+#![tactic(auto)]
+
 mod date;
 
 ghost use Rattle.std.specs.Prelude.{◌+◌, ◌≤◌, ◌≡◌, length};

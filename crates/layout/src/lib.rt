@@ -1,4 +1,6 @@
 // How the builder lays an image out: Locutus pages, tables, covered paragraphs (01, "How an image is laid out by the builder").
+#![tactic(auto)]
+
 mod cells;
 mod entries;
 mod held;

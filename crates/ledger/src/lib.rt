@@ -1,4 +1,6 @@
 // The canonical lines of a plan that stands in two arrays (02, W-213): those of [mapping], then those of [memattr].
+#![tactic(auto)]
+
 mod bin;
 mod entries;
 mod homes;

@@ -1,4 +1,6 @@
 // What a program lends to a load of any image: a RAM of zeros, and of an erased flash the words that the image asks for.
+#![tactic(auto)]
+
 ghost use Rattle.std.specs.Prelude.{min, ℕ, ◌≡◌, length, replicate};
 ghost use Rattle.places.specs.Limits.{lent_limit};
 ghost use Rattle.flash.specs.Flash.{erased_word};

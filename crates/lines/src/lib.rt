@@ -1,5 +1,7 @@
 // A line of a CFG that claims words, as every crate above the reader names it (01, "What a CFG may say"): what it says, the
 // addresses that it names, its layer and its kind.
+#![tactic(auto)]
+
 ghost use Rattle.std.specs.Prelude.{◌+◌, ◌-◌, ◌≤◌, ◌≡◌};
 ghost use Rattle.places.specs.Places.{console};
 ghost use Rattle.lines.specs.Lines.{first, last, holds, layer};
@@ -9,14 +11,14 @@ use basics::both;
 use places::{BinWord, Console, Page};
 
 // RAM 16 or RAM 8.
-#[derive(Drop)]
+#[derive(Clone, Copy)]
 pub enum Width {
     Sixteen,
     Eight,
 }
 
 // What a line says: BIN words lo to hi at an address and on, on every page or on one; or RAM from address lo to hi.
-#[derive(Drop)]
+#[derive(Clone, Copy)]
 pub enum Entry {
     Rom(BinWord, BinWord, Console),
     Paged(BinWord, BinWord, Console, Page),
@@ -24,7 +26,7 @@ pub enum Entry {
 }
 
 // An entry and the number of the CFG line that it stands on.
-#[derive(Drop)]
+#[derive(Clone, Copy)]
 pub struct Line {
     pub source: u32,
     pub entry: Entry,

@@ -1,4 +1,6 @@
 // The load of a version 1 image: a pass that checks and touches no RAM, then one that stores (01, "Load order").
+#![tactic(auto)]
+
 ghost use Rattle.std.specs.Prelude.{◌≡◌, not, ◌+◌, ◌≤◌, length, eqb};
 ghost use Rattle.places.specs.Limits.{lent};
 ghost use Rattle.sums.specs.Crc.{c324_poly, crc324_of};

@@ -1,5 +1,7 @@
 // The desk's lookup of a text by its tag and its number: the label file's, else the image's, shown from the file it stands in and not
 // copied (02, "W-204").
+#![tactic(auto)]
+
 ghost use Rattle.std.specs.Prelude.{◌≡◌};
 ghost use Rattle.metadata.specs.Texts.{seek_in, given_twice};
 ghost use Rattle.lookup.specs.Lookup.{image_texts, refusal_of, text_of, find_of};

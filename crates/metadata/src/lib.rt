@@ -1,5 +1,7 @@
 // Program metadata: the sub-records of a payload, the n-th text with a tag, single-value tags given twice, and the release date
 // (001, "Block Type 0x03: Program Metadata").
+#![tactic(auto)]
+
 ghost use Rattle.std.specs.Prelude.{◌<◌, ◌≤◌, ◌≡◌};
 ghost use Rattle.metadata.specs.Records.{stands_at, is_cut};
 ghost use Rattle.metadata.specs.Texts.{texts_of, seek_in, is_single, given_twice};

@@ -1,5 +1,7 @@
 // Who owns which paragraph, and which page of which chapter: two arrays of line numbers, initially zero (01, "Forms for specific
 // places"). A line claims its places; of those that a later one claims the least owner tells with whom it shares.
+#![tactic(auto)]
+
 ghost use Rattle.std.specs.Prelude.{◌≡◌, []};
 ghost use Rattle.basics.specs.Tables.{table};
 ghost use Rattle.places.specs.Limits.{paragraphs, flip_entries};

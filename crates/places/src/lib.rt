@@ -1,22 +1,24 @@
 // The three numberings of 01 ("What the cartridge desk gets"), and every number of 01. No function here turns one numbering
 // into another, and none adds two of them: only the cartridge's mapping and the builder's layout convert.
+#![tactic(auto)]
+
 ghost use Rattle.std.specs.Prelude.{◌≡◌, ◌≤◌, length};
 ghost use Rattle.places.specs.Limits.{lent, lent_limit};
 
 // An address as the console puts it on the bus.
-#[derive(Drop)]
+#[derive(Clone, Copy)]
 pub struct Console(pub u16);
 
 // A word's place in the cartridge's RAM.
-#[derive(Drop)]
+#[derive(Clone, Copy)]
 pub struct Locutus(pub u32);
 
 // A word's place in a publisher's BIN.
-#[derive(Drop)]
+#[derive(Clone, Copy)]
 pub struct BinWord(pub u32);
 
 // The number of a page in its chapter, 0 to 15.
-#[derive(Drop)]
+#[derive(Clone, Copy)]
 pub struct Page(pub u8);
 
 // How many words of a lent RAM count.

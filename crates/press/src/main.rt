@@ -1,6 +1,8 @@
 // Presses a title: its BIN, its CFG and the image's name are the arguments, and its label file where there is a fourth. Prints what
 // the desk reads: `result=built` with the image's length and the words of RAM that it needs, `result=refused` with number and place,
 // or `result=stopped` with the file and the reason.
+#![tactic(auto)]
+
 ghost use Rattle.std.specs.Prelude.{◌≡◌, length, ◌+◌};
 ghost use Rattle.places.specs.Limits.{bin_limit, cfg_limit, image_limit};
 ghost use Rattle.blocks.specs.Blocks.{payload_limit};

@@ -1,4 +1,6 @@
 // A CFG as it is written (02, W-213): the line of an entry.
+#![tactic(auto)]
+
 ghost use Rattle.std.specs.Prelude.{◌≡◌, ◌%◌};
 ghost use Rattle.lines.specs.declared.Width.TheVariants.{Sixteen, Eight};
 ghost use Rattle.grammar.specs.Grammar.{rom, paged, ram};

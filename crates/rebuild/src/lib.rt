@@ -1,5 +1,7 @@
 // Whether the plan behind an image builds it again (02, W-213): the plan's canonical lines go through the builder's own layout, and what it
 // draws is compared with the image.
+#![tactic(auto)]
+
 mod compare;
 
 ghost use Rattle.std.specs.Prelude.{◌*◌, ◌≡◌, leb, length};

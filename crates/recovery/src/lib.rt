@@ -1,5 +1,7 @@
 // Salvage of a damaged image: the walk of a load with other consequences (02, W-208). A pass that surveys, judges each block once, notes what is
 // left out and writes nothing, then one that copies by the notes.
+#![tactic(auto)]
+
 ghost use Rattle.std.specs.Prelude.{◌≡◌, ◌+◌, ◌*◌, ◌≤◌, length, set};
 ghost use Rattle.basics.specs.Lists.{flat, put_front};
 ghost use Rattle.places.specs.Limits.{lent_limit};

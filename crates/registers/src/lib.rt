@@ -1,5 +1,7 @@
 // The JLP accelerators in twenty lent words, as C keeps them: made of such words, laid out again, asked, and written in place, so that a write copies none of
 // the others (02, W-206 and W-209).
+#![tactic(auto)]
+
 ghost use Rattle.std.specs.Prelude.{◌<◌, ◌≡◌, length};
 ghost use Rattle.jlp.specs.Accelerators.{operand_count, takes, latches, operated, with_crc_and_saves, crc_after, written_on, written_jlp};
 ghost use Rattle.flash.specs.Registers.{remembered};

@@ -1,4 +1,6 @@
 // The image card: what is printed of an image, and the program that prints it.
+#![tactic(auto)]
+
 mod program;
 
 ghost use Rattle.std.specs.Prelude.{◌≡◌};

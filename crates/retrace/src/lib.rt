@@ -1,4 +1,6 @@
 // The plan behind an image (02, W-213), in two arrays: from its permissions, its flip entries, and the Locutus paragraphs that it names.
+#![tactic(auto)]
+
 mod named;
 mod row;
 

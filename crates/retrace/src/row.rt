@@ -16,7 +16,7 @@ use switches::first_k;
 
 // Whether a chapter has flip entries that PAGE lines could have given, the entry of a page that is not there, and whether plain ROM lies
 // beneath the pages.
-#[derive(Drop)]
+#[derive(Clone, Copy)]
 pub(crate) struct Shown {
     pub paged: bool,
     pub empty: u16,

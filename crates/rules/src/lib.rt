@@ -1,4 +1,6 @@
 // Which lines of a CFG a build accepts: rules 25 to 28 (01, "Numbers that come back").
+#![tactic(auto)]
+
 mod chapters;
 mod shape;
 

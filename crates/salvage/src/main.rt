@@ -1,5 +1,7 @@
 // Salvages a damaged image: its name and that of the file to write are the arguments. Prints `kept=`, `dropped=` and `stopped=`, then
 // `drop=` with the place of each block left out; a refusal as the card does; or `result=stopped` with the file and the reason.
+#![tactic(auto)]
+
 ghost use Rattle.std.specs.Prelude.{◌+◌, ◌≡◌, length};
 ghost use Rattle.places.specs.Limits.{card_limit};
 

@@ -1,4 +1,6 @@
 // The plain writer: an image of the marked paragraphs of a RAM (01, "How an image is laid out by the builder").
+#![tactic(auto)]
+
 ghost use Rattle.std.specs.Prelude.{◌≡◌, ◌++◌, ◌∷◌, [], ◌+◌, ◌*◌, ◌≤◌, ◌<◌, length, get_or};
 ghost use Rattle.basics.specs.Counts.{lowest};
 ghost use Rattle.basics.specs.Lists.{put_front};

@@ -1,4 +1,6 @@
 // A CFG as it is written (02, W-213): the lines of its sections, one after the other, on a sheet.
+#![tactic(auto)]
+
 ghost use Rattle.std.specs.Prelude.{◌+◌, ◌*◌, ◌≤◌, ◌≡◌, length, take, drop};
 ghost use Rattle.basics.specs.Lists.{put_front};
 ghost use Rattle.places.specs.Limits.{line_limit};

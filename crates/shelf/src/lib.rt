@@ -1,4 +1,6 @@
 // A text as a shelf label shows it: no byte of it that a screen would act on (02, "W-204").
+#![tactic(auto)]
+
 ghost use Rattle.std.specs.Prelude.{◌*◌, ◌≤◌, ◌≡◌, ◌++◌, length, take, drop};
 ghost use Rattle.shelf.specs.Escaped.{by_digits, escaped_byte, escaped, escaped_length, escaped_in};
 

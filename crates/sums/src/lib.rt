@@ -1,4 +1,6 @@
 // DOWCRC, CRC32/4 and IEEE CRC32: one maker of tables over the polynomial, and one sum over lent tables.
+#![tactic(auto)]
+
 ghost use Rattle.std.specs.Prelude.{◌+◌, ◌/◌, ◌%◌, ◌<◌, ◌≤◌, ◌≡◌, length};
 ghost use Rattle.basics.specs.Laws.Tables.{Filled};
 ghost use Rattle.sums.specs.Crc.{crc_bit, crc_bits, crc_byte, crc_from, dowcrc_of, crc324_of, crc32_of};

@@ -1,4 +1,6 @@
 // What a write asks of a cartridge's tables, and what they become: page flips (01, "The machine") and bankswitches (02, W-202). No word of the cartridge.
+#![tactic(auto)]
+
 ghost use Rattle.std.specs.Prelude.{◌≡◌, ◌+◌, ◌/◌, ◌≤◌};
 ghost use Rattle.places.specs.Limits.{chapter_pages, paragraphs};
 ghost use Rattle.switches.specs.Flips.{active, asks, acts, first_k, flip_mapping, flip_permissions, flip_from, flip_size, turned, flipped};

@@ -1,4 +1,6 @@
 // The payload of a tables block, both ways: the cartridge of its tables, and tables written; and refusals 10, 11 and 13.
+#![tactic(auto)]
+
 ghost use Rattle.std.specs.Prelude.{◌≤◌, ◌≡◌, ◌||◌, length};
 ghost use Rattle.basics.specs.Lists.{put_front};
 ghost use Rattle.places.specs.Limits.{paragraphs};

@@ -1,4 +1,6 @@
 // Texts: the bytes that may stand in one, its lines, its spelling, and hex digits. A CFG is one (01, "What a CFG may say").
+#![tactic(auto)]
+
 ghost use Rattle.std.specs.Prelude.{◌%◌, ◌≤◌, ◌≡◌};
 ghost use Rattle.text.specs.Bytes.{cr_lf, allowed, first_foreign};
 ghost use Rattle.text.specs.Lines.{line_of, ends, line_end, past_end, next_line};

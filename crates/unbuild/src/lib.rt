@@ -1,5 +1,7 @@
 // Back to BIN and CFG (02, W-213): an image is loaded once, into zeros, and its hunks are laid over ones; the plan behind it is retraced, and its BIN
 // and its CFG are written, each into a lent buffer.
+#![tactic(auto)]
+
 mod source;
 
 ghost use Rattle.std.specs.Prelude.{◌≡◌};

@@ -1,5 +1,7 @@
 // Goes back from an image to its BIN and its CFG: the image's name and the two to write are the arguments. Prints what the desk reads:
 // `result=written` with the bytes of both, `result=refused` with number and place, or `result=stopped` with the file and the reason.
+#![tactic(auto)]
+
 ghost use Rattle.std.specs.Prelude.{◌+◌, ◌≡◌, length};
 ghost use Rattle.places.specs.Limits.{bin_limit, cfg_limit, image_limit};
 

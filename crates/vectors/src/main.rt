@@ -1,5 +1,7 @@
 // Runs 001's vectors, and the vector files that the independent second program makes (second/README.md), and compares:
 // a line for each family, and the first case that differs; the last line says whether every file was there and had cases.
+#![tactic(auto)]
+
 ghost use Rattle.std.specs.Prelude.{◌≡◌, ◌+◌, length};
 ghost use Rattle.places.specs.Limits.{lent_limit};
 

@@ -1,5 +1,7 @@
 // Runs the second program's vector files (second/README.md) of what the desk does with whole files, and compares: names, dates and
 // labels, salvage, lists of accesses, back to BIN and CFG. It prints what `vectors` prints of the other families.
+#![tactic(auto)]
+
 ghost use Rattle.std.specs.Prelude.{◌≡◌, length};
 ghost use Rattle.places.specs.Limits.{image_limit};
 
