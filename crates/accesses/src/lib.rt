@@ -34,7 +34,7 @@ const VALUE_AT: usize = 21;
 
 // What running a list answers: a refusal, with the state as it was given; or none, the state, the lines run, and how many answers there are. At 29
 // `length` is how many answers there would be.
-#[derive(Drop)]
+#[derive(Clone, Copy)]
 pub struct Ran {
     pub refusal: Refusal,
     pub cartridge: Cartridge,
@@ -43,7 +43,7 @@ pub struct Ran {
 }
 
 // What a line says.
-#[derive(Drop)]
+#[derive(Clone, Copy)]
 enum Says {
     Malformed,
     Read(Console),
@@ -52,28 +52,28 @@ enum Says {
 }
 
 // Four hex digits as a word, or that a byte of the four is none.
-#[derive(Drop)]
+#[derive(Clone, Copy)]
 enum Number {
     Is(u16),
     Not,
 }
 
 // All lines, checked: the number of the first malformed one, or how many lines and reads there are.
-#[derive(Drop)]
+#[derive(Clone, Copy)]
 enum Checked {
     Wrong(usize),
     Good(usize, usize),
 }
 
 // What an access answers.
-#[derive(Drop)]
+#[derive(Clone, Copy)]
 enum Reply {
     Nothing,
     Word(u32),
 }
 
 // What an access leaves of the accelerators, and what it answers.
-#[derive(Drop)]
+#[derive(Clone, Copy)]
 struct Made {
     jlp: Jlp,
     reply: Reply,

@@ -7,7 +7,7 @@ ghost use Rattle.basics.specs.Lists.{put_front};
 ghost use Rattle.basics.specs.Refusals.{refuse, no_refusal};
 
 // A refusal: a number of 01's table, and its place; 0 and 0 where nothing is refused.
-#[derive(Drop)]
+#[derive(Clone, Copy)]
 pub struct Refusal {
     pub number: u32,
     pub place: usize,

@@ -33,7 +33,7 @@ pub const END_MARK: u8 = 0xFF;
 pub const FIRST_BLOCK: usize = 32;
 
 // What stands where a block may start: the image's end, a block that is cut, or a type and the place of the next block.
-#[derive(Drop)]
+#[derive(Clone, Copy)]
 pub enum Frame {
     Over,
     Cut,
@@ -41,7 +41,7 @@ pub enum Frame {
 }
 
 // One block, judged: its refusal, and where there is none the number of words that it stores.
-#[derive(Drop)]
+#[derive(Clone, Copy)]
 pub struct Judged {
     pub refusal: Refusal,
     pub words: usize,

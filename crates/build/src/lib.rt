@@ -26,7 +26,7 @@ const FRONT_SIZE: usize = header::HEADER_SIZE + (FRAME_SIZE + tables::TABLES_SIZ
 
 // What building answers: its refusal; the image's length, also where the buffer is too short for it; and the words of RAM that the
 // image needs.
-#[derive(Drop)]
+#[derive(Clone, Copy)]
 pub struct Building {
     pub refusal: Refusal,
     pub length: usize,

@@ -28,7 +28,7 @@ fn answer_room() -> [u32; 279620]
 }
 
 // A limit that is given, or that what is given is none.
-#[derive(Drop)]
+#[derive(Clone, Copy)]
 enum Limit {
     Is(usize),
     Not,

@@ -21,7 +21,7 @@ use places::{Console, FLIP_ENTRIES, LENT_LIMIT, Locutus, PARAGRAPH_SIZE, PARAGRA
 use switches::{Register, Request};
 
 // The tables as loaded, the tables as they act now, the flip table, how many paragraphs can be read now, and the accelerators.
-#[derive(Drop)]
+#[derive(Clone, Copy)]
 pub struct Cartridge {
     pub initial_mapping: [u16; PARAGRAPHS],
     pub initial_permissions: [u8; PARAGRAPHS],
@@ -33,14 +33,14 @@ pub struct Cartridge {
 }
 
 // What a write leaves of the cartridge, and how many active mapping entries it assigned.
-#[derive(Drop)]
+#[derive(Clone, Copy)]
 pub struct Written {
     pub cartridge: Cartridge,
     pub assigned: u8,
 }
 
 // What a permission byte allows.
-#[derive(Drop)]
+#[derive(Clone, Copy)]
 pub struct Rights {
     pub read: bool,
     pub write: bool,
@@ -48,14 +48,14 @@ pub struct Rights {
 }
 
 // A word of the RAM as the console reaches it: where it is, and what may be done with it.
-#[derive(Drop)]
+#[derive(Clone, Copy)]
 pub struct Cell {
     pub location: Locutus,
     pub rights: Rights,
 }
 
 // Who answers a read: nobody, a register that holds this word, or a word of the RAM.
-#[derive(Drop)]
+#[derive(Clone, Copy)]
 pub enum Source {
     Nobody,
     Latched(u16),
@@ -63,7 +63,7 @@ pub enum Source {
 }
 
 // What a read gets.
-#[derive(Drop)]
+#[derive(Clone, Copy)]
 pub enum Answer {
     Word(u16),
     Silence,
@@ -71,7 +71,7 @@ pub enum Answer {
 
 // Who takes a write: the accelerators' registers; the half-page with this first paragraph, which is switched to this paragraph number; the flip entry of this
 // number; or a word of the RAM.
-#[derive(Drop)]
+#[derive(Clone, Copy)]
 pub enum Taker {
     Accelerators,
     Bank(u8, u8),

@@ -3,7 +3,7 @@ use crate::fill::put;
 use crate::record::front;
 
 // How many bytes it has, and whether it was there and read to its end.
-#[derive(Drop)]
+#[derive(Clone, Copy)]
 pub struct FileRead {
     pub n: usize,
     pub whole: bool,

@@ -3,7 +3,7 @@ use crate::record::{after, get16, get32};
 use basics::{byte_at, least};
 
 // How many bytes or words were made, and the place of the record's next field.
-#[derive(Drop)]
+#[derive(Clone, Copy)]
 pub struct Taken {
     pub n: usize,
     pub next: usize,

@@ -22,7 +22,7 @@ pub struct Reading {
 
 // What the lines so far say: the number of the last, the section they end in, the first line outside the grammar, the line of
 // the first entry past the limit (each 0 where there is none), and the entries.
-#[derive(Drop)]
+#[derive(Clone, Copy)]
 struct Scan {
     line: u32,
     section: Section,

@@ -18,7 +18,7 @@ use places::{
 pub const LOCUTUS_PAGES: usize = LOCUTUS_PARAGRAPHS / PAGE_PARAGRAPHS;
 
 // What a paragraph shows: nobody answers, the accelerators, pages, or words that no flip changes, by what the console may do with them.
-#[derive(Drop)]
+#[derive(Clone, Copy)]
 pub enum Shown {
     Silent,
     Accelerators,
@@ -29,7 +29,7 @@ pub enum Shown {
 }
 
 // What a flip entry shows in its chapter: nothing, where it does not act; silence; or a page of the cartridge's RAM, by its number there.
-#[derive(Drop)]
+#[derive(Clone, Copy)]
 pub enum Leaf {
     Idle,
     Silent,

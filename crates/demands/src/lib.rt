@@ -24,7 +24,7 @@ fn load_front(buffer: &[u8], long: usize, ram: &mut [u16], flash: &[u16]) -> Loa
 }
 
 // What `build` answers, and what `load` answers of the image at its buffer's front.
-#[derive(Drop)]
+#[derive(Clone, Copy)]
 pub struct Title {
     pub building: Building,
     pub loading: Loading,
@@ -57,7 +57,7 @@ pub fn press_and_load(
 }
 
 // What `write` answers, and what `load` answers of the image at its buffer's front.
-#[derive(Drop)]
+#[derive(Clone, Copy)]
 pub struct Copy {
     pub writing: Writing,
     pub loading: Loading,

@@ -11,7 +11,7 @@ use unbuild::Unbuilding;
 
 // Where a text stands: bytes `from` up to `to` of no file, 0, of the label, 1, or of the image, 2.
 #[repr(C)]
-#[derive(Drop)]
+#[derive(Clone, Copy)]
 pub struct FoundText {
     pub number: u32,
     pub file: u32,
@@ -59,7 +59,7 @@ pub extern "C" fn luigi_find(label: &[u8], image: &[u8], tag: u8, n: usize) -> F
 
 // What a salvage answers; it stopped at `stop` where `stopped` is 1.
 #[repr(C)]
-#[derive(Drop)]
+#[derive(Clone, Copy)]
 pub struct Salvaged {
     pub number: u32,
     pub stopped: u32,
@@ -113,7 +113,7 @@ pub extern "C" fn luigi_drops(image: &[u8], places: &mut [usize]) -> usize
 
 // What going back answers: its refusal, and the lengths of BIN and CFG.
 #[repr(C)]
-#[derive(Drop)]
+#[derive(Clone, Copy)]
 pub struct Unbuilt {
     pub number: u32,
     pub place: usize,

@@ -120,7 +120,7 @@ pub extern "C" fn luigi_load(image: &[u8], ram: &mut [u16], flash: &[u16]) -> Lo
 
 // What building answers, laid out as C's.
 #[repr(C)]
-#[derive(Drop)]
+#[derive(Clone, Copy)]
 pub struct Built {
     pub number: u32,
     pub needed: u32,

@@ -10,7 +10,7 @@ use save::Writing;
 
 // What the writer answers: its refusal, and the image's length.
 #[repr(C)]
-#[derive(Drop)]
+#[derive(Clone, Copy)]
 pub struct WrittenImage {
     pub number: u32,
     pub place: usize,

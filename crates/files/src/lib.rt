@@ -20,7 +20,7 @@ pub use writing::{Stops, write_argument, write_arguments, write_file};
 pub const INPUTS: usize = 4;
 
 // Why a program stopped; Nothing, where it did not.
-#[derive(Drop)]
+#[derive(Clone, Copy)]
 pub enum Why {
     Nothing,
     Argument,
@@ -40,14 +40,14 @@ pub enum Why {
 }
 
 // A stop: why, and the system's number for it; 0 where the system has none.
-#[derive(Drop)]
+#[derive(Clone, Copy)]
 pub struct Stop {
     pub why: Why,
     pub error: u32,
 }
 
 // What the system tells of a file: error is 0 where it tells something. A file is known by its number and its device.
-#[derive(Drop)]
+#[derive(Clone, Copy)]
 pub struct Seen {
     pub error: u32,
     pub device: u64,

@@ -7,7 +7,7 @@ ghost use Rattle.files.specs.Stops.{stop_of};
 use crate::{Seen, Stop, Why, saying, sight};
 
 // What one read brought.
-#[derive(Drop)]
+#[derive(Clone, Copy)]
 pub enum Brought {
     Bytes(usize),
     End,
@@ -15,14 +15,14 @@ pub enum Brought {
 }
 
 // How the reading of a file ended.
-#[derive(Drop)]
+#[derive(Clone, Copy)]
 pub enum Ending {
     Whole,
     Longer,
     Failed(u32),
 }
 
-#[derive(Drop)]
+#[derive(Clone, Copy)]
 pub struct Taken {
     pub ending: Ending,
     pub n: usize,
@@ -30,7 +30,7 @@ pub struct Taken {
 
 // What was read of a file: why it was not, or how many bytes stand at the buffer's front, and which file it was. Of a longer one
 // the buffer is full.
-#[derive(Drop)]
+#[derive(Clone, Copy)]
 pub struct Reading {
     pub stop: Stop,
     pub n: usize,

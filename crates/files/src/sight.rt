@@ -17,7 +17,7 @@ const EIO: u32 = 5;
 const ENAMETOOLONG: u32 = 36;
 
 // What C's call answers, and what the desk asks of the file.
-#[derive(Drop)]
+#[derive(Clone, Copy)]
 pub struct Told {
     pub status: i32,
     pub device: u64,

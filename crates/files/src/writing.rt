@@ -15,7 +15,7 @@ const RIGHTS: u32 = 4096;
 const SAME_OWNER: u32 = 4294967295;
 
 // A part file: its descriptor, and how many bytes its name has; or why there is none.
-#[derive(Drop)]
+#[derive(Clone, Copy)]
 struct Made {
     stop: Stop,
     fd: i32,
@@ -253,7 +253,7 @@ pub fn write_argument(i: usize, bytes: &[u8], inputs: [Seen; INPUTS]) -> Stop {
 }
 
 // What stopped the first file of two, and the second.
-#[derive(Drop)]
+#[derive(Clone, Copy)]
 pub struct Stops {
     pub first: Stop,
     pub second: Stop,

@@ -50,7 +50,7 @@ pub const JF_RDKEY: u16 = 0xDEC0;
 pub const JF_ERKEY: u16 = 0xBEEF;
 
 // What a write asks of the flash: a row into RAM at an address, RAM at an address into a row, a row's sector erased, or nothing.
-#[derive(Drop)]
+#[derive(Clone, Copy)]
 pub enum Command {
     Read(u16, Console),
     Write(u16, Console),
@@ -59,7 +59,7 @@ pub enum Command {
 }
 
 // The flash as the console sees it: its size in sectors, where 0 is none, and the address and row registers as last written.
-#[derive(Drop)]
+#[derive(Clone, Copy)]
 pub struct Saves {
     pub sectors: u16,
     pub addr: u16,
@@ -67,7 +67,7 @@ pub struct Saves {
 }
 
 // What a read of a register gets.
-#[derive(Drop)]
+#[derive(Clone, Copy)]
 pub enum Heard {
     Word(u16),
     Silence,

@@ -11,7 +11,7 @@ use lines::{Entry, Width};
 use places::{BinWord, Console, Page};
 
 // The section that a line stands in.
-#[derive(Drop)]
+#[derive(Clone, Copy)]
 pub enum Section {
     Nowhere,
     Mapping,
@@ -19,7 +19,7 @@ pub enum Section {
 }
 
 // What a line says: nothing, a section's name, an entry; or it is outside the grammar.
-#[derive(Drop)]
+#[derive(Clone, Copy)]
 pub enum Says {
     Blank,
     Heading(Section),
@@ -28,7 +28,7 @@ pub enum Says {
 }
 
 // What a byte does to a line's words.
-#[derive(Drop)]
+#[derive(Clone, Copy)]
 enum Kind {
     Blank,
     Sign,
@@ -37,14 +37,14 @@ enum Kind {
 }
 
 // The number that a word says, or that it says none.
-#[derive(Drop)]
+#[derive(Clone, Copy)]
 enum Number {
     Is(u32),
     Not,
 }
 
 // The bytes of a line from start to end; none where the two are equal.
-#[derive(Drop)]
+#[derive(Clone, Copy)]
 struct Word {
     start: usize,
     end: usize,

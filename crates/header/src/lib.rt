@@ -35,7 +35,7 @@ pub const FLAGS_SIZE: usize = UID_AT - FLAGS_AT;
 pub const UID_SIZE: usize = RESERVED_AT - UID_AT;
 
 // What an image says of the TutorVision: one of the four settings of a compatibility field, or nothing.
-#[derive(Drop)]
+#[derive(Clone, Copy)]
 pub enum TutorVision {
     Incompatible,
     Tolerates,
@@ -45,7 +45,7 @@ pub enum TutorVision {
 }
 
 // The compatibility fields, two bits each; and what the last of them says.
-#[derive(Drop)]
+#[derive(Clone, Copy)]
 pub struct Compat {
     pub intellivoice: u8,
     pub ecs: u8,

@@ -22,7 +22,7 @@ use places::{Locutus, PARAGRAPH_SIZE, lent_words};
 use stores::store_block;
 
 // The forms of a data block: 8-bit, 10-bit, 16-bit, and what a start byte may not say.
-#[derive(Drop)]
+#[derive(Clone, Copy)]
 pub enum Form {
     Bytes,
     Decles,
@@ -31,7 +31,7 @@ pub enum Form {
 }
 
 // What stands at a place of a payload: its end, a data block that is cut or reserved, or one of so many words, with the place of the next.
-#[derive(Drop)]
+#[derive(Clone, Copy)]
 enum Block {
     End,
     Wrong,
@@ -39,7 +39,7 @@ enum Block {
 }
 
 // A hunk that is whole, with its number of words, or the byte where it breaks.
-#[derive(Drop)]
+#[derive(Clone, Copy)]
 pub enum Checked {
     Whole(usize),
     Broken(usize),

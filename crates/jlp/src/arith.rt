@@ -5,7 +5,7 @@ ghost use Rattle.jlp.specs.Arith.{word_values, long_values, number_of, word_of, 
 use crate::Results;
 
 // A number by its sign and its size.
-#[derive(Drop)]
+#[derive(Clone, Copy)]
 pub(crate) struct Number {
     negative: bool,
     size: u16,

@@ -49,14 +49,14 @@ pub const DATA_AT: u16 = 0x9FFC;
 pub const CRC_AT: u16 = 0x9FFD;
 
 // The two result words: a product's low and high word, or quotient and remainder.
-#[derive(Drop)]
+#[derive(Clone, Copy)]
 pub struct Results {
     pub first: u16,
     pub second: u16,
 }
 
 // The header's JLP field; whether the accelerators are on; the operands as last written; the results; the CRC; the flash's registers.
-#[derive(Drop)]
+#[derive(Clone, Copy)]
 pub struct Jlp {
     pub field: u8,
     pub on: bool,

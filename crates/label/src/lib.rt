@@ -9,7 +9,7 @@ use basics::Refusal;
 use blocks::{FRAME_SIZE, PAYLOAD_LIMIT};
 
 // What writing a label answers: its refusal, and the block's length, also where the buffer is too short for it.
-#[derive(Drop)]
+#[derive(Clone, Copy)]
 pub struct Writing {
     pub refusal: Refusal,
     pub length: usize,

@@ -20,7 +20,7 @@ use pour::pour;
 use survey::{Survey, survey_of};
 
 // The three tables, how many Locutus pages there are, and a mark for each covered Locutus paragraph.
-#[derive(Drop)]
+#[derive(Clone, Copy)]
 pub struct Drawing {
     pub mapping: [u16; PARAGRAPHS],
     pub permissions: [u8; PARAGRAPHS],

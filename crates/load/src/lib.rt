@@ -20,7 +20,7 @@ use places::PARAGRAPHS;
 use sums::TABLE_ENTRIES;
 
 // A step of the checking pass: the image ends, a refusal, or the next block's place, the tables block's, and a number of words.
-#[derive(Drop)]
+#[derive(Clone, Copy)]
 pub enum Step {
     Ends,
     No(Refusal),
@@ -28,14 +28,14 @@ pub enum Step {
 }
 
 // All blocks, judged: refused, or the place of the tables block, the number of blocks and of words.
-#[derive(Drop)]
+#[derive(Clone, Copy)]
 pub enum Verdict {
     Refused(Refusal),
     Loads(usize, usize, usize),
 }
 
 // What a load answers.
-#[derive(Drop)]
+#[derive(Clone, Copy)]
 pub struct Loading {
     pub refusal: Refusal,
     pub cartridge: Cartridge,

@@ -13,7 +13,7 @@ use blocks::{FIRST_BLOCK, FRAME_SIZE, Frame};
 use metadata::Sought;
 
 // What a lookup finds: none, a text's place in the label or in the image, or a refusal.
-#[derive(Drop)]
+#[derive(Clone, Copy)]
 pub enum Found {
     Nothing,
     Label(usize, usize),

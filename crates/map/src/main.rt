@@ -67,7 +67,7 @@ fn show_chapters(c: Cartridge) {
 }
 
 // What a flip entry shows, in two bytes: the number of a page of the cartridge's RAM, dots for silence, strokes where the entry does not act.
-#[derive(Drop)]
+#[derive(Clone, Copy)]
 struct Pair(u8, u8);
 
 fn pair_of(l: Leaf) -> Pair {

@@ -21,7 +21,7 @@ pub const NAME_TAG: u8 = 0x00;
 pub const SHORT_NAME_TAG: u8 = 0x01;
 
 // What stands at a place of a payload: its end, a sub-record that is cut, or one with its tag, and where its text starts and ends.
-#[derive(Drop)]
+#[derive(Clone, Copy)]
 pub enum Stands {
     End,
     Cut,
@@ -29,27 +29,27 @@ pub enum Stands {
 }
 
 // The n-th of some texts: where it starts and ends, or how many are still to be passed where they are fewer.
-#[derive(Drop)]
+#[derive(Clone, Copy)]
 pub enum Sought {
     Left(usize),
     At(usize, usize),
 }
 
 // A field of a date that may not be given.
-#[derive(Drop)]
+#[derive(Clone, Copy)]
 pub enum Given {
     Not,
     Is(u8),
 }
 
 // A signed number of hours, 128 at most.
-#[derive(Drop)]
+#[derive(Clone, Copy)]
 pub struct Hours {
     pub negative: bool,
     pub size: u8,
 }
 
-#[derive(Drop)]
+#[derive(Clone, Copy)]
 pub struct ReleaseDate {
     pub year: u16,
     pub month: Given,

@@ -45,7 +45,7 @@ fn image_room() -> [u8; IMAGE_LIMIT]
 }
 
 // What the desk reads of a build.
-#[derive(Drop)]
+#[derive(Clone, Copy)]
 struct Answer {
     number: u64,
     place: u64,

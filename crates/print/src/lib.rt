@@ -21,7 +21,7 @@ pub struct Text {
 }
 
 // The last five hex digits of a number, the highest first.
-#[derive(Drop)]
+#[derive(Clone, Copy)]
 pub struct Digits {
     pub a: u8,
     pub b: u8,

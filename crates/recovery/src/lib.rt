@@ -27,14 +27,14 @@ use sums::TABLE_ENTRIES;
 const NOTES: usize = IMAGE_LIMIT / FRAME_SIZE;
 
 // Where a walk stopped: nowhere before the image's end, or at a block that is cut.
-#[derive(Drop)]
+#[derive(Clone, Copy)]
 pub enum Stopped {
     Nowhere,
     At(usize),
 }
 
 // What a salvage answers: its refusal, the length of what is written, the blocks kept and left out, and where it stopped.
-#[derive(Drop)]
+#[derive(Clone, Copy)]
 pub struct Salvaging {
     pub refusal: Refusal,
     pub length: usize,
@@ -45,7 +45,7 @@ pub struct Salvaging {
 
 // A step of the surveying pass: it stops, a refusal, a block's type and the next place where it is kept, or the next place where it is left
 // out.
-#[derive(Drop)]
+#[derive(Clone, Copy)]
 pub enum Step {
     Stops(Stopped),
     No(Refusal),
@@ -54,7 +54,7 @@ pub enum Step {
 }
 
 // What the survey found: the blocks kept and left out, the bytes of header and kept blocks, and where it stopped.
-#[derive(Drop)]
+#[derive(Clone, Copy)]
 pub struct Found {
     pub kept: usize,
     pub dropped: usize,
@@ -63,7 +63,7 @@ pub struct Found {
 }
 
 // All blocks, surveyed.
-#[derive(Drop)]
+#[derive(Clone, Copy)]
 pub enum Verdict {
     Refused(Refusal),
     Goes(Found),

@@ -12,7 +12,7 @@ use places::CARD_LIMIT;
 pub use program::card;
 
 // What is printed of a load.
-#[derive(Drop)]
+#[derive(Clone, Copy)]
 pub struct Report {
     pub refusal: Refusal,
     pub blocks: usize,

@@ -22,7 +22,7 @@ fn blank_ram() -> [u16; CARD_WORDS]
 }
 
 // What is printed of a load.
-#[derive(Drop)]
+#[derive(Clone, Copy)]
 struct Shown {
     number: u64,
     place: u64,

@@ -27,7 +27,7 @@ fn places_room() -> [usize; 3072]
 }
 
 // What is printed of a salvage.
-#[derive(Drop)]
+#[derive(Clone, Copy)]
 struct Shown {
     number: u64,
     place: u64,

@@ -21,7 +21,7 @@ use places::{LOCUTUS_PARAGRAPHS, Locutus, PARAGRAPH_SIZE, PARAGRAPHS};
 use sums::TABLE_ENTRIES;
 
 // What writing answers: its refusal, and the image's length, also where the buffer is too short for it.
-#[derive(Drop)]
+#[derive(Clone, Copy)]
 pub struct Writing {
     pub refusal: Refusal,
     pub length: usize,

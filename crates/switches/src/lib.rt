@@ -12,7 +12,7 @@ use places::{CHAPTER_PAGES, CHAPTER_PARAGRAPHS, Console, FLIP_ENTRIES, PARAGRAPH
 pub const HALF_PAGE_PARAGRAPHS: usize = 8;
 
 // What a write asks of the flip table: an entry, by its number, or nothing.
-#[derive(Drop)]
+#[derive(Clone, Copy)]
 pub enum Request {
     Entry(u8),
     Nothing,
@@ -105,7 +105,7 @@ pub fn flip(
 }
 
 // The bankswitch register at an address: that of the half-page with this first paragraph, or none.
-#[derive(Drop)]
+#[derive(Clone, Copy)]
 pub enum Register {
     HalfPage(u8),
     Elsewhere,

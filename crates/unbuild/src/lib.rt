@@ -23,7 +23,7 @@ use rebuild::{Retraced, retrace_image};
 use source::{refuse, write_source};
 
 // What going back answers: its refusal, and the lengths of the BIN and of the CFG, also where a buffer is too short for one of them.
-#[derive(Drop)]
+#[derive(Clone, Copy)]
 pub struct Unbuilding {
     pub refusal: Refusal,
     pub bin: usize,

@@ -31,7 +31,7 @@ fn cfg_room() -> [u8; CFG_LIMIT]
 }
 
 // What the desk reads of an answer.
-#[derive(Drop)]
+#[derive(Clone, Copy)]
 struct Answer {
     number: u64,
     place: u64,

@@ -52,7 +52,7 @@ pub fn readable_ends(rec: &[u8], at: usize, k: usize, c: Cartridge) -> bool {
 }
 
 // A load's answer, how many words of RAM it was lent, and the place of the record's next field.
-#[derive(Drop)]
+#[derive(Clone, Copy)]
 struct Loaded {
     loading: Loading,
     words: usize,
@@ -105,7 +105,7 @@ pub fn load_agrees(
 
 // What a record lends: the words of its RAM, all to the load, and some to the accesses; the words of its flash, how many
 // words of flash the load is lent, and how many of its own the accesses. And the place of the record's next field.
-#[derive(Drop)]
+#[derive(Clone, Copy)]
 struct Lent {
     ram: usize,
     ram_then: usize,
@@ -150,7 +150,7 @@ fn take_lent(
 
 // A load and its accesses: the cartridge then, whether it loaded and every answer was the record's, how many words of RAM
 // and of flash the record has, and the place of its next field.
-#[derive(Drop)]
+#[derive(Clone, Copy)]
 pub struct Ran {
     pub cartridge: Cartridge,
     pub good: bool,

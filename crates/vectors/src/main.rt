@@ -19,7 +19,7 @@ mod play;
 mod titles;
 mod writes;
 
-#[derive(Drop)]
+#[derive(Clone, Copy)]
 pub enum Family {
     Sums,
     Load,

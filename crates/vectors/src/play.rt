@@ -4,7 +4,7 @@ use cases::record::{after, get8, get16};
 use places::Console;
 
 // The machine after some accesses, and whether every answer was the record's.
-#[derive(Drop)]
+#[derive(Clone, Copy)]
 pub struct Played {
     pub cartridge: Cartridge,
     pub good: bool,

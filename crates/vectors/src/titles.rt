@@ -13,7 +13,7 @@ use sums::TABLE_ENTRIES;
 const CFG_ROOM: usize = 20480;
 
 // How many bytes the BIN and the CFG have, and the place of the record's next field.
-#[derive(Drop)]
+#[derive(Clone, Copy)]
 struct Title {
     bin: usize,
     cfg: usize,
@@ -31,7 +31,7 @@ fn take_title(rec: &[u8], bin: &mut [u8], cfg: &mut [u8]) -> Title {
 }
 
 // The same with a label, how many bytes it has, and the place behind it.
-#[derive(Drop)]
+#[derive(Clone, Copy)]
 struct Labelled {
     title: Title,
     label: usize,
@@ -107,7 +107,7 @@ pub fn build_agrees(
 }
 
 // A title built: whether it was, the image's length, and the place of the record's next field.
-#[derive(Drop)]
+#[derive(Clone, Copy)]
 struct Pressed {
     good: bool,
     length: usize,

@@ -17,7 +17,7 @@ mod names;
 mod runs;
 mod salvages;
 
-#[derive(Drop)]
+#[derive(Clone, Copy)]
 pub enum Family {
     Names,
     Dates,

@@ -10,7 +10,7 @@ use metadata::{Given, Hours, ReleaseDate, Stands};
 use sums::TABLE_ENTRIES;
 
 // The place behind the sub-record at p, and how many were passed.
-#[derive(Drop)]
+#[derive(Clone, Copy)]
 struct Passed {
     next: usize,
     records: usize,
@@ -43,7 +43,7 @@ fn records_of(s: &[u8]) -> usize {
 }
 
 // How far an image's blocks were read: the next block's place, and the number and the sum of the sub-records so far.
-#[derive(Drop)]
+#[derive(Clone, Copy)]
 struct Told {
     over: bool,
     next: usize,

@@ -15,7 +15,7 @@ const FLASH_ROOM: usize = 4096;
 const ANSWERS: usize = 512;
 
 // How many words the RAM and the flash of a record have, how many bytes its list, and the place of its next field.
-#[derive(Drop)]
+#[derive(Clone, Copy)]
 struct Given {
     ram: usize,
     flash: usize,
@@ -57,7 +57,7 @@ fn run_list(
 }
 
 // A run, and whether its image loaded.
-#[derive(Drop)]
+#[derive(Clone, Copy)]
 struct Done {
     ran: Ran,
     loaded: bool,
