@@ -13,7 +13,7 @@ use places::{BinWord, CFG_LIMIT, Console, LINE_LIMIT};
 use text::Reader;
 
 // What reading a CFG answers: its refusal, and all else zero; or none, and its entries.
-#[derive(Drop)]
+#[derive(Clone, Copy)]
 pub struct Reading {
     pub refusal: Refusal,
     pub count: u32,

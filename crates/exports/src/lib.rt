@@ -50,7 +50,7 @@ pub extern "C" fn luigi_crc32(s: &[u8]) -> u32
 
 // What a load answers, laid out as C's; the compatibility fields in 01's order, the last of them 4 where nothing is stated.
 #[repr(C)]
-#[derive(Drop)]
+#[derive(Clone, Copy)]
 pub struct Loaded {
     pub number: u32,
     pub place: usize,
@@ -151,7 +151,7 @@ pub extern "C" fn luigi_build(bin: &[u8], cfg: &[u8], label: &[u8], out: &mut [u
 
 // The active tables, how many paragraphs can be read, and the accelerators, laid out as C's.
 #[repr(C)]
-#[derive(Drop)]
+#[derive(Clone, Copy)]
 pub struct Active {
     pub mapping: [u16; PARAGRAPHS],
     pub permissions: [u8; PARAGRAPHS],

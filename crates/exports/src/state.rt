@@ -16,7 +16,7 @@ use registers::{ACCELERATOR_WORDS, jlp_from, words_of};
 
 // The tables as loaded, the tables as they act now, the flip table, how many paragraphs can be read now, and the accelerators' words.
 #[repr(C)]
-#[derive(Drop)]
+#[derive(Clone, Copy)]
 pub struct State {
     pub initial_mapping: [u16; PARAGRAPHS],
     pub initial_permissions: [u8; PARAGRAPHS],
@@ -94,7 +94,7 @@ pub extern "C" fn luigi_read_by_value(state: State, ram: &[u16], at: u16) -> u32
 
 // The state that a write leaves, and how many mapping entries it has assigned.
 #[repr(C)]
-#[derive(Drop)]
+#[derive(Clone, Copy)]
 pub struct WrittenState {
     pub state: State,
     pub assigned: u8,
@@ -167,7 +167,7 @@ pub extern "C" fn luigi_reset_by_value(state: State) -> State
 
 // What running a list answers: its refusal, the lines run, how many answers there are, and the state that the run leaves.
 #[repr(C)]
-#[derive(Drop)]
+#[derive(Clone, Copy)]
 pub struct RanList {
     pub number: u32,
     pub place: usize,

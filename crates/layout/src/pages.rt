@@ -5,7 +5,7 @@ ghost use Rattle.layout.specs.Code.Survey.{numbered_of};
 use places::SLOTS;
 
 // The Locutus page of each slot in use, the slot of each page, and how many pages there are.
-#[derive(Drop)]
+#[derive(Clone, Copy)]
 pub(crate) struct Numbered {
     pub page: [u16; SLOTS],
     pub slot: [u16; SLOTS],

@@ -15,7 +15,7 @@ use places::{
     CELLS, CHAPTER_PAGES, CHAPTER_PARAGRAPHS, CHAPTERS, LAYERS, LINE_LIMIT, PARAGRAPHS, SLOTS,
 };
 
-#[derive(Drop)]
+#[derive(Clone, Copy)]
 pub(crate) struct Survey {
     pub cells: [u8; CELLS],
     pub kinds: [u8; PARAGRAPHS],

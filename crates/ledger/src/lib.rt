@@ -18,14 +18,14 @@ use lines::{Entry, Line};
 use places::{BinWord, Console, FLIP_ENTRIES, LINE_LIMIT, PARAGRAPHS};
 
 // Lines at the front of an array, how many there are, and how many of them are of [mapping]; those past the last place are counted.
-#[derive(Drop)]
+#[derive(Clone, Copy)]
 pub struct Listing {
     pub mapping: usize,
     pub count: usize,
     pub lines: [Line; LINE_LIMIT],
 }
 
-#[derive(Drop)]
+#[derive(Clone, Copy)]
 struct Found {
     count: usize,
     lines: [Line; LINE_LIMIT],

@@ -12,7 +12,7 @@ use lines::{Entry, Line};
 use places::{CHAPTER_PAGES, CHAPTER_SIZE, Console, FLIP_ENTRIES, PARAGRAPH_SIZE, PARAGRAPHS};
 
 // The numbers of the lines that own each paragraph, and each page of each chapter; 0 where nobody does.
-#[derive(Drop)]
+#[derive(Clone, Copy)]
 pub struct Owners {
     pub paragraphs: [u32; PARAGRAPHS],
     pub pages: [u32; FLIP_ENTRIES],

@@ -14,7 +14,7 @@ use lines::{Entry, Width};
 pub const TEXT_SIZE: usize = 32;
 
 // A line: so many bytes, and zeros behind them.
-#[derive(Drop)]
+#[derive(Clone, Copy)]
 pub struct Text {
     pub bytes: [u8; TEXT_SIZE],
     pub length: usize,

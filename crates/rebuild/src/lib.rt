@@ -21,7 +21,7 @@ use places::{FLIP_ENTRIES, LENT_LIMIT, LINE_LIMIT, LOCUTUS_PARAGRAPHS, PAGE_SIZE
 use retrace::{Sketch, marks_of, plan_behind};
 
 // The plan behind an image, its canonical lines, and whether they build the image's tables and named words.
-#[derive(Drop)]
+#[derive(Clone, Copy)]
 pub struct Retraced {
     pub sketch: Sketch,
     pub listing: Listing,

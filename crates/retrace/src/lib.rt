@@ -17,7 +17,7 @@ use places::{
 use row::{Shown, kind_of, page_of, row_at, size_of};
 
 // A plan: the kind of each console paragraph, and whether chapter n / 16 has page n % 16.
-#[derive(Drop)]
+#[derive(Clone, Copy)]
 pub struct Sketch {
     pub kinds: [u8; PARAGRAPHS],
     pub pages: [bool; FLIP_ENTRIES],

@@ -35,7 +35,7 @@ fn line_fault(words: u32, n: usize, lines: [Line; LINE_LIMIT]) -> Refusal
 }
 
 // What rule 27 finds: its refusal, the earlier line that the refused one meets, and who owns what before that one.
-#[derive(Drop)]
+#[derive(Clone, Copy)]
 struct Clash {
     refusal: Refusal,
     with: u32,

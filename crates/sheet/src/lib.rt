@@ -14,7 +14,7 @@ use places::LINE_LIMIT;
 pub const SHEET_SIZE: usize = 4096;
 
 // A written CFG: so many bytes, and zeros behind them.
-#[derive(Drop)]
+#[derive(Clone, Copy)]
 pub struct Sheet {
     pub bytes: [u8; SHEET_SIZE],
     pub length: usize,

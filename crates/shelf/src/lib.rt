@@ -17,7 +17,7 @@ const LAST_SHOWN: u8 = 0x7E;
 const WIDEST: usize = 4;
 
 // What one byte is shown by: the first n of four.
-#[derive(Drop)]
+#[derive(Clone, Copy)]
 struct Signs {
     n: usize,
     bytes: [u8; 4],

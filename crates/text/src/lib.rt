@@ -8,7 +8,7 @@ ghost use Rattle.text.specs.Spelling.{same, digit_of, upper_digit};
 
 // A reader: a text, and the place in it where the next line starts. A loop that reads line by line holds one, tests it and
 // moves it on to `next_line`.
-#[derive(Drop)]
+#[derive(Clone, Copy)]
 pub struct Reader<'a> {
     pub text: &'a [u8],
     pub at: usize,

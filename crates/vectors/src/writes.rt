@@ -21,7 +21,7 @@ fn marks_of(bits: &[u8]) -> [bool; LOCUTUS_PARAGRAPHS] {
 }
 
 // The tables and the marks of a record, how many words its RAM has, which stands between them, and the place of its buffer.
-#[derive(Drop)]
+#[derive(Clone, Copy)]
 struct Given {
     cartridge: Cartridge,
     marks: [bool; LOCUTUS_PARAGRAPHS],
