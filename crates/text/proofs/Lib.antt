@@ -1,4 +1,3 @@
 pub mod Tests
 pub mod Spelling
-pub mod Readers
 pub mod Same

@@ -1,10 +1,10 @@
 -- The lines of a text, one by one: where each ends, and that the next starts behind it.
-use Rattle.std.specs.Prelude.{ℕ, zero, suc, ◌+◌, ◌-◌, ◌<◌, ◌≤◌, List, [], ◌∷◌, ◌≡◌, refl, Bool, true, false, cond, eqb, ltb, length, get_or, drop, take}
-use Rattle.std.proofs.Common.{ap, ◌∙◌, sym, arith, add-one, drop_of_length-le, length-drop, drop-cons, drop-drop, get_or-drop, eq-eqb, ne_eqb, eqb-true, ltb-true, ltb-false}
+use Rattle.std.specs.Prelude.{ℕ, suc, ◌+◌, ◌-◌, ◌<◌, ◌≤◌, List, [], ◌∷◌, ◌≡◌, refl, Bool, true, false, cond, eqb, ltb, length, get_or, drop, take}
+use Rattle.std.proofs.Common.{ap, ◌∙◌, arith, drop_of_length-le, length-drop, drop-cons, drop-drop, get_or-drop, eq-eqb, ne_eqb, eqb-true, ltb-true, ltb-false}
 use Rattle.std.proofs.Math.ListN.{get_or-eq_default}
 use Rattle.std.proofs.lemmas.Bool.{eqb-false}
 use Rattle.basics.specs.Lists.{part}
-use Rattle.basics.specs.Laws.Tests.{cases, and_left, and_right, true_is_not_false, or_false_left}
+use Rattle.basics.specs.Laws.Tests.{cases, and_right, true_is_not_false}
 use Rattle.text.specs.Bytes.{lf, cr, cr_lf, until}
 use Rattle.text.specs.Lines.{ends, line_end, end_length, past_end, next_line, lines_of, on_first}
 use Rattle.text.specs.Laws.Bytes.{until_most, until_passes}
