@@ -1,5 +1,5 @@
 -- Worked examples: texts as a label shows them.
-use Rattle.std.specs.Prelude.{ℕ, ◌≡◌, refl, List, [], ◌∷◌}
+use Rattle.std.specs.Prelude.{◌≡◌, refl, [], ◌∷◌}
 use Rattle.basics.specs.Lists.{joined}
 use Rattle.text.specs.Spelling.{upper_digit}
 use Rattle.shelf.specs.Escaped.{escaped_byte, escaped}
