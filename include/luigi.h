@@ -1,5 +1,4 @@
-/* The proved functions of crates/exports, as a C program calls them. 'From C' in docs/DESK.md names the commands that make
-   the library.
+/* The proved functions of crates/exports, as a C program calls them. README.md names the commands that make the library.
 
    Buffers. The caller owns every buffer. A function reads and writes what it is lent while it runs: it keeps no pointer, holds nothing from call to
    call, and of the C library uses memcpy, memmove and memset alone. What is lent as const is left as found. A length counts elements. A pointer is
@@ -8,7 +7,7 @@
    Answers. A struct is answered through the pointer that goes first, and the pointer comes back. That is how C on x86-64 returns one of more than 16
    bytes, unseen; written out it is the same on every machine. A struct that a function takes is passed by value, as C passes it.
 
-   Refusals. `number` is 0 where nothing is refused. Any other is a refusal, by the numbers and with the place of the table in docs/DESK.md. It answers
+   Refusals. `number` is 0 where nothing is refused. Any other is a refusal, by the numbers and with the place of the table in README.md. It answers
    zero in all else but what stands beside the function, and leaves every lent buffer as it was, word for word.
 
    Stack. luigi_unbuild takes some 2.2 MiB, luigi_build some 1.1 MiB, luigi_salvage some 0.3 MiB, every other less than 64 KiB. */

@@ -19,7 +19,7 @@ Plan = tuple[Entry, ...]
 
 @dataclass
 class Sources:
-    """What W-213 answers: number and place, and both lengths (DECISIONS U8)."""
+    """What W-213 answers: number and place, and both lengths (READINGS W213-17)."""
 
     number: int = 0
     place: int = 0
@@ -28,7 +28,7 @@ class Sources:
 
 
 def named_words(image: bytes) -> Named:
-    """Give each word that a hunk names, with its last value (DECISIONS U7)."""
+    """Give each word that a hunk names, with its last value (READINGS W213-12)."""
     named: Named = {}
     for block in blocks_of(image):
         if block.kind == DATA_HUNK:
@@ -71,7 +71,7 @@ def chapter_plans(tables: Tables, chapter: int, first_page: int) -> Iterator[lis
 
 
 def same_chapter(one: Tables, other: Tables, chapter: int) -> bool:
-    """Tell whether two tables agree in a chapter, entry by entry (DECISIONS U7)."""
+    """Tell whether two tables agree in a chapter, entry by entry (READINGS W213-11)."""
     here = slice(16 * chapter, 16 * chapter + 16)
     rows = [(tables.mapping[here], tables.permissions[here], tables.flips[here]) for tables in (one, other)]
     return rows[0] == rows[1]
@@ -96,7 +96,7 @@ def locutus_words(lines: Sequence[Entry], kinds: Sequence[str]) -> list[int]:
 
 
 def holds_words(plan: Plan, named: Named) -> bool:
-    """Tell whether the plan covers just the named words, RAM's being 0 (DECISIONS U7)."""
+    """Tell whether the plan covers just the named words, RAM's being 0 (READINGS W213-12, W213-13)."""
     covered = locutus_words(plan, ("rom", *RAM_KINDS))
     if len(covered) != len(named) or any(word not in named for word in covered):
         return False
@@ -104,7 +104,7 @@ def holds_words(plan: Plan, named: Named) -> bool:
 
 
 def joined(plan: Plan) -> list[Entry]:
-    """Give the lines in order: plain ROM by address, PAGE lines, RAM by address (DECISIONS U2)."""
+    """Give the lines in order: plain ROM by address, PAGE lines, RAM by address (READINGS W213-4, W213-5)."""
     runs: list[Entry] = []
     for paragraph, kind in sorted(plain_kinds(plan).items()):
         last = runs[-1] if runs else None
@@ -117,7 +117,7 @@ def joined(plan: Plan) -> list[Entry]:
 
 
 def placed(lines: list[Entry]) -> list[Entry]:
-    """Give each ROM line its own BIN words, one line after the other (DECISIONS U5)."""
+    """Give each ROM line its own BIN words, one line after the other (READINGS W213-8)."""
     found, offset = [], 0
     for line in lines:
         if line.kind == "rom":
@@ -128,7 +128,7 @@ def placed(lines: list[Entry]) -> list[Entry]:
 
 
 def spell_line(line: Entry) -> str:
-    """Spell a line in 01's form (02, W-213; DECISIONS U1)."""
+    """Spell a line in 01's form (02, W-213; READINGS W213-1 to W213-3)."""
     if line.kind != "rom":
         return f"${line.lo:04X} - ${line.hi:04X} = RAM {line.kind[3:]}"
     page = "" if line.page is None else f" PAGE {line.page:X}"
@@ -143,12 +143,12 @@ def spell_cfg(lines: list[Entry]) -> bytes:
 
 
 def bin_of(lines: list[Entry], named: Named) -> bytes:
-    """Write the words of the lines, high byte first; one zero word if there are none (DECISIONS U5)."""
+    """Write the words of the lines, high byte first; one zero word if there are none (READINGS W213-8, W213-9)."""
     return be16([named[word] for word in locutus_words(lines, ("rom",))] or [0])
 
 
 def chosen(image: bytes, tables: Tables, flags: bytes) -> list[Entry]:
-    """Find the lines, plain ones rather than PAGE 0, or 31 (02, W-213; DECISIONS U4, U6, U7, U10)."""
+    """Find the lines, plain ones rather than PAGE 0, or 31 (02, W-213; READINGS W213-7, W213-10, W213-14, W213-15)."""
     named = named_words(image)
     if jlp_field(flags) == 0:
         for plan in plans(tables):
@@ -169,7 +169,7 @@ def sources_of(image: bytes) -> tuple[bytes, bytes]:
 
 
 def back(image: bytes, bin_buffer: bytearray, cfg_buffer: bytearray) -> Sources:
-    """Write BIN and CFG into both buffers, or neither (02, W-213; DECISIONS U8)."""
+    """Write BIN and CFG into both buffers, or neither (02, W-213; READINGS W213-17)."""
     try:
         bin_file, cfg = sources_of(image)
     except Refused as refused:

@@ -37,7 +37,7 @@ def check_bin(bin_file: bytes) -> None:
 
 
 def check_range(entry: Entry, bin_words: int) -> None:
-    """Ask 25 of a line (01, refusal 25; DECISIONS C14)."""
+    """Ask 25 of a line (01, refusal 25; READINGS C14)."""
     if entry.lo > entry.hi:
         raise Refused(25, entry.line)
     past = entry.hi >= bin_words or entry.address + entry.hi - entry.lo > 0xFFFF
@@ -59,7 +59,7 @@ def shape_allowed(entry: Entry) -> bool:
 
 
 def check_shape(entry: Entry) -> None:
-    """Ask 26 of a line (01, refusal 26; DECISIONS C15)."""
+    """Ask 26 of a line (01, refusal 26; READINGS C15)."""
     last = entry.address + entry.count - 1
     touches = any(entry.address <= end and first <= last for first, end in SILENT)
     if touches or not shape_allowed(entry):
@@ -75,7 +75,7 @@ def shares(entry: Entry, earlier: Entry) -> bool:
 
 
 def lines_sharing(entries: Sequence[Entry]) -> Iterator[int]:
-    """Give the lines that share with an earlier one, in order (01, refusal 27; DECISIONS C16)."""
+    """Give the lines that share with an earlier one, in order (01, refusal 27; READINGS C16)."""
     for which, entry in enumerate(entries):
         if any(shares(entry, earlier) for earlier in entries[:which]):
             yield entry.line
@@ -103,7 +103,7 @@ def paged_chapters(entries: Sequence[Entry]) -> list[int]:
 
 
 def chapters_broken(entries: Sequence[Entry]) -> Iterator[int]:
-    """Give the paged chapters whose plain lines break the rule, rising (01, refusal 28; DECISIONS C17)."""
+    """Give the paged chapters whose plain lines break the rule, rising (01, refusal 28; READINGS C17)."""
     kinds = plain_kinds(entries)
     for chapter in paged_chapters(entries):
         here = {kinds.get(paragraph) for paragraph in flippable(chapter)}
@@ -138,7 +138,7 @@ def check_pages(entries: Sequence[Entry]) -> None:
 
 
 def flip_entry(chapter: int, page: int, layout: Layout, kinds: dict[int, str]) -> int:
-    """Give the flip entry of a paged chapter's page (01, Permissions; DECISIONS B1)."""
+    """Give the flip entry of a paged chapter's page (01, Permissions; READINGS B1)."""
     number = layout.get((chapter, page))
     if number is None and kinds.get(flippable(chapter)[0]) == "rom":
         number = layout[(chapter, None)]
@@ -146,7 +146,7 @@ def flip_entry(chapter: int, page: int, layout: Layout, kinds: dict[int, str]) -
 
 
 def make_tables(entries: Sequence[Entry], layout: Layout) -> Tables:
-    """Fill the three tables (01, Permissions; DECISIONS B2)."""
+    """Fill the three tables (01, Permissions; READINGS B2)."""
     tables, kinds = Tables(), plain_kinds(entries)
     for paragraph, kind in kinds.items():
         number = layout[(paragraph >> 4, None)]
@@ -172,7 +172,7 @@ def entry_hunks(entry: Entry, layout: Layout, bin_file: bytes) -> list[tuple[int
 
 
 def checked_entries(bin_file: bytes, cfg: bytes) -> tuple[Entry, ...]:
-    """Give the entries of a title that 21 to 28 and 20 let through (01, Build order; 02, W-210; DECISIONS C13)."""
+    """Give the entries of a title that 21 to 28 and 20 let through (01, Build order; 02, W-210; READINGS C13)."""
     check_bin(bin_file)
     entries = read_cfg(cfg)
     for entry in entries:
@@ -186,7 +186,7 @@ def checked_entries(bin_file: bytes, cfg: bytes) -> tuple[Entry, ...]:
 
 @lru_cache(maxsize=2)
 def make_image(bin_file: bytes, cfg: bytes, entries: tuple[Entry, ...], label: bytes = b"") -> bytes:
-    """Compose the image of checked entries (01, Header; DECISIONS B3, B6); kept, for the length is asked first."""
+    """Compose the image of checked entries (01, Header; READINGS B3, B6); kept, for the length is asked first."""
     layout = lay_out(entries)
     uid = crc32(bin_file).to_bytes(4, "little") + crc32(cfg).to_bytes(4, "little")
     hunks = [hunk for entry in entries for hunk in entry_hunks(entry, layout, bin_file)]

@@ -15,7 +15,7 @@ def card_load(image: bytes) -> Loaded:
 
 
 def card(image: bytes) -> str:
-    """Give the exact text of the card (01, Bench cases; DECISIONS K1)."""
+    """Give the exact text of the card (01, Bench cases; READINGS K1)."""
     answer = card_load(image)
     if answer.number:
         return refusal_text(answer.number, answer.place)

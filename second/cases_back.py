@@ -47,7 +47,7 @@ def packed(words: list[int]) -> bytes:
 
 
 def hunks_of(words: dict[int, list[int]], most: int) -> list[DraftBlock]:
-    """Write named paragraphs as hunks of up to so many paragraphs that lie together (DECISIONS U7)."""
+    """Write named paragraphs as hunks of up to so many paragraphs that lie together (READINGS W213-12)."""
     runs: list[tuple[int, list[int]]] = []
     for paragraph in sorted(words):
         if runs and runs[-1][0] + len(runs[-1][1]) // 256 == paragraph and len(runs[-1][1]) < 256 * most:
@@ -83,61 +83,61 @@ def pages(chapter: int, which: range) -> str:
 
 
 def good_edges() -> Iterator[tuple[str, TitleImage]]:
-    """Give titles that come back, at the edges of the decisions (DECISIONS U2 to U5, U10)."""
+    """Give titles at the readings' edges that come back (READINGS W213-4 to W213-9, W213-15)."""
     every, m, r = range(16), "[mapping]|", "[memattr]|"
-    yield "U5 RAM alone", titled(r + "$5000-$50FF=RAM 8")
-    yield "U2 three kinds side by side", titled(
+    yield "W213-9 RAM alone", titled(r + "$5000-$50FF=RAM 8")
+    yield "W213-5 three kinds side by side", titled(
         m + "$0-$FF=$5000|" + r + "$5100-$51FF=RAM 8|$5200-$52FF=RAM 16|" + m + "$0-$FF=$5300")
-    yield "U2 a run across chapters", titled(m + "$0-$2FF=$4E00|" + r + "$6000-$80FF=RAM 16|")
-    yield "U2 lines cut and out of order", titled(
+    yield "W213-5 a run across chapters", titled(m + "$0-$2FF=$4E00|" + r + "$6000-$80FF=RAM 16|")
+    yield "W213-5 lines cut and out of order", titled(
         r + "$8100-$81FF=RAM 8|$8000-$80FF=RAM 8|" + m + "$100-$1FF=$7000|$0-$FF=$7100|")
-    yield "U2 up to the silent ranges", titled(m + "$0-$AFF=$0500|$0-$FFF=$2000|$0-$FF=$4000|$0-$FF=$FF00|")
-    yield "U1 last address", titled(r + "$FF00-$FFFF=RAM 16|$0500-$05FF=RAM 8|")
+    yield "W213-5 up to the silent ranges", titled(m + "$0-$AFF=$0500|$0-$FFF=$2000|$0-$FF=$4000|$0-$FF=$FF00|")
+    yield "W213-3 last address", titled(r + "$FF00-$FFFF=RAM 16|$0500-$05FF=RAM 8|")
     for chapter in (2, 4, 5, 15):
         plain = under(chapter) + "|"
-        yield f"U2 chapter {chapter}, pages 2 and A", titled(m + pages(chapter, range(2, 11, 8)))
-        yield f"U2 chapter {chapter}, page 0 alone", titled(m + pages(chapter, range(1)))
-        yield f"U2 chapter {chapter}, pages over plain words", titled(m + plain + pages(chapter, range(1, 3)))
-        yield f"U2 chapter {chapter}, page 0 over plain words", titled(m + plain + pages(chapter, range(1)))
+        yield f"W213-4 chapter {chapter}, pages 2 and A", titled(m + pages(chapter, range(2, 11, 8)))
+        yield f"W213-4 chapter {chapter}, page 0 alone", titled(m + pages(chapter, range(1)))
+        yield f"W213-4 chapter {chapter}, pages over plain words", titled(m + plain + pages(chapter, range(1, 3)))
+        yield f"W213-4 chapter {chapter}, page 0 over plain words", titled(m + plain + pages(chapter, range(1)))
         if chapter not in (4, 5):
             continue
-        yield f"U4 chapter {chapter}, sixteen pages", titled(m + pages(chapter, every))
-        yield f"U4 chapter {chapter}, plain and pages 1 to F", titled(m + plain + pages(chapter, range(1, 16)))
-        yield f"U3 chapter {chapter}, hidden", titled(m + plain + pages(chapter, every))
-        yield f"U2 chapter {chapter}, fifteen pages, 0 to E", titled(m + pages(chapter, range(15)))
+        yield f"W213-7 chapter {chapter}, sixteen pages", titled(m + pages(chapter, every))
+        yield f"W213-7 chapter {chapter}, plain and pages 1 to F", titled(m + plain + pages(chapter, range(1, 16)))
+        yield f"W213-6 chapter {chapter}, hidden", titled(m + plain + pages(chapter, every))
+        yield f"W213-4 chapter {chapter}, fifteen pages, 0 to E", titled(m + pages(chapter, range(15)))
     for below in ("$0-$7FF=$4000|", "$0-$FF=$4300|", r + "$4000-$40FF=RAM 16|" + m):
         for plain in ("", under(4) + "|"):
             for which in (every, range(1, 16), range(3)):
-                name = f"U3 chapter 4, {below[:9]} below, {bool(plain)} under, {len(which)} pages"
+                name = f"W213-6 chapter 4, {below[:9]} below, {bool(plain)} under, {len(which)} pages"
                 yield name, titled(m + below + plain + pages(4, which))
-    yield "U4 sixteen pages beside plain words", titled(m + "$0-$1FF=$4E00|$0-$FF=$6000|" + pages(5, every))
-    yield "U4 two chapters of sixteen pages", titled(m + pages(5, every) + pages(6, every))
-    yield "U5 the same words twice", titled(m + "$0-$FF=$5000|$0-$FF=$7000|$0-$FFF=$C000 PAGE 1|")
+    yield "W213-7 sixteen pages beside plain words", titled(m + "$0-$1FF=$4E00|$0-$FF=$6000|" + pages(5, every))
+    yield "W213-7 two chapters of sixteen pages", titled(m + pages(5, every) + pages(6, every))
+    yield "W213-8 the same words twice", titled(m + "$0-$FF=$5000|$0-$FF=$7000|$0-$FFF=$C000 PAGE 1|")
 
 
 def many_ram(count: int, first: int) -> str:
-    """Spell so many RAM lines that can't be joined (DECISIONS U10)."""
+    """Spell so many RAM lines that can't be joined (READINGS W213-15)."""
     return "[memattr]|" + "".join(ram_line(p, 16 if p % 2 else 8) + "|" for p in range(first, first + count))
 
 
 def limit_edges() -> Iterator[tuple[str, TitleImage]]:
-    """Give images at 128 lines and at the BIN's limit (DECISIONS U6, U10)."""
-    yield "U10 128 lines", titled(many_ram(128, 0x70))
+    """Give images at 128 lines and at the BIN's limit (READINGS W213-10, W213-15, W213-18)."""
+    yield "W213-15 128 lines", titled(many_ram(128, 0x70))
     more = titled(many_ram(128, 0x70))
     more.tables.mapping[0xF0], more.tables.permissions[0xF0], more.words[8 * 16] = 8 * 16, 7, [0] * 256
-    yield "U10 129 lines", more
+    yield "W213-15 129 lines", more
     near = "[mapping]|$0-$1FFF=$5000|" + pages(5, range(1, 16))
-    yield "U4 128 lines, 129 with PAGE 0", titled(near + many_ram(112, 0x80), 8192)
+    yield "W213-15 128 lines, 129 with PAGE 0", titled(near + many_ram(112, 0x80), 8192)
     full = "[mapping]|" + pages(5, range(16)) + pages(7, range(16)) + pages(9, range(16))
-    yield "U6 64 pages, the largest BIN", titled(full + pages(11, range(16)))
-    yield "U6 64 pages and a paragraph: 32", titled(full + pages(11, range(16)) + "$0-$FF=$F000|")
-    yield "U6 64 pages and RAM", titled(full + pages(11, range(16)) + "[memattr]|$F000-$FFFF=RAM 8|")
-    yield "U10 no line", TitleImage(Tables(), {})
-    yield "U10 no line, but a word", TitleImage(Tables(), {0: [0] * 256})
+    yield "W213-15 64 pages, the largest BIN", titled(full + pages(11, range(16)))
+    yield "W213-10 64 pages and a paragraph: 32", titled(full + pages(11, range(16)) + "$0-$FF=$F000|")
+    yield "W213-10 64 pages and RAM", titled(full + pages(11, range(16)) + "[memattr]|$F000-$FFFF=RAM 8|")
+    yield "W213-15 no line", TitleImage(Tables(), {})
+    yield "W213-15 no line, but a word", TitleImage(Tables(), {0: [0] * 256})
 
 
 def spoilt_tables(g: Generator, tables: Tables) -> None:
-    """Change one entry of a table, often one that is used (DECISIONS U7)."""
+    """Change one entry of a table, often one that is used (READINGS W213-11)."""
     used = [p for p in range(256) if tables.permissions[p]] or [0]
     paragraph = g.pick([g.pick(used), g.below(256)])
     entry = g.pick([e for e in range(256) if tables.flips[e]] or [g.below(256)])
@@ -159,7 +159,7 @@ def spoilt_tables(g: Generator, tables: Tables) -> None:
 
 
 def spoilt_words(g: Generator, built: TitleImage) -> None:
-    """Change which words are named, or a word of RAM (DECISIONS U7)."""
+    """Change which words are named, or a word of RAM (READINGS W213-12, W213-13)."""
     paragraph = g.pick(sorted(built.words) or [0])
     choice = g.below(5)
     if choice == 0:
@@ -176,7 +176,7 @@ def spoilt_words(g: Generator, built: TitleImage) -> None:
 
 
 def dressed(g: Generator, built: TitleImage) -> bytes:
-    """Write an image with other blocks, cuts and order, and words named twice (DECISIONS U7)."""
+    """Write an image with other blocks, cuts and order, and words named twice (READINGS W213-12, W213-14)."""
     built.bits = g.pick([COMPATIBLE, 0, 0xFFFF, jlp_bits(0, 1023, 5), COMPATIBLE | 0xFFFF << 48])
     hunks = hunks_of(built.words, g.pick([1, 7, 16, 120]))
     if hunks and g.one_in(2):
@@ -215,34 +215,34 @@ def random_built(g: Generator) -> tuple[str, bytes]:
 
 
 def refused_edges() -> Iterator[tuple[str, bytes]]:
-    """Give a load's refusals before 31, and JLP (DECISIONS U7)."""
+    """Give a load's refusals before 31, and JLP (READINGS W213-14, W213-19)."""
     built = titled("[mapping]|$0-$FF=$5000|")
     for jlp, size in ((0, 0), (0, 683), (1, 0), (1, 683), (2, 0), (2, 682), (2, 683), (3, 1), (3, 1023)):
         built.bits = jlp_bits(jlp, size)
-        yield f"U7 field {jlp}, size {size}", image_of(built)
+        yield f"W213-14 W213-19 field {jlp}, size {size}", image_of(built)
     built.bits = COMPATIBLE | 1 << 32
-    yield "U7 10", image_of(built)
+    yield "W213-19 10", image_of(built)
     built.bits, built.blocks = COMPATIBLE, [metadata_block(b"\x00")]
-    yield "U7 12", image_of(built)
+    yield "W213-19 12", image_of(built)
     built.blocks = [hunk_block(0x80000, hunk.block_16([0]))]
-    yield "U7 9", image_of(built)
-    yield "U7 1", b""
+    yield "W213-19 9", image_of(built)
+    yield "W213-19 1", b""
     built.blocks = []
     built.words[0][255] = 0xFFFF
-    yield "U5 big endian", image_of(built)
+    yield "W213-8 big endian", image_of(built)
     for what in ("mapping", "permissions", "flips"):
         for entry in (0, 5, 16, 48, 80, 81, 255):
             spoilt = titled("[mapping]|$0-$FF=$5000|")
             getattr(spoilt.tables, what)[entry] ^= 16 if what != "permissions" else 8
-            yield f"U7 {what} {entry} is another", image_of(spoilt)
+            yield f"W213-11 {what} {entry} is another", image_of(spoilt)
 
 
 def short_buffers(image: bytes) -> Iterator[Case]:
-    """Give each way that a buffer may be short (DECISIONS U8)."""
+    """Give each way that a buffer may be short (READINGS W213-17)."""
     answer = back(image, bytearray(), bytearray())
     for spare in ((-1, 0), (0, -1), (-1, -1), (1, -1), (-answer.bin_length, 0), (0, -answer.cfg_length)):
         buffers = [(length + more, 13) for length, more in zip((answer.bin_length, answer.cfg_length), spare)]
-        yield (f"U8 buffers of {buffers[0][0]} and {buffers[1][0]} bytes", *back_record(image, *buffers))
+        yield (f"W213-17 buffers of {buffers[0][0]} and {buffers[1][0]} bytes", *back_record(image, *buffers))
 
 
 def back_cases(g: Generator) -> Iterator[Case]:

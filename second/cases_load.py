@@ -19,7 +19,7 @@ EXAMPLE = bytes.fromhex("""46 92 40 00 40 40 60 01 B8 5F 7A 41 80 40 FF 7F 44 12
 
 
 def data_edges() -> Iterator[Image]:
-    """Give each start byte: whole, cut by a byte, in a RAM a word short (001, Data Hunk; DECISIONS L13, L14)."""
+    """Give each start byte: whole, cut by a byte, in a RAM a word short (001, Data Hunk; L13, L14)."""
     for start in range(256):
         for size in [hunk.block_size(start)] if hunk.block_size(start) else [1, 2, 3, 4, 127, 129, 195]:
             packed = bytes([start]) + fill_bytes(size - 1, 0, start + 1)
@@ -30,7 +30,7 @@ def data_edges() -> Iterator[Image]:
 
 
 def bit_edges() -> Iterator[Image]:
-    """Give each flag bit, BANKSW bit, PFE bit and block type (01, refusals 5 to 10; DECISIONS L6, L7, L17, L18)."""
+    """Give each flag bit, BANKSW bit, PFE bit and block type (01, refusals 5 to 10; L6, L7, L17, L18)."""
     for bit in range(128):
         yield f"L18 flag bit {bit}", simple(bits=1 << bit), 10, 0
     for entry in range(256):
@@ -46,7 +46,7 @@ def bit_edges() -> Iterator[Image]:
 
 
 def block_edges() -> Iterator[Image]:
-    """Give cases for the decisions on blocks and their order (DECISIONS L2 to L10, L15, L16, L19)."""
+    """Give the readings on blocks and their order (READINGS L2 to L10, L15, L16, L19)."""
     tables, word = tables_block(Tables()), hunk_block(1, hunk.block_16([7, 8]))
     short = DraftBlock(1, bytes(1279))
     bad_short = DraftBlock(1, bytes(9), spoil_payload=1)
@@ -85,39 +85,39 @@ def broken_hunks() -> Iterator[tuple[str, bytes, int]]:
         start, words = bytes([1, 0, 0]) + forms[first] + forms[second], 1 + counts[first] + counts[second]
         for third, data in forms.items():
             for size in range(1, len(data)):
-                yield f"L20 {third} block cut to {size} after two", start + data[:size], 100
+                yield f"W205-4 {third} block cut to {size} after two", start + data[:size], 100
             for lent in range(words - counts[second], words + counts[third] + 1):
-                yield f"L20 {first}, {second}, {third} blocks, {lent} words lent", start + data, lent
+                yield f"W205-4 {first}, {second}, {third} blocks, {lent} words lent", start + data, lent
             for reserved in (0x00, 0xFE, 0xFF):
                 bad = bytes([reserved])
-                yield f"L20 reserved after {third}", start + data + bad, 100
-                yield f"L20 reserved before {third}", start + bad + data, 100
+                yield f"W205-3 reserved after {third}", start + data + bad, 100
+                yield f"W205-3 reserved before {third}", start + bad + data, 100
                 for lent in (words - 1, words, words + 1, words + counts[third]):
-                    yield f"L20 outside or reserved, {lent} words lent", start + data + bad, lent
-                    yield f"L20 outside or cut, {lent} words lent", start + data + data[:-1], lent
+                    yield f"W205-3 outside or reserved, {lent} words lent", start + data + bad, lent
+                    yield f"W205-3 outside or cut, {lent} words lent", start + data + data[:-1], lent
 
 
 def hunk_edges() -> Iterator[Image]:
-    """Give the place that 9 names (02, W-205; DECISIONS L20)."""
+    """Give the place that 9 names (02, W-205; READINGS W205-1 to W205-4)."""
     other, word = DraftBlock(0x42, b"abc", spoil_payload=1), hunk_block(1, hunk.block_16([7, 8]))
     for name, payload, lent in broken_hunks():
         yield name, simple(other, DraftBlock(2, payload)), lent, 3
     for size in range(4):
         for lent in (0, 3):
-            name = f"L20 payload of {size} bytes, {lent} words lent"
+            name = f"W205-2 payload of {size} bytes, {lent} words lent"
             yield name, simple(word, DraftBlock(2, b"\xFE" * size)), lent, 3
             yield name + ", first in the file", Draft([DraftBlock(2, b"\xFE" * size), word]).encoded(), lent, 3
     twice = hunk.block_8([1]) + hunk.block_16([2, 3])
     for address in (0x7FFFC, 0x7FFFD, 0x7FFFE, 0x7FFFF, 0x80000, 0xFFFFFF):
         for lent in (524_287, 524_288, 524_300):
-            yield f"L20 two blocks at {address:#x}, {lent} words lent", simple(hunk_block(address, twice)), lent, 3
+            yield f"W205-3 two blocks at {address:#x}, {lent} words lent", simple(hunk_block(address, twice)), lent, 3
     bad, far = hunk_block(1, hunk.block_16([7]) + b"\xFF"), hunk_block(9, hunk.block_16([1, 2]))
-    yield "L20 two broken hunks", simple(word, bad, far), 10, 3
-    yield "L20 two broken hunks", simple(word, far, bad), 10, 3
-    yield "W-205 6 before 9", simple(DraftBlock(2, bad.payload, spoil_payload=1)), 10, 3
-    yield "W-205 9 before 8 of a later block", simple(bad, tables_block(Tables())), 10, 3
-    yield "W-205 8 before 9 of a later block", simple(tables_block(Tables()), bad), 10, 3
-    yield "W-205 9 before none of 8 and 10", Draft([bad], flags=b"\xFF" * 16).encoded(), 10, 3
+    yield "W205-3 two broken hunks", simple(word, bad, far), 10, 3
+    yield "W205-3 two broken hunks", simple(word, far, bad), 10, 3
+    yield "W205 6 before 9", simple(DraftBlock(2, bad.payload, spoil_payload=1)), 10, 3
+    yield "W205 9 before 8 of a later block", simple(bad, tables_block(Tables())), 10, 3
+    yield "W205 8 before 9 of a later block", simple(tables_block(Tables()), bad), 10, 3
+    yield "W205 9 before none of 8 and 10", Draft([bad], flags=b"\xFF" * 16).encoded(), 10, 3
 
 
 def example_edges() -> Iterator[Image]:
@@ -131,20 +131,20 @@ def example_edges() -> Iterator[Image]:
 def field_edges() -> Iterator[Image]:
     """Give each value of flag bits 8 to 15, and each refusal of an image that states all (02, W-201)."""
     for byte in range(256):
-        yield f"S4 flags byte 5 is {byte:#04x}", simple(bits=byte << 8 | byte * 37 % 256), 10, 0
+        yield f"W201-1 flags byte 5 is {byte:#04x}", simple(bits=byte << 8 | byte * 37 % 256), 10, 0
     stated, tables, pfe = b"\xFF\xFF" + bytes(14), tables_block(Tables()), Tables()
     pfe.flips[16] = 8
-    yield "S4 loads", Draft([tables], flags=stated).encoded(), 10, 0
-    yield "S4 refusal 1", Draft([tables], flags=stated).encoded()[:31], 10, 0
-    yield "S4 refusal 2", Draft([tables], flags=stated, magic=b"LTo").encoded(), 10, 0
-    yield "S4 refusal 3", Draft([tables], flags=stated, version=2).encoded(), 10, 0
-    yield "S4 refusal 4", Draft([tables], flags=stated, spoil_header=1).encoded(), 10, 0
-    yield "S4 refusal 5", Draft([tables], flags=stated, tail=b"\x03").encoded(), 10, 0
-    yield "S4 refusal 6", Draft([DraftBlock(1, bytes(1280), spoil_payload=1)], flags=stated).encoded(), 10, 0
-    yield "S4 refusal 7", Draft([tables, DraftBlock(0, b"")], flags=stated).encoded(), 10, 0
-    yield "S4 refusal 8", Draft([], flags=stated).encoded(), 10, 0
-    yield "S4 refusal 9", Draft([tables, DraftBlock(2, b"")], flags=stated).encoded(), 10, 0
-    yield "S4 refusal 10", Draft([tables_block(pfe)], flags=stated).encoded(), 10, 0
+    yield "W201-2 loads", Draft([tables], flags=stated).encoded(), 10, 0
+    yield "W201-2 refusal 1", Draft([tables], flags=stated).encoded()[:31], 10, 0
+    yield "W201-2 refusal 2", Draft([tables], flags=stated, magic=b"LTo").encoded(), 10, 0
+    yield "W201-2 refusal 3", Draft([tables], flags=stated, version=2).encoded(), 10, 0
+    yield "W201-2 refusal 4", Draft([tables], flags=stated, spoil_header=1).encoded(), 10, 0
+    yield "W201-2 refusal 5", Draft([tables], flags=stated, tail=b"\x03").encoded(), 10, 0
+    yield "W201-2 refusal 6", Draft([DraftBlock(1, bytes(1280), spoil_payload=1)], flags=stated).encoded(), 10, 0
+    yield "W201-2 refusal 7", Draft([tables, DraftBlock(0, b"")], flags=stated).encoded(), 10, 0
+    yield "W201-2 refusal 8", Draft([], flags=stated).encoded(), 10, 0
+    yield "W201-2 refusal 9", Draft([tables, DraftBlock(2, b"")], flags=stated).encoded(), 10, 0
+    yield "W201-2 refusal 10", Draft([tables_block(pfe)], flags=stated).encoded(), 10, 0
 
 
 def readable_edges() -> Iterator[Image]:
@@ -153,10 +153,10 @@ def readable_edges() -> Iterator[Image]:
                               ("half", [0xFE, 0x01] * 128),
                               ("silent ones", [int(p < 5 or p >> 4 in (1, 3)) for p in range(256)]),
                               ("255", [0] + [1] * 255)):
-        yield f"M13 {name} readable", simple(tables=Tables(permissions=permissions)), 10, 0
-        yield f"M13 {name} readable, but 10", simple(tables=Tables(permissions=permissions), bits=1 << 32), 10, 0
+        yield f"W211-1 {name} readable", simple(tables=Tables(permissions=permissions)), 10, 0
+        yield f"W211-2 {name} readable, but 10", simple(tables=Tables(permissions=permissions), bits=1 << 32), 10, 0
         broken = simple(DraftBlock(2, b""), tables=Tables(permissions=permissions))
-        yield f"M13 {name} readable, but 9", broken, 10, 0
+        yield f"W211-2 {name} readable, but 9", broken, 10, 0
 
 
 def feature_edges() -> Iterator[Image]:
@@ -165,71 +165,71 @@ def feature_edges() -> Iterator[Image]:
     pfe.flips[31] = 8
     for jlp in range(4):
         for lent in (0, 73_599, 73_600, 73_601):
-            yield f"L19 field {jlp}, {lent} words lent", simple(bits=jlp_bits(jlp)), lent, 3
+            yield f"LW-3 field {jlp}, {lent} words lent", simple(bits=jlp_bits(jlp)), lent, 3
             mapper = simple(bits=jlp_bits(jlp, 0, 1 << 32))
-            yield f"L19 10 before 11: field {jlp}, flag 32, {lent} words lent", mapper, lent, 3
+            yield f"LW-2 10 before 11: field {jlp}, flag 32, {lent} words lent", mapper, lent, 3
         for size in (1, 2, 3, 4, 512, 682, 683, 1023):
             for lent in (73_599, 73_600):
-                yield f"L18 field {jlp}, size {size}, {lent} words lent", simple(bits=jlp_bits(jlp, size)), lent, 3
+                yield f"LW-6 field {jlp}, size {size}, {lent} words lent", simple(bits=jlp_bits(jlp, size)), lent, 3
         image = simple(bits=jlp_bits(jlp, 0, 0xF << 18))
-        yield f"L18 field {jlp}, flag bits 18 to 21", image, 73_600, 3
-        yield f"L19 10 before 11: field {jlp}, PFE in chapter 1", simple(tables=pfe, bits=jlp_bits(jlp)), 100, 3
+        yield f"LW-6 field {jlp}, flag bits 18 to 21", image, 73_600, 3
+        yield f"LW-2 10 before 11: field {jlp}, PFE in chapter 1", simple(tables=pfe, bits=jlp_bits(jlp)), 100, 3
         broken = hunk_block(73_599, hunk.block_16([1, 2]))
-        yield f"L19 9 before 11: field {jlp}", simple(broken, bits=jlp_bits(jlp)), 73_600, 3
+        yield f"LW-2 9 before 11: field {jlp}", simple(broken, bits=jlp_bits(jlp)), 73_600, 3
         bare = Draft([], flags=flag_bytes(jlp_bits(jlp))).encoded()
-        yield f"L19 none of 8 before 11: field {jlp}", bare, 9, 3
+        yield f"LW-2 none of 8 before 11: field {jlp}", bare, 9, 3
         inside = hunk_block(0x10040, hunk.block_16([1, 2]))
-        yield f"M18 field {jlp}, a hunk in JLP RAM", simple(inside, bits=jlp_bits(jlp)), 73_600, 3
+        yield f"W206-5 field {jlp}, a hunk in JLP RAM", simple(inside, bits=jlp_bits(jlp)), 73_600, 3
     for lent in (524_287, 524_288, 524_300):
-        yield f"L19 field 3, {lent} words lent", simple(bits=jlp_bits(3)), lent, 3
+        yield f"LW-3 field 3, {lent} words lent", simple(bits=jlp_bits(3)), lent, 3
 
 
 def flash_edges() -> Iterator[tuple[str, bytes, int, int, int]]:
-    """Give sizes and lent flash at their edges, and what comes before 13 (02, W-209; DECISIONS L18, L19, L22)."""
+    """Give sizes and lent flash at their edges, and what comes before 13 (02, W-209; READINGS LW-2 to LW-6)."""
     for jlp in range(4):
         for size in (0, 1, 2, 681, 682, 683, 1023):
             right = 768 * size
             for flash in sorted({0, 1, 8, 768, right - 1, right, right + 1, 96 * size, 2 * right} - {-1}):
                 if size < 3 or flash < 524_600 and flash in (0, right, right - 1, right + 1):
-                    name = f"L22 field {jlp}, size {size}, {flash} words of flash"
+                    name = f"LW-4 LW-5 field {jlp}, size {size}, {flash} words of flash"
                     yield name, simple(bits=jlp_bits(jlp, size)), 73_600, 3, flash
-        yield f"L19 11 before 13: field {jlp}", simple(bits=jlp_bits(jlp, 683)), 73_599, 3, 768
-        yield f"L19 10 before 13: field {jlp}", simple(bits=jlp_bits(jlp, 683, 1 << 32)), 73_600, 3, 768
+        yield f"LW-2 11 before 13: field {jlp}", simple(bits=jlp_bits(jlp, 683)), 73_599, 3, 768
+        yield f"LW-2 10 before 13: field {jlp}", simple(bits=jlp_bits(jlp, 683, 1 << 32)), 73_600, 3, 768
 
 
 def metadata_edges() -> Iterator[Image]:
-    """Give 12 at its edges and beside other refusals (02, W-204; DECISIONS N1 to N3, N7, N8)."""
+    """Give 12 at its edges and beside other refusals (02, W-204; READINGS W204-1 to W204-4, W204-11 to W204-14)."""
     good, word = spell(SHORT), hunk_block(1, hunk.block_16([7, 8]))
     bad, far = metadata_block(b"\x00"), hunk_block(9, hunk.block_16([1, 2]))
     for size in range(len(good) + 1):
-        yield f"N1 the first {size} bytes", simple(metadata_block(good[:size])), 10, 3
+        yield f"W204-2 the first {size} bytes", simple(metadata_block(good[:size])), 10, 3
     for payload in (b"", b"\x10\x00", b"\xFF\x02ab", b"\x02\x00\x02\x00", b"\x05\xFF" + bytes(255),
                     b"\x05\xFF" + bytes(254), b"\x05\xFF" + bytes(256), b"\xFF"):
-        name = f"N1 N2 payload {payload[:2].hex()} of {len(payload)} bytes"
+        name = f"W204-2 W204-3 payload {payload[:2].hex()} of {len(payload)} bytes"
         yield name, simple(metadata_block(payload)), 10, 3
-        yield f"N7 wrong checksum, {len(payload)} bytes", simple(metadata_block(payload, 1)), 10, 3
-    yield "N7 5 before 12", simple(DraftBlock(METADATA, b"\x00", 0, 1)), 10, 3
-    yield "N7 5 before 12, past the end", simple(DraftBlock(METADATA, b"\x00", 9)), 10, 3
-    yield "N7 12 before a later 7", simple(bad, DraftBlock(0, b"")), 10, 3
-    yield "N7 7 before a later 12", simple(DraftBlock(0, b""), bad), 10, 3
-    yield "N7 12 before a later 9", simple(word, bad, far), 10, 3
-    yield "N7 9 before a later 12", simple(word, far, bad), 10, 3
-    yield "N7 12 before a later 6", simple(bad, DraftBlock(2, bytes(3), spoil_payload=1)), 10, 3
-    yield "N7 6 before a later 12", simple(DraftBlock(2, bytes(3), spoil_payload=1), bad), 10, 3
-    yield "N7 12 before a second tables block", simple(bad, tables_block(Tables())), 10, 3
-    yield "N7 12 before none of 8", Draft([word, bad]).encoded(), 10, 3
-    yield "N7 12 before 10, 11 and 13", simple(bad, bits=jlp_bits(3, 683, 1 << 32)), 10, 3
-    yield "N8 before the tables", Draft([metadata_block(good), tables_block(Tables())]).encoded(), 10, 3
-    yield "N8 a record does not run on", simple(metadata_block(good[:5]), metadata_block(good[5:])), 10, 3
-    yield "N8 after 0xFF", simple(tail=b"\xFF" + bad.encoded()), 10, 3
+        yield f"W204-12 wrong checksum, {len(payload)} bytes", simple(metadata_block(payload, 1)), 10, 3
+    yield "W204-11 5 before 12", simple(DraftBlock(METADATA, b"\x00", 0, 1)), 10, 3
+    yield "W204-11 5 before 12, past the end", simple(DraftBlock(METADATA, b"\x00", 9)), 10, 3
+    yield "W204-11 12 before a later 7", simple(bad, DraftBlock(0, b"")), 10, 3
+    yield "W204-11 7 before a later 12", simple(DraftBlock(0, b""), bad), 10, 3
+    yield "W204-11 12 before a later 9", simple(word, bad, far), 10, 3
+    yield "W204-11 9 before a later 12", simple(word, far, bad), 10, 3
+    yield "W204-11 12 before a later 6", simple(bad, DraftBlock(2, bytes(3), spoil_payload=1)), 10, 3
+    yield "W204-11 6 before a later 12", simple(DraftBlock(2, bytes(3), spoil_payload=1), bad), 10, 3
+    yield "W204-11 12 before a second tables block", simple(bad, tables_block(Tables())), 10, 3
+    yield "W204-11 12 before none of 8", Draft([word, bad]).encoded(), 10, 3
+    yield "W204-11 12 before 10, 11 and 13", simple(bad, bits=jlp_bits(3, 683, 1 << 32)), 10, 3
+    yield "W204-14 before the tables", Draft([metadata_block(good), tables_block(Tables())]).encoded(), 10, 3
+    yield "W204-14 a record does not run on", simple(metadata_block(good[:5]), metadata_block(good[5:])), 10, 3
+    yield "W204-14 after 0xFF", simple(tail=b"\xFF" + bad.encoded()), 10, 3
     three = simple(metadata_block(good), word, metadata_block(b""), metadata_block(good))
-    yield "N14 blocks and words", three, 10, 3
+    yield "W204-21 blocks and words", three, 10, 3
     for kind in (4, 5, 0x42, 0xFE):
-        yield f"N7 type {kind:#04x} is not looked at", simple(DraftBlock(kind, b"\x00", spoil_payload=1)), 10, 3
+        yield f"W204-13 type {kind:#04x} is not looked at", simple(DraftBlock(kind, b"\x00", spoil_payload=1)), 10, 3
 
 
 def large_edges() -> Iterator[Image]:
-    """Give cases for the decisions on limits and large RAMs (DECISIONS L1, L11, L12)."""
+    """Give the readings on limits and large RAMs (READINGS L1, L11, L12)."""
     small = simple(hunk_block(1, hunk.block_16([7, 8])))
     for length in range(IMAGE_LIMIT - 1, IMAGE_LIMIT + 8):
         yield f"L1 {length} bytes", small + bytes(length - len(small)), 10, 3
@@ -262,13 +262,13 @@ def card_cases(g: Generator) -> Iterator[Case]:
     images += [(f"K1 {size} bytes", small + bytes(size - len(small))) for size in (24_575, 24_576, 24_577)]
     images += [(f"K1 {size} zero bytes", bytes(size)) for size in (24_576, 24_577, 1_048_577)]
     two = hunk.block_8([1]) + hunk.block_16([2, 3])
-    images += [(f"L20 two blocks at {first}", simple(hunk_block(first, two))) for first in range(16_380, 16_385)]
-    images += [(f"L20 {size} bytes", simple(DraftBlock(2, two[:size]))) for size in range(4)]
-    images += [("L20 reserved", simple(hunk_block(0, two + b"\x00" + two)))]
-    images += [(f"L19 field {jlp}, size {size}", simple(bits=jlp_bits(jlp, size))) for jlp in range(4)
+    images += [(f"W205-4 two blocks at {first}", simple(hunk_block(first, two))) for first in range(16_380, 16_385)]
+    images += [(f"W205-2 {size} bytes", simple(DraftBlock(2, two[:size]))) for size in range(4)]
+    images += [("W205-3 reserved", simple(hunk_block(0, two + b"\x00" + two)))]
+    images += [(f"LW-8 field {jlp}, size {size}", simple(bits=jlp_bits(jlp, size))) for jlp in range(4)
                for size in (0, 1, 683)]
-    images += [("N7 a cut record", simple(DraftBlock(3, b"\x00\x05ab"))),
-               ("N14 a record", simple(DraftBlock(3, b"\x00\x02ab")))]
+    images += [("W204-12 a cut record", simple(DraftBlock(3, b"\x00\x05ab"))),
+               ("W204-21 a record", simple(DraftBlock(3, b"\x00\x02ab")))]
     images += [random_image(g, 16_384) for _ in range(150)]
     for name, image in images:
         yield (name, *card_record(image))

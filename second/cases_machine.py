@@ -12,7 +12,7 @@ from tables import BANKSW, READ, WRITE, Tables
 
 
 def row_edges() -> Iterator[Case]:
-    """Give each setting of READ, WRITE and NARROW with some reserved bits (02, W-203; DECISIONS M7)."""
+    """Give each setting of READ, WRITE and NARROW with some reserved bits (02, W-203; READINGS W203-1)."""
     for row in range(8):
         for reserved in (0x00, 0x08, 0x50, 0xF8):
             tables, accesses = Tables(), []
@@ -24,7 +24,7 @@ def row_edges() -> Iterator[Case]:
                                  read(256 * paragraph + 7)]
                     accesses.append(read(256 * (0x60 + paragraph) + 7))
             image = simple(tables=tables)
-            yield (f"M7 row {row:03b}, reserved {reserved:#04x}",
+            yield (f"W203-1 row {row:03b}, reserved {reserved:#04x}",
                    *machine_record(image, (2048, 3), 2048, FlashFill(), accesses))
 
 
@@ -45,18 +45,18 @@ def bank_tables(mapping: int, permissions: int, half_pages: Iterable[int]) -> Ta
 
 
 def bank_edges() -> Iterator[tuple[str, Tables, list[Access]]]:
-    """Give each half-page, then cases for the decisions on bankswitching (02, W-202; DECISIONS M6, M8 to M10)."""
+    """Give each half-page and the readings on bankswitching (02, W-202; READINGS W202-1 to W202-11)."""
     for half_page in range(32):
         register = 0x40 + half_page // 2 + 16 * (half_page % 2)
         tables = bank_tables(0x1200, READ | 0xF0, [half_page - 1, half_page, half_page + 1])
         tables.permissions[8 * half_page] |= BANKSW
         for value in (0x0000, 0x00F9, 0x00FF, 0x77FE, 0xFF03) if half_page % 8 == 5 else (0x00F9, 0x77FE):
-            yield f"M8 half-page {half_page}, {value:#06x}", tables, [write(register, value), *looks(half_page)]
+            yield f"W202-1 half-page {half_page}, {value:#06x}", tables, [write(register, value), *looks(half_page)]
         others = bank_tables(0x1200, READ | BANKSW | WRITE, [0, half_page])
         others.permissions[8 * half_page] = READ | WRITE
         others.mapping[0], others.mapping[0x60], others.permissions[0x60] = 9, 9, READ
         alias = [write(register, 0x4321), read(0x6000 + register), *looks(half_page)]
-        yield f"M6 M10 half-page {half_page} has not the bit", others, alias
+        yield f"W202-6 W202-7 half-page {half_page} has not the bit", others, alias
     tables = bank_tables(0x1200, READ, [24, 25])
     tables.permissions[0xC0] |= BANKSW
     yield "001's write to $004C", tables, [write(0x004C, 0x0060), *looks(24), write(0x005C, 0x0068), *looks(25)]
@@ -64,7 +64,7 @@ def bank_edges() -> Iterator[tuple[str, Tables, list[Access]]]:
         tables = bank_tables(0, READ | BANKSW | WRITE, [0, 1, 2, 16, 30, 31])
         tables.mapping[0x60], tables.permissions[0x60] = address >> 8, READ
         accesses = [write(address, 0x0067), read(address), read(0x6000 + address % 256), read(0x0540)]
-        yield f"M6 write to {address:#06x}", tables, accesses + looks(0)[-8:] + looks(31)[-4:]
+        yield f"W202-10 write to {address:#06x}", tables, accesses + looks(0)[-8:] + looks(31)[-4:]
 
 
 def count_edges() -> Iterator[tuple[str, Tables, list[Access]]]:
@@ -80,11 +80,11 @@ def count_edges() -> Iterator[tuple[str, Tables, list[Access]]]:
             for accesses in ([], asks[:1], asks[:2], asks[:3], asks[1:], [asks[2], RESET],
                              [write(0x40 + chapter, 0x20)]):
                 if accesses or chapter == 0:
-                    yield f"M13 chapter {chapter}, {name} at first, {len(accesses)} accesses", tables, accesses
+                    yield f"W211-1 chapter {chapter}, {name} at first, {len(accesses)} accesses", tables, accesses
 
 
 def bank_and_flip_edges() -> Iterator[tuple[str, Tables, list[Access]]]:
-    """Give bankswitches before and after page requests and resets (02, W-202; DECISIONS M9)."""
+    """Give bankswitches before and after page requests and resets (02, W-202; READINGS W202-5, W202-9)."""
     for chapter in (0, 1, 2, 3, 4, 5, 8, 15):
         tables = bank_tables(0x30, READ | BANKSW, [2 * chapter, 2 * chapter + 1])
         pfe = 8 if chapter != 1 else 0
@@ -102,14 +102,14 @@ def bank_and_flip_edges() -> Iterator[tuple[str, Tables, list[Access]]]:
             ("flip, switch, reset, switch", [flip, *switch, RESET, *switch, *look]),
             ("switch, flip, switch, flip", [*switch, flip, *switch, write(flip[1], request + 3), *look]),
             ("switch, reset", [*switch, RESET, *look]),
-            ("M12 the same twice", [*switch, *switch, flip, flip, *switch, miss, *look]),
+            ("W212-1 the same twice", [*switch, *switch, flip, flip, *switch, miss, *look]),
             ("switch twice", [*switch, write(low, 0xFF), write(high, 0x80), *look]),
         ):
-            yield f"M9 chapter {chapter}: {name}", tables, accesses
+            yield f"W202-5 chapter {chapter}: {name}", tables, accesses
 
 
 def machine_case(g: Generator, which: int) -> Case:
-    """Load tables of any kind, and run accesses on the machine (01, The machine; DECISIONS M1 to M6)."""
+    """Load tables of any kind, and run accesses on the machine (01, The machine; M1 to M6)."""
     tables = random_tables(g, g.pick([20, 200, 1500]))
     for paragraph in range(256):
         if g.below(3):

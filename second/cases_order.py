@@ -100,7 +100,7 @@ def salvage_order_cases(g: Generator) -> Iterator[Case]:
 
 
 def names_order_cases(g: Generator) -> Iterator[Case]:
-    """Give each refusal of a load over the label's 12 (DECISIONS N9)."""
+    """Give each refusal of a load over the label's 12 (READINGS W204-15)."""
     for pair in decided("names"):
         for _ in range(EACH):
             image = image_with(g, (pair[0], ""), LOCUTUS_WORDS)
@@ -108,7 +108,7 @@ def names_order_cases(g: Generator) -> Iterator[Case]:
 
 
 def write_order_cases(g: Generator) -> Iterator[Case]:
-    """Give each pair of the plain writer (DECISIONS L19, L22, B7)."""
+    """Give each pair of the plain writer (READINGS LW-7)."""
     for pair in decided("write"):
         for _ in range(EACH):
             words = 73_599 if "11" in pair else 73_600
@@ -158,7 +158,7 @@ def build_order_cases(g: Generator) -> Iterator[Case]:
 
 
 def label_order_cases(g: Generator) -> Iterator[Case]:
-    """Give 12 over 29 (DECISIONS N16)."""
+    """Give 12 over 29 (READINGS W204-23)."""
     for pair in decided("label"):
         for _ in range(EACH):
             yield case("label", pair, g.pick(CUT_LABELS), (g.below(9), 13))
@@ -175,7 +175,7 @@ def runs_order_cases(g: Generator) -> Iterator[Case]:
 
 
 def large_title() -> TitleImage:
-    """Lay out 64 pages and a paragraph, whose BIN is too long (DECISIONS U6)."""
+    """Lay out 64 pages and a paragraph, whose BIN is too long (READINGS W213-10)."""
     text = "".join(pages(chapter, range(16)) for chapter in (5, 7, 9, 11))
     large = titled("[mapping]|" + text + "$0-$FF=$F000|")
     large.words = {paragraph: [0] * 256 for paragraph in large.words}

@@ -26,33 +26,33 @@ def small_image() -> bytes:
 
 
 def list_edges() -> Iterator[tuple[str, bytes, int, int]]:
-    """Give lists, limits and rooms at the edges of the decisions (DECISIONS A1 to A6)."""
+    """Give lists, limits and rooms at the readings' edges (READINGS W214-1 to W214-10)."""
     good = (b"op=w addr=5001 value=aBcD\nop=r addr=5001\nop=w addr=6FFF value=6A52\nop=r addr=6000\n"
             b"op=x\nop=r addr=6000\nop=r addr=5001\n")
     for limit in (0, 1, 2, 3, 4, 5, 6, 7, 8, 0xFFFFFFFF):
-        yield f"A6 limit {limit}", good, limit, 4
+        yield f"W214-10 limit {limit}", good, limit, 4
     for room in (0, 3, 4, 5, 100):
         for limit in (0, 2, 7):
-            yield f"A4 room {room}, limit {limit}", good, limit, room
+            yield f"W214-6 room {room}, limit {limit}", good, limit, room
     for text in (b"", b"\n", b"op=x", b"op=x\n", b"op=x\r\n", b"op=x\r", b"op=x\n\n", b"\nop=x", b"op=x\n\nop=x\n",
                  b"op=x\r\r\n", b"\r\n", b"\r", b"op=x\n\r\n",
                  b"op=x\r\nop=x\nop=x\r\n", b"op=r addr=5000\r", b"op=r\raddr=5000\n", b"\rop=x\n", b"op=x\n\r",
                  b"op=x\r\n\n", b"op=x\x00\n", b"op=x\x0b", b"op=x\n \n", b"op=x\x1a"):
-        yield f"A2 {text!r}", text, 9, 9
+        yield f"W214-2 W214-3 {text!r}", text, 9, 9
     for line in BAD_ACCESSES:
-        yield f"A1 {line!r}", b"op=x\n" + line + b"\nop=x\n", 9, 9
+        yield f"W214-1 {line!r}", b"op=x\n" + line + b"\nop=x\n", 9, 9
     for byte in (0x00, 0x09, 0x0D, 0x1F, 0x20, 0x3A, 0x40, 0x47, 0x60, 0x67, 0x7F, 0x80, 0xB2, 0xFF):
-        yield f"A1 byte {byte:#04x} as a digit", b"op=r addr=500" + bytes([byte]) + b"\n", 9, 9
+        yield f"W214-1 byte {byte:#04x} as a digit", b"op=r addr=500" + bytes([byte]) + b"\n", 9, 9
     for digit in b"0123456789abcdefABCDEF":
         text = b"op=w addr=500%c value=%c00%c\nop=r addr=500%c" % (digit, digit, digit, digit)
-        yield f"A1 digit {chr(digit)}", text, 9, 9
+        yield f"W214-1 digit {chr(digit)}", text, 9, 9
     bad = b"op=r addr=5000\nop=r addr=5001\nop=q\nop=z\n"
     for limit, room in ((0, 9), (1, 9), (2, 9), (9, 0), (0, 0)):
-        yield f"A3 33 at line 3, limit {limit}, room {room}", bad, limit, room
-    yield "A3 the last line, without its end", b"op=x\n" * 30 + b"op=w addr=5000", 2, 0
+        yield f"W214-5 33 at line 3, limit {limit}, room {room}", bad, limit, room
+    yield "W214-5 the last line, without its end", b"op=x\n" * 30 + b"op=w addr=5000", 2, 0
     many = b"op=r addr=5000\n" * 300
     for room in (299, 300):
-        yield f"A4 300 reads, room {room}", many, 5, room
+        yield f"W214-6 300 reads, room {room}", many, 5, room
 
 
 def spell_list(g: Generator, accesses: list[Access]) -> bytes:

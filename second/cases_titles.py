@@ -18,17 +18,17 @@ BUFFER_SEED = 17
 
 
 def ram_lines(count: int) -> str:
-    """Give so many RAM entries, one a paragraph, from $5000 on (DECISIONS C12)."""
+    """Give so many RAM entries, one a paragraph, from $5000 on (READINGS C12)."""
     return "".join(ram_line(p) + "|" for p in range(0x50, 0x50 + count))
 
 
 def page_lines(count: int) -> str:
-    """Give so many PAGE entries, from $5000 PAGE 0 on (DECISIONS B3, B8)."""
+    """Give so many PAGE entries, from $5000 PAGE 0 on (READINGS B3, B8)."""
     return "|".join(f"${n:X}-${n + 4095:X}=${5 + n // 16:X}000 PAGE {n % 16:X}" for n in range(count))
 
 
 def cfg_edges() -> Iterator[tuple[str, Title]]:
-    """Read the edges of cfg_edges.txt (DECISIONS C1 to C19, B1 to B8, B12, S5)."""
+    """Read the edges of cfg_edges.txt (READINGS C1 to C19, B1 to B8)."""
     lines = (Path(__file__).parent / "cfg_edges.txt").read_text().split("\n")
     for line in lines[1:-1]:
         name, words, text = line.split(" / ", 2)
@@ -39,7 +39,7 @@ def cfg_edges() -> Iterator[tuple[str, Title]]:
 
 
 def size_edges() -> Iterator[tuple[str, Title]]:
-    """Give the limits of BIN and CFG, and 21 before 22 (01, refusals 21 and 22; DECISIONS C1)."""
+    """Give the limits of BIN and CFG, and 21 before 22 (01, refusals 21 and 22; READINGS C1)."""
     good = b"[mapping]\n$0-$FF=$5000\n"
     for length in (16_383, 16_384, 16_385, 20_000):
         for end in (b"", b"\x80", b"x"):
@@ -78,31 +78,31 @@ def form_edges(g: Generator) -> Iterator[tuple[str, Title]]:
         for place in (0, 60, 61, 247, 248, 254, 255, 256):
             data = bytearray(1024)
             data[2 * place:2 * place + 2] = be16([word])
-            yield f"B9 word {word:#06x} at {place}", Title(1024, 0, cfg, 0, bytes(data))
+            yield f"W207-1 word {word:#06x} at {place}", Title(1024, 0, cfg, 0, bytes(data))
     for base in (0, 1, 3, 4, 0xFF):
         with_ram = cfg + b"[memattr]\n$7000-$70FF=RAM 8\n"
-        yield f"B9 all words {base:02X}{base:02X}", Title(1024, 0, with_ram, base)
+        yield f"W207-1 all words {base:02X}{base:02X}", Title(1024, 0, with_ram, base)
     for _ in range(40):
         data = be16(random_paragraph(g) + random_paragraph(g))
-        yield "W-207 random forms", Title(1024, 0, cfg, 0, data)
+        yield "W207 random forms", Title(1024, 0, cfg, 0, data)
 
 
 def label_edges() -> Iterator[tuple[str, Title]]:
-    """Give labels at their edges, and 12 between 20 and 29 (02, W-204; DECISIONS N11 to N15)."""
+    """Give labels at their edges, and 12 between 20 and 29 (02, W-204; READINGS W204-18 to W204-22)."""
     cfg, text = b"[mapping]\n$0-$FF=$5000\n", spell([(0, b"Name"), (2, b"Ann"), (2, b""), (0x77, b"?")])
     pages = f"[mapping]\n{page_lines(128)}|[memattr]|$500-$5FF=RAM 8|".replace("|", "\n").encode()
     over = f"[mapping]\n{page_lines(127)}|[memattr]|$E000-$FFFF=RAM 8|".replace("|", "\n").encode()
     for size in range(len(text) + 1):
-        yield f"N12 a label's first {size} bytes", Title(512, 3, cfg, label=text[:size])
+        yield f"W204-19 a label's first {size} bytes", Title(512, 3, cfg, label=text[:size])
     for size in (65_534, 65_535, 65_536):
-        yield f"N11 a label of {size} bytes", Title(512, 3, cfg, label=label_of(size))
+        yield f"W204-18 a label of {size} bytes", Title(512, 3, cfg, label=label_of(size))
     for cut in (text, text[:1]):
-        yield "N12 25 before 12", Title(510, 3, cfg, label=cut)
-        yield "N12 28 before 12", Title(8192, 3, cfg + b"$0-$FFF=$5000 PAGE 1\n", label=cut)
-        yield "N12 24 before 12", Title(8192, 3, pages, label=cut)
-        yield "N12 20 before 12", Title(98_304, 3, over, label=cut)
+        yield "W204-19 25 before 12", Title(510, 3, cfg, label=cut)
+        yield "W204-19 28 before 12", Title(8192, 3, cfg + b"$0-$FFF=$5000 PAGE 1\n", label=cut)
+        yield "W204-19 24 before 12", Title(8192, 3, pages, label=cut)
+        yield "W204-19 20 before 12", Title(98_304, 3, over, label=cut)
     for base in (b"[memattr]\n$5000-$50FF=RAM 8\n", b"[mapping]\n$0-$FFF=$C000 PAGE 2\n"):
-        yield "N13 the block stands after the tables", Title(8192, 3, base, label=text)
+        yield "W204-20 the block stands after the tables", Title(8192, 3, base, label=text)
 
 
 def build_cases(g: Generator) -> Iterator[Case]:

@@ -16,7 +16,7 @@ def marks_of(paragraphs: set[int]) -> bytes:
 
 
 def write_edges() -> Iterator[Case]:
-    """Give limits and the order 10, 11, 13, 9, 1, 29 (01, The plain writer; DECISIONS B7, L12, L19, L22)."""
+    """Give limits and the order 10, 11, 13, 9, 1, 29 (01, The plain writer; READINGS B7, L12, LW-7)."""
     none, mapper, tables = bytes(24), bytes(4) + b"\x01" + bytes(19), bytes(1280)
     for jlp in (1, 2, 3):
         for size in (0, 1, 682, 683):
@@ -24,7 +24,7 @@ def write_edges() -> Iterator[Case]:
                 for other, buffer in ((0, 0), (0, 1321), (1 << 32, 1321)):
                     head = flag_bytes(jlp_bits(jlp, size, other)) + bytes(8)
                     for few in (set(), {287}):
-                        name = f"L19 field {jlp}, size {size}, RAM {words}, marks {few}, buffer {buffer}, flag 32 "
+                        name = f"LW-7 field {jlp}, size {size}, RAM {words}, marks {few}, buffer {buffer}, flag 32 "
                         name += str(other >> 32)
                         yield (name, *write_record(head, tables, (words, 3), [], marks_of(few), (buffer, 13)))
     for count in (1983, 1984, 2048):
@@ -42,11 +42,11 @@ def write_edges() -> Iterator[Case]:
 
 
 def form_edges() -> Iterator[Case]:
-    """Give data blocks at the edge between two forms, and 29 at the smaller length (DECISIONS B9, B10)."""
+    """Give data blocks at the edge between two forms, and 29 at the smaller length (READINGS W207-1, W207-7)."""
     places = (0, 1, 59, 60, 61, 62, 122, 123, 124, 247, 248, 254, 255)
     for word in (0x00FF, 0x0100, 0x03FF, 0x0400, 0xFFFF):
         for place in places:
-            name = f"B9 word {word:#06x} at {place}"
+            name = f"W207-1 word {word:#06x} at {place}"
             yield (name, *write_record(bytes(24), bytes(1280), (512, 0), [(256 + place, [word])], marks_of({1}),
                                         (2000, 13)))
     for place in (60, 61):
@@ -55,7 +55,7 @@ def form_edges() -> Iterator[Case]:
         ram, marks = ram_of((256, 0), laid), [True] + [False] * 2047
         length = write_image(bytes(16), bytes(8), Tables(), ram, marks, bytearray()).length
         for buffer in (length - 1, length, length + 1):
-            name = f"B10 five data blocks, buffer {buffer}"
+            name = f"W207-7 five data blocks, buffer {buffer}"
             yield (name, *write_record(bytes(24), bytes(1280), (256, 0), laid, marks_of({0}), (buffer, 13)))
 
 
@@ -76,7 +76,7 @@ def write_cases(g: Generator) -> Iterator[Case]:
     yield from form_edges()
     for _ in range(60):
         laid = [(256, random_paragraph(g))]
-        yield ("W-207 random forms",
+        yield ("W207 random forms",
                *write_record(bytes(24), bytes(1280), (768, g.below(2)), laid, marks_of({1, 2}), (2700, 13)))
     for _ in range(300):
         words = g.pick([256, 300, 2048, 4096, 20_000])

@@ -45,7 +45,7 @@ class Entry:
 
 
 def allowed(cfg: bytes, place: int) -> bool:
-    """Tell whether the byte there may stand in a CFG (01, What a CFG may say; DECISIONS C3)."""
+    """Tell whether the byte there may stand in a CFG (01, What a CFG may say; READINGS C3)."""
     byte = cfg[place]
     if byte == 0x0D:
         return cfg[place + 1:place + 2] == b"\n"
@@ -53,13 +53,13 @@ def allowed(cfg: bytes, place: int) -> bool:
 
 
 def check_length(cfg: bytes) -> None:
-    """Ask 22 of the length (01, refusal 22; DECISIONS C1)."""
+    """Ask 22 of the length (01, refusal 22; READINGS C1)."""
     if len(cfg) > CFG_LIMIT:
         raise Refused(22, 0)
 
 
 def check_bytes(cfg: bytes) -> None:
-    """Ask 22 of each byte (01, refusal 22; DECISIONS C3, C4)."""
+    """Ask 22 of each byte (01, refusal 22; READINGS C3, C4)."""
     for place in range(len(cfg)):
         if not allowed(cfg, place):
             raise Refused(22, 1 + cfg[:place].count(b"\n"))
@@ -73,7 +73,7 @@ def bare_lines(cfg: bytes) -> list[tuple[int, str]]:
 
 
 def read_entry(number: int, line: str, section: str) -> Entry:
-    """Read one entry of its section, else 23 (01, refusal 23; DECISIONS C5 to C8)."""
+    """Read one entry of its section, else 23 (01, refusal 23; READINGS C5 to C8)."""
     form = {"mapping": MAPPING, "memattr": MEMATTR}.get(section)
     match = form.fullmatch(line) if form else None
     if match is None:
@@ -97,7 +97,7 @@ def lines_in_sections(cfg: bytes) -> Iterator[tuple[int, str, str]]:
 
 
 def check_count(entries: list[Entry]) -> None:
-    """Ask 24: no entry, or more than 128 (01, refusal 24; 02, W-210; DECISIONS C12)."""
+    """Ask 24: no entry, or more than 128 (01, refusal 24; 02, W-210; READINGS C12)."""
     if not entries:
         raise Refused(24, 0)
     if len(entries) > MOST_ENTRIES:
@@ -105,7 +105,7 @@ def check_count(entries: list[Entry]) -> None:
 
 
 def read_cfg(cfg: bytes) -> list[Entry]:
-    """Read all entries, asking 22, 23 and 24 each of the whole file (01; DECISIONS C2)."""
+    """Read all entries, asking 22, 23 and 24 each of the whole file (01; READINGS C2)."""
     check_length(cfg)
     check_bytes(cfg)
     entries = [read_entry(*line) for line in lines_in_sections(cfg)]

@@ -137,7 +137,7 @@ def lookup_conditions(image: bytes, label: bytes, _asked: Asked) -> list[Held]:
 
 
 def label_conditions(label: bytes, buffer: Seeded) -> list[Held]:
-    """Give what holds of a metadata block to be written (DECISIONS N16)."""
+    """Give what holds of a metadata block to be written (READINGS W204-23)."""
     return held(check_label, label) + short(buffer, BLOCK_HEADER + len(label))
 
 

@@ -65,7 +65,7 @@ def metadata_block(data: bytes, spoil_payload: int = 0) -> DraftBlock:
 
 
 def flag_bytes(bits: int) -> bytes:
-    """Write flag bits as the sixteen flag bytes (01, File layout; DECISIONS L18)."""
+    """Write flag bits as the sixteen flag bytes (01, File layout; READINGS L18)."""
     return bits.to_bytes(16, "little")
 
 

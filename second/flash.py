@@ -19,13 +19,13 @@ class Flash:
         self.addr = self.row = 0
 
     def read(self, address: int) -> Optional[int]:
-        """Give first or last row; all else is silent (000's table; DECISIONS M20, M21)."""
+        """Give first or last row; all else is silent (000's table; READINGS W209-4, W209-9)."""
         if self.sectors == 0:
             return None
         return {FIRST: 0, LAST: ROWS * self.sectors - 1}.get(address)
 
     def write(self, ram: MutableSequence[int], flash: MutableSequence[int], address: int, value: int) -> None:
-        """Set a register or run a command (000's table; DECISIONS M20, M21)."""
+        """Set a register or run a command (000's table; READINGS W209-6, W209-10)."""
         if self.sectors == 0:
             return
         if address == ADDR:
@@ -40,11 +40,11 @@ class Flash:
             self.erase(flash)
 
     def row_lent(self, flash: MutableSequence[int]) -> bool:
-        """Tell whether the row is in range and wholly lent (02, W-209; DECISIONS M20, M22)."""
+        """Tell whether the row is in range and wholly lent (02, W-209; READINGS W209-3 to W209-5)."""
         return self.row < ROWS * self.sectors and ROW * self.row + ROW <= len(flash)
 
     def ram_lent(self, ram: MutableSequence[int]) -> bool:
-        """Tell whether all 96 words lie in JLP's RAM and in the lent RAM (02, W-209; DECISIONS M20)."""
+        """Tell whether all 96 words lie in JLP's RAM and in the lent RAM (02, W-209; READINGS W209-2)."""
         return all(word in JLP_RAM and word + TO_LOCUTUS < lent(ram) for word in (self.addr, self.addr + ROW - 1))
 
     def copy(self, ram: MutableSequence[int], flash: MutableSequence[int]) -> None:
@@ -53,14 +53,14 @@ class Flash:
             ram[self.addr + TO_LOCUTUS + word] = flash[ROW * self.row + word]
 
     def keep(self, ram: MutableSequence[int], flash: MutableSequence[int]) -> None:
-        """Write RAM into an empty row (02, W-209; DECISIONS M22)."""
+        """Write RAM into an empty row (02, W-209; READINGS W209-8)."""
         row = range(ROW * self.row, ROW * self.row + ROW)
         if all(flash[word] == EMPTY for word in row):
             for word in row:
                 flash[word] = ram[self.addr + TO_LOCUTUS + word - row[0]]
 
     def erase(self, flash: MutableSequence[int]) -> None:
-        """Make the row's sector empty if it is in range and wholly lent (02, W-209; DECISIONS M22)."""
+        """Make the row's sector empty if it is in range and wholly lent (02, W-209; READINGS W209-7)."""
         first = SECTOR_WORDS * (self.row // ROWS)
         if self.row < ROWS * self.sectors and first + SECTOR_WORDS <= len(flash):
             flash[first:first + SECTOR_WORDS] = [EMPTY] * SECTOR_WORDS

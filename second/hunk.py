@@ -57,7 +57,7 @@ def address_of(payload: bytes) -> int:
 
 
 def decode(payload: bytes) -> Optional[tuple[int, list[int]]]:
-    """Give address and words, or none if cut or reserved (01, refusal 9; DECISIONS L10)."""
+    """Give address and words, or none if cut or reserved (01, refusal 9; READINGS L10)."""
     if len(payload) < 3:
         return None
     words: list[int] = []
@@ -69,7 +69,7 @@ def decode(payload: bytes) -> Optional[tuple[int, list[int]]]:
 
 
 def fault(payload: bytes, words_lent: int) -> Optional[int]:
-    """Give the place in the payload that 9 names, or none (02, W-205; DECISIONS L20)."""
+    """Give the place in the payload that 9 names, or none (02, W-205; READINGS W205-1 to W205-4)."""
     if len(payload) < 3:
         return 0
     end = address_of(payload)
@@ -104,7 +104,7 @@ def block_16(words: list[int]) -> bytes:
 
 
 def forms(words: list[int]) -> list[bytes]:
-    """Give each form that can carry the words: 16-bit, 10-bit, 8-bit (02, W-207; DECISIONS B9)."""
+    """Give each form that can carry the words: 16-bit, 10-bit, 8-bit (02, W-207; READINGS W207-1)."""
     found = [block_16(words)] if len(words) <= MOST_16 else []
     if len(words) <= MOST_10 and all(word <= 0x3FF for word in words[:-1]):
         found.append(block_10(words))

@@ -18,14 +18,14 @@ def signed(word: int) -> int:
 
 
 def product(function: int, first: int, second: int) -> int:
-    """Multiply as MPYSS, MPYSU, MPYUS or MPYUU, modulo 2^32 (000's table)."""
+    """Multiply as MPYSS, MPYSU, MPYUS or MPYUU, modulo 2^32 (000's table; READINGS W206-8)."""
     left = signed(first) if function in (0, 1) else first
     right = signed(second) if function in (0, 2) else second
     return left * right % 2**32
 
 
 def quotient_and_remainder(function: int, first: int, second: int) -> tuple[int, int]:
-    """Divide as DIVSS or DIVUU, rounding toward zero (000's table; 02, W-206; DECISIONS M17)."""
+    """Divide as DIVSS or DIVUU, rounding toward zero (000's table; 02, W-206; READINGS W206-12)."""
     left, right = (signed(first), signed(second)) if function == 4 else (first, second)
     quotient = abs(left) // abs(right)
     if (left < 0) != (right < 0):
@@ -34,7 +34,7 @@ def quotient_and_remainder(function: int, first: int, second: int) -> tuple[int,
 
 
 def crc_step(crc: int, word: int) -> int:
-    """Take one 16-bit word into the CRC (000, CRC-16; DECISIONS S7)."""
+    """Take one 16-bit word into the CRC (000, CRC-16; READINGS W206-13)."""
     crc ^= word
     for _ in range(16):
         crc = crc >> 1 ^ (POLYNOMIAL if crc & 1 else 0)
@@ -52,11 +52,11 @@ class Jlp:
         self.reset()
 
     def reset(self) -> None:
-        """Turn on for fields 1 and 3, off else; all else survives (02, W-206; DECISIONS M19)."""
+        """Turn on for fields 1 and 3, off else; all else survives (02, W-206; READINGS W206-16)."""
         self.on = self.field in (1, 3)
 
     def switched(self, address: int, value: int) -> bool:
-        """Take a switch write, and tell whether it was one (02, W-206; DECISIONS M15)."""
+        """Take a switch write, and tell whether it was one (02, W-206; READINGS W206-1 to W206-3)."""
         if self.field != 0 and (address, value) == TURN_ON:
             self.on = True
             return True
@@ -66,11 +66,11 @@ class Jlp:
         return False
 
     def has(self, address: int) -> bool:
-        """Tell whether the accelerators stand at the address now (02, W-206; DECISIONS M14)."""
+        """Tell whether the accelerators stand at the address now (02, W-206; READINGS ALL-2)."""
         return self.on and address in WINDOW
 
     def read(self, ram: MutableSequence[int], address: int) -> Optional[int]:
-        """Read RAM, results, CRC or flash's rows; all else is silent (02, W-206)."""
+        """Read RAM, results, CRC or flash's rows; all else is silent (02, W-206; READINGS W206-15)."""
         if address in JLP_RAM:
             return ram[address + TO_LOCUTUS] if address + TO_LOCUTUS < lent(ram) else None
         return {LOW: self.low, HIGH: self.high, CRC: self.crc}.get(address, self.flash.read(address))
@@ -90,7 +90,7 @@ class Jlp:
             self.flash.write(ram, flash, address, value)
 
     def compute(self, function: int) -> None:
-        """Run a function on its two operands; divisor 0 leaves the results (02, W-206; DECISIONS M16, M17)."""
+        """Run a function on its two operands; divisor 0 leaves the results (02, W-206; READINGS W206-9 to W206-11)."""
         first, second = self.operands[2 * function:2 * function + 2]
         if function < 4:
             self.high, self.low = divmod(product(function, first, second), 65536)

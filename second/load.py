@@ -49,7 +49,7 @@ def lent(ram: MutableSequence[int]) -> int:
 
 
 def header_faults(image: bytes) -> list[int]:
-    """Give which of 1 to 4 hold, in their order; what is cut off can't be wrong (01, Load order; DECISIONS L2)."""
+    """Give which of 1 to 4 hold, in their order; what is cut off can't be wrong (01, Load order; READINGS L2)."""
     faults = {
         1: len(image) < HEADER or len(image) > IMAGE_LIMIT,
         2: len(image) >= 3 and image[0:3] != MAGIC,
@@ -98,7 +98,7 @@ def take_tables(block: Block, before: Optional[Tables]) -> Tables:
 
 
 def check_tables_found(tables: Optional[Tables], image: bytes) -> Tables:
-    """Give the tables found, or "none" of 8 (01, refusal 8; DECISIONS L5)."""
+    """Give the tables found, or "none" of 8 (01, refusal 8; READINGS L5)."""
     if tables is None:
         raise Refused(8, len(image))
     return tables
@@ -125,31 +125,31 @@ def jlp_field(flags: bytes) -> int:
 
 
 def flash_size(flags: bytes) -> int:
-    """Give flag bits 22 to 31, the sectors of flash (001, JLP Flash Save Game Size; DECISIONS L18)."""
+    """Give flag bits 22 to 31, the sectors of flash (001, JLP Flash Save Game Size; READINGS LW-6)."""
     return int.from_bytes(flags[:4], "little") >> 22
 
 
 def check_supported(flags: bytes, tables: Tables) -> None:
-    """Ask 10: flag 32, or PFE in chapter 1 (01, refusal 10; 02, W-202, W-206; DECISIONS L23)."""
+    """Ask 10: flag 32, or PFE in chapter 1 (01, refusal 10; 02, W-202, W-206; READINGS W206-18)."""
     if flags[4] & 1 or any(entry & PFE for entry in tables.flips[16:32]):
         raise Refused(10, 0)
 
 
 def check_jlp_ram(flags: bytes, words_lent: int) -> None:
-    """Ask 11 (02, W-206; DECISIONS L19)."""
+    """Ask 11 (02, W-206; READINGS LW-3)."""
     if jlp_field(flags) and words_lent < JLP_WORDS:
         raise Refused(11, 0)
 
 
 def check_flash(flags: bytes, flash_lent: Optional[int]) -> None:
-    """Ask 13; with no flash given, by the size alone (02, W-209; DECISIONS L22)."""
+    """Ask 13; with no flash given, by the size alone (02, W-209; READINGS LW-4, LW-5)."""
     size = flash_size(flags)
     if jlp_field(flags) >= 2 and (size > MOST_SECTORS or flash_lent not in (None, SECTOR_WORDS * size)):
         raise Refused(13, 0)
 
 
 def check_features(flags: bytes, tables: Tables, words_lent: int, flash_lent: Optional[int] = None) -> None:
-    """Ask 10, 11, 13, in this order (02, W-206, W-209; DECISIONS L19, L23)."""
+    """Ask 10, 11, 13, in this order (02, W-206, W-209; READINGS LW-1, LW-2)."""
     check_supported(flags, tables)
     check_jlp_ram(flags, words_lent)
     check_flash(flags, flash_lent)

@@ -80,7 +80,7 @@ class Machine:
         return entry >= 32 and self.initial.flips[entry] & PFE != 0
 
     def write(self, ram: MutableSequence[int], flash: MutableSequence[int], address: int, value: int) -> int:
-        """Give the write to its one taker, and count the mapping entries assigned (DECISIONS M11, M14; 02, W-212)."""
+        """Give the write to its one taker, and count the mapping entries assigned (READINGS ALL-1; 02, W-212)."""
         if self.jlp.switched(address, value):
             return 0
         if self.jlp.has(address):
@@ -95,13 +95,13 @@ class Machine:
         return 0
 
     def store(self, ram: MutableSequence[int], address: int, value: int) -> None:
-        """Store a word where the permissions let it (01, The machine; DECISIONS M1, M2)."""
+        """Store a word where the permissions let it (01, The machine; READINGS M1, M2)."""
         location, permissions = self.location(address), self.permissions[address >> 8]
         if permissions & WRITE and location < lent(ram):
             ram[location] = stored(ram[location], value, permissions & NARROW != 0)
 
     def switch(self, half_page: int, first: int) -> int:
-        """Map a half-page from an Intellicart paragraph on; permissions stay (02, W-202; DECISIONS M8, M9)."""
+        """Map a half-page from an Intellicart paragraph on; permissions stay (02, W-202; READINGS W202-3, W202-4)."""
         for k in range(8):
             self.mapping[8 * half_page + k] = (first + k) % 256
         return 8

@@ -13,7 +13,7 @@ NONE, LABEL, IMAGE = 0, 1, 2
 
 @dataclass
 class Found:
-    """What a lookup answers: which file the text stands in, its first byte there and its length (DECISIONS N3)."""
+    """What a lookup answers: which file the text stands in, its first byte there and its length (READINGS W204-4)."""
 
     number: int = 0
     place: int = 0
@@ -24,7 +24,7 @@ class Found:
 
 @dataclass
 class Date:
-    """A release date; month 0 and day 0 are not given (001, Date Released; DECISIONS N4, N5)."""
+    """A release date; month 0 and day 0 are not given (001, Date Released; READINGS W204-5 to W204-7)."""
 
     year: int
     month: int
@@ -37,7 +37,7 @@ class Date:
 
 
 def image_records(image: bytes) -> list[SubRecord]:
-    """Give the records of all metadata blocks in order, with places in the image (DECISIONS N8)."""
+    """Give the records of all metadata blocks in order, with places in the image (READINGS W204-14)."""
     found = []
     for block in blocks_of(image):
         if block.kind == METADATA:
@@ -47,7 +47,7 @@ def image_records(image: bytes) -> list[SubRecord]:
 
 
 def given_twice(records: list[SubRecord]) -> tuple[bool, ...]:
-    """Tell of each single-value tag whether it is given twice (02, W-204; DECISIONS N6)."""
+    """Tell of each single-value tag whether it is given twice (02, W-204; READINGS W204-9, W204-10)."""
     return tuple(len([r for r in records if r.tag == tag]) > 1 for tag in SINGLE)
 
 
@@ -58,7 +58,7 @@ def nth(records: list[SubRecord], tag: int, n: int) -> Optional[SubRecord]:
 
 
 def readable_label(image: bytes, label: bytes) -> list[SubRecord]:
-    """Ask a load's refusals, then 12 of the label; give the label's records (02, W-204; DECISIONS N9)."""
+    """Ask a load's refusals, then 12 of the label; give the label's records (02, W-204; READINGS W204-15)."""
     accept_in_full(image)
     records = sub_records(label)
     if records is None:
@@ -67,7 +67,7 @@ def readable_label(image: bytes, label: bytes) -> list[SubRecord]:
 
 
 def lookup(image: bytes, label: bytes, tag: int, n: int) -> Found:
-    """Find the label's n-th text, else the image's, else none (02, W-204; DECISIONS N10)."""
+    """Find the label's n-th text, else the image's, else none (02, W-204; READINGS W204-16)."""
     try:
         mine = nth(readable_label(image, label), tag, n)
     except Refused as refused:
@@ -81,7 +81,7 @@ def lookup(image: bytes, label: bytes, tag: int, n: int) -> Found:
 
 
 def date_of(text: bytes) -> Date:
-    """Read a release date, missing bytes as 0 and those past the eighth ignored (DECISIONS N4)."""
+    """Read a release date, missing bytes as 0 and those past the eighth ignored (READINGS W204-5)."""
     full = (text + bytes(8))[:8]
     zone = full[6] - 256 if full[6] >= 128 else full[6]
     return Date(1900 + full[0], *full[1:6], zone, full[7])

@@ -12,5 +12,5 @@ class Refused(Exception):
 
 
 def refusal_text(number: int, place: int) -> str:
-    """Give what the programs print of a refusal (01, Bench cases; DECISIONS K1)."""
+    """Give what the programs print of a refusal (01, Bench cases; READINGS K1)."""
     return f"result=refused\ncode={number}\nat={place}\n"

@@ -15,7 +15,7 @@ WRITE_LINE = re.compile(b"op=w addr=" + HEX + b" value=" + HEX)
 
 @dataclass
 class Ran:
-    """What a run answers beside the state: length is the reads that need room, at 29 (DECISIONS A4)."""
+    """What a run answers beside the state: length is the reads that need room, at 29 (READINGS W214-7)."""
 
     number: int = 0
     place: int = 0
@@ -25,14 +25,14 @@ class Ran:
 
 
 def lines_of(text: bytes) -> list[bytes]:
-    """Cut a list at LF or CR LF; what follows the last is a line if it isn't empty (DECISIONS A2)."""
+    """Cut a list at LF or CR LF; what follows the last is a line if it isn't empty (READINGS W214-2, W214-3)."""
     *ended, rest = text.split(b"\n")
     lines = [line[:-1] if line.endswith(b"\r") else line for line in ended]
     return lines + ([rest] if rest else [])
 
 
 def read_line(line: bytes) -> Optional[Access]:
-    """Read one line, or none if malformed (DECISIONS A1)."""
+    """Read one line, or none if malformed (READINGS W214-1)."""
     if line == b"op=x":
         return RESET
     match = READ_LINE.fullmatch(line)
@@ -51,13 +51,13 @@ def read_list(text: bytes) -> list[Access]:
 
 
 def count_reads(accesses: list[Access]) -> int:
-    """Count the answers that a list needs room for (DECISIONS A4)."""
+    """Count the answers that a list needs room for (READINGS W214-6)."""
     return len([access for access in accesses if access[0] == READ_IT])
 
 
 def run_list(machine: Machine, ram: MutableSequence[int], flash: MutableSequence[int], text: bytes, limit: int,
              room: int) -> Ran:
-    """Run up to limit lines, refusing 33, then 29, before any (02, W-214; DECISIONS A3 to A6)."""
+    """Run up to limit lines, refusing 33, then 29, before any (02, W-214; READINGS W214-5 to W214-10)."""
     try:
         accesses = read_list(text)
         if count_reads(accesses) > room:

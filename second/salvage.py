@@ -25,7 +25,7 @@ class Salvaged:
 
 
 def blocks_before_stop(image: bytes) -> tuple[list[Block], Optional[int]]:
-    """Give the blocks before the first that would give 5, and its place (DECISIONS R2)."""
+    """Give the blocks before the first that would give 5, and its place (READINGS W208-3)."""
     blocks = []
     try:
         for block in blocks_of(image):
@@ -36,7 +36,7 @@ def blocks_before_stop(image: bytes) -> tuple[list[Block], Optional[int]]:
 
 
 def is_left_out(block: Block) -> bool:
-    """Tell whether a hunk gives 6 or 9 in a RAM of 524,288 words (02, W-208; DECISIONS R1)."""
+    """Tell whether a hunk gives 6 or 9 in a RAM of 524,288 words (02, W-208; READINGS W208-1)."""
     if block.kind != DATA_HUNK:
         return False
     try:
@@ -48,7 +48,7 @@ def is_left_out(block: Block) -> bool:
 
 
 def salvaged(image: bytes) -> tuple[Salvaged, bytes]:
-    """Judge the blocks in order, and give what is kept of the file (02, W-208; DECISIONS R1 to R4)."""
+    """Judge the blocks in order, and give what is kept of the file (02, W-208; READINGS W208-1 to W208-6)."""
     check_header(image)
     answer, out, tables = Salvaged(), image[:HEADER], None
     blocks, answer.stopped = blocks_before_stop(image)
@@ -66,7 +66,7 @@ def salvaged(image: bytes) -> tuple[Salvaged, bytes]:
 
 
 def salvage(image: bytes, buffer: bytearray) -> Salvaged:
-    """Copy what is good into the buffer, or answer number and place (02, W-208; DECISIONS R8)."""
+    """Copy what is good into the buffer, or answer number and place (02, W-208; READINGS W208-11)."""
     try:
         answer, out = salvaged(image)
         answer.length = put(out, buffer)
@@ -76,7 +76,7 @@ def salvage(image: bytes, buffer: bytearray) -> Salvaged:
 
 
 def program(image: bytes) -> tuple[str, bytes]:
-    """Give what the program prints, and the file it writes (02, W-208; DECISIONS R5, R6, R9)."""
+    """Give what the program prints, and the file it writes (02, W-208; READINGS W208-7 to W208-10)."""
     buffer = bytearray(CARD_LIMIT + 1)
     answer = salvage(image, buffer) if len(image) <= CARD_LIMIT else Salvaged(30)
     if answer.number:

@@ -58,7 +58,7 @@ def check_sums() -> Iterator[Check]:
 
 
 def check_hunks() -> Iterator[Check]:
-    """Decode and encode 001's example (001, Encoded Example; DECISIONS S1)."""
+    """Decode and encode 001's example (001, Encoded Example; READINGS S1)."""
     words = [int(word, 16) for word in EXAMPLE_WORDS.split()]
     yield "example decoded", hunk.decode(b"\x01\x02\x03" + EXAMPLE) == (0x030201, words)
     cuts = [7, 9, 14, 16, 33, 39]

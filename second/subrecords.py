@@ -14,7 +14,7 @@ class SubRecord:
 
 
 def sub_records(data: bytes) -> Optional[list[SubRecord]]:
-    """Give the sub-records, or none if the last one is cut (DECISIONS N1 to N3)."""
+    """Give the sub-records, or none if the last one is cut (READINGS W204-1 to W204-4)."""
     found, place = [], 0
     while place < len(data):
         if place + 2 > len(data) or place + 2 + data[place + 1] > len(data):

@@ -23,7 +23,7 @@ class Tables:
     flips: list[int] = field(default_factory=zeros)
 
     def readable(self) -> int:
-        """Count the paragraphs with READ (02, W-211; DECISIONS M13)."""
+        """Count the paragraphs with READ (02, W-211; READINGS W211-1)."""
         return sum(permissions & READ for permissions in self.permissions)
 
     def payload(self) -> bytes:

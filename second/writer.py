@@ -54,13 +54,13 @@ def put(image: bytes, buffer: bytearray) -> int:
 
 
 def check_label(label: bytes) -> None:
-    """Ask 12 of sub-records to be written: cut, or longer than a block (02, W-204; DECISIONS N11)."""
+    """Ask 12 of sub-records to be written: cut, or longer than a block (02, W-204; READINGS W204-18)."""
     if len(label) > MOST_PAYLOAD or sub_records(label) is None:
         raise Refused(12, 0)
 
 
 def write_metadata(label: bytes, buffer: bytearray) -> Written:
-    """Write sub-records as a block of type 0x03, refusing 12, then 29 (02, W-204; DECISIONS N16)."""
+    """Write sub-records as a block of type 0x03, refusing 12, then 29 (02, W-204; READINGS W204-23)."""
     try:
         check_label(label)
         return Written(0, 0, put(block(METADATA, label), buffer))

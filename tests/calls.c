@@ -6,11 +6,11 @@
 #include <stdlib.h>
 #include <string.h>
 
-enum { ROOM = 2097152, ACCESSES = 50000, SHORT = 200, SECTOR_WORDS = 768, SECTORS = 682 };
+enum { ROOM = 2097152, ACCESSES = 50000, SHORT = 200 };
 
 static uint8_t bin[524288], cfg[16384], label[65535], image[ROOM], plain[ROOM], again[ROOM], back_bin[524288], back_cfg[16384];
 static size_t bin_length, cfg_length, label_length, image_length, plain_length;
-static uint16_t ram[LUIGI_RAM_WORDS], other[LUIGI_RAM_WORDS], no_flash[1], flash_room[SECTORS * SECTOR_WORDS + 1];
+static uint16_t ram[LUIGI_RAM_WORDS], other[LUIGI_RAM_WORDS], no_flash[1];
 static LuigiLoaded loaded;
 static int failed;
 
@@ -59,59 +59,14 @@ static void load(void) {
     check(loaded.number == 0 && loaded.words == 8704, "luigi_load");
 }
 
-/* An image with a JLP field and a size of flash, in sectors, into `again`; answers its length. Nothing is marked, so it names no words. */
-static size_t image_with_flash(uint8_t field, uint16_t sectors) {
-    uint8_t flags[LUIGI_FLAGS], marks[LUIGI_LOCUTUS_PARAGRAPHS] = {0};
-    LuigiWrittenImage w;
-    memcpy(flags, image + 4, sizeof flags);
-    flags[2] = field | sectors << 6;
-    flags[3] = sectors >> 2;
-    luigi_write_image(&w, flags, image + 20, loaded.mapping, loaded.permissions, loaded.flips, ram, LUIGI_RAM_WORDS, marks, again, ROOM);
-    check(w.number == 0, "luigi_write_image, of an image with a flash");
-    return w.length;
-}
-
-static uint32_t load_with(size_t n, size_t flash_words) {
-    static LuigiLoaded l;
-    memset(other, 0, sizeof other);
-    luigi_load(&l, again, n, other, LUIGI_RAM_WORDS, flash_room, flash_words);
-    return l.number;
-}
-
-/* A load wants just the words that luigi_flash_words answers: one fewer or one more is 13. Field 1 has no flash, whatever the size says. */
+/* Flag bytes with JLP flash of 16 sectors, by fields 3 and 1: only the first has a flash. */
 static void flash(void) {
-    static const uint16_t sizes[] = {1, 2, 3, 16, 681, 682};
-    for (uint8_t field = 2; field <= 3; field++)
-        for (size_t i = 0; i < sizeof sizes / sizeof *sizes; i++) {
-            size_t n = image_with_flash(field, sizes[i]), f = luigi_flash_words(again, n);
-            check(f == (size_t)sizes[i] * SECTOR_WORDS, "luigi_flash_words, of an image with a flash");
-            check(load_with(n, f) == 0, "luigi_load, with the flash that the image asks for");
-            check(load_with(n, f - 1) == 13 && load_with(n, f + 1) == 13 && load_with(n, 0) == 13, "luigi_load, with another flash");
-        }
-    size_t n = image_with_flash(1, 16);
-    check(luigi_flash_words(again, n) == 0 && load_with(n, 0) == 0, "luigi_flash_words, of accelerators without one");
-}
-
-/* The inline functions beside those that they call, on an image with a flash: a row written and read again, a page, a reset. */
-static void cartridge(void) {
-    static LuigiCartridge c;
-    size_t n = image_with_flash(3, 2);
-    memset(other, 0, sizeof other);
-    c.ram = other, c.words = LUIGI_RAM_WORDS, c.flash = flash_room, c.flash_room = 2 * SECTOR_WORDS - 1;
-    check(luigi_cartridge_load(&c, again, n).number == 13 && c.state.readable == 0, "luigi_cartridge_load, with room for less flash");
-    c.flash_room = sizeof flash_room / sizeof *flash_room;
-    memset(flash_room, 0xFF, sizeof flash_room);
-    check(luigi_cartridge_load(&c, again, n).number == 0 && c.flash_words == 2 * SECTOR_WORDS, "luigi_cartridge_load");
-    luigi_cartridge_write(&c, 0x8040, 0x1234);
-    check(luigi_cartridge_read(&c, 0x8040) == 0x1234, "luigi_cartridge_write and luigi_cartridge_read");
-    luigi_cartridge_write(&c, 0x8025, 0x8040);
-    luigi_cartridge_write(&c, 0x8026, 1);
-    luigi_cartridge_write(&c, 0x802D, 0xC0DE);
-    check(flash_room[96] == 0x1234 && flash_room[0] == 0xFFFF, "luigi_cartridge_write, of a row of flash");
-    check(luigi_cartridge_write(&c, 0x4FFF, 0x4A51) == 8 && memcmp(c.state.mapping, loaded.mapping, sizeof loaded.mapping), "luigi_cartridge_write, of a page");
-    luigi_cartridge_reset(&c);
-    check(!memcmp(c.state.mapping, loaded.mapping, sizeof loaded.mapping) && luigi_cartridge_read(&c, 0x8040) == 0x1234, "luigi_cartridge_reset");
-    check(luigi_cartridge_read(&c, 0) == LUIGI_SILENCE, "luigi_cartridge_read, of silence");
+    memcpy(again, image, 32);
+    again[6] = 3;
+    again[7] = 4;
+    check(luigi_flash_words(again, 32) == 16 * 768, "luigi_flash_words, of an image with a flash");
+    again[6] = 1;
+    check(luigi_flash_words(again, 32) == 0, "luigi_flash_words, of accelerators without one");
 }
 
 static bool same_as_loaded(const uint8_t *s, size_t n) {
@@ -254,7 +209,6 @@ int main(int count, char **names) {
     sums();
     load();
     flash();
-    cartridge();
     write_image();
     find();
     salvage();

@@ -3,7 +3,6 @@
 # a guess: every case by its name, then how many there were. Exit status: 0 all are as they should be, 1 some are not, 2 could not run.
 #     tests/files.sh [WORD]     the cases whose names have the word
 set -u
-unset CDPATH
 cd "$(dirname "$0")/.." || exit 2
 here=$PWD luigi=$PWD/luigi only=${1-}
 
@@ -188,22 +187,9 @@ a_path_of_5000_bytes() {
     tells 'too long'
 }
 an_empty_name() {
-    # shellcheck disable=SC2043
-    for words in 'press,,title.cfg,out' 'press,title.bin,,out' 'press,title.bin,title.cfg,' 'press,title.bin,title.cfg,out,' 'card,' 'map,' 'labels,' \
-        'labels,out,' 'salvage,,out' 'salvage,title.bin,' 'bus,,list' 'bus,out,' 'unpress,,b,c' 'unpress,out,,c' 'unpress,out,b,'; do
-        IFS=,
-        # shellcheck disable=SC2086
-        set -- $words
-        unset IFS
-        case $words in *,) set -- "$@" '' ;; esac
-        run "$luigi" "$@"
-        status_is 2
-        one_sentence
-        tells '^luigi: the name of a file to [a-z]* is empty: name a file$'
-        [ ! -s said ] || differs "it says '$(cat said)' for $words"
-    done
-    is_image out old
-    [ ! -e b ] && [ ! -e c ] || differs "a file was written"
+    run "$luigi" press title.bin title.cfg ''
+    status_is 2
+    one_sentence
     no_part
 }
 names_that_look_like_options() {
@@ -322,35 +308,6 @@ out_is_a_link_to_the_bin() {
     tells 'linked is a link'
     cmp -s title.bin before || differs "the BIN is lost"
 }
-out_is_no_image() {
-    for words in 'press title.bin title.cfg title.label' 'press title.bin title.cfg other.cfg title.label' 'salvage out title.bin'; do
-        cp title.label label.before
-        cp other.cfg cfg.before
-        cp title.bin bin.before
-        # shellcheck disable=SC2086
-        run "$luigi" $words
-        stopped 'is not empty and no LUIGI image, so it is kept: name another file'
-        cmp -s title.label label.before && cmp -s other.cfg cfg.before && cmp -s title.bin bin.before || differs "a file is lost by $words"
-    done
-}
-out_is_an_empty_file_or_a_damaged_image() {
-    : >out
-    press
-    status_is 0
-    is_image out new
-    head -c 40 "$work/new" >out
-    press
-    status_is 0
-    is_image out new
-}
-out_cannot_be_told_from_an_image() {
-    has_nobody || return
-    [ "$(id -u)" = 0 ] || { skipped="only root gives files away"; return; }
-    chown 65534:65534 out
-    chmod 200 out
-    run nobody "$luigi" press title.bin title.cfg out
-    stopped 'out is not empty and no LUIGI image'
-}
 out_is_a_link() {
     ln -s out linked
     run "$luigi" press title.bin title.cfg linked
@@ -441,15 +398,6 @@ a_disk_that_is_full_at_the_first_write() {
 a_disk_that_is_full_in_the_middle() {
     press_with write:1:short,write:7:28
     stopped 'out cannot be written whole (the disk is full)'
-}
-a_disk_that_is_full_for_a_new_file() {
-    rm out
-    press_with write:1:28
-    status_is 2
-    one_sentence
-    tells 'out cannot be written whole (the disk is full); out was not made: make room and press again'
-    [ ! -e out ] || differs "out was made"
-    no_part
 }
 a_disk_that_takes_little_at_a_time() {
     press_with write:1:short
@@ -547,26 +495,12 @@ a_bin_that_is_too_long() {
     press
     status_is 1
     says '^code=21$'
-    says '^title.bin has 524290 bytes, and a BIN may have 524,288: '
-    is_image out old
-}
-a_bin_that_is_empty_or_odd() {
-    : >title.bin
-    press
-    status_is 1
-    says '^code=21$'
-    says '^title.bin is empty: get the whole file.$'
-    head -c 4097 /dev/zero >title.bin
-    press
-    status_is 1
-    says '^title.bin has 4097 bytes, and a word takes two: get the whole file.$'
     is_image out old
 }
 a_bin_without_end() {
     run "$luigi" press /dev/zero title.cfg out
     status_is 1
     says '^code=21$'
-    says '^/dev/zero is empty, has an odd number of bytes, or has more than 524,288: '
     is_image out old
 }
 a_title_from_pipes() {
@@ -600,7 +534,6 @@ killed_after_the_move() {
     press_with fsync:2:kill
     status_is 2
     one_sentence
-    tells 'out is new and whole: press again$'
     is_image out new
     no_part
 }
@@ -705,88 +638,6 @@ a_bare_program_without_arguments() {
     run bare press
     says '^result=stopped$'
     says '^why=argument$'
-}
-
-# ---- standard input as a file
-standard_input_for_each_file_that_is_read() {
-    for name in - /dev/stdin; do
-        run_on title.bin press $name title.cfg out
-        is_image out new
-        cp "$work/old" out
-        run_on title.cfg press title.bin $name out
-        is_image out new
-        run_on title.label press title.bin title.cfg out $name
-        cp out named
-        run_on named labels $name
-        cmp -s said "$here/examples/four_in_one.shelf.txt" || differs "labels $name does not print the example's shelf label"
-        run_on title.label labels "$work/new" $name
-        says '^texts=11$'
-        run_on "$work/new" card $name
-        says '^result=loaded$'
-        run_on "$work/new" map $name
-        cmp -s said "$here/examples/four_in_one.map" || differs "map $name does not draw the example's map"
-        run_on "$work/new" bus $name "$here/examples/four_in_one.bus"
-        cmp -s said "$here/examples/four_in_one.words" || differs "bus $name does not hear the example's words"
-        run_on "$here/examples/four_in_one.bus" bus "$work/new" $name
-        cmp -s said "$here/examples/four_in_one.words" || differs "bus does not hear the example's words"
-        run_on "$work/new" salvage $name out
-        is_image out new
-        rm -f back.bin back.cfg
-        run_on "$work/new" unpress $name back.bin back.cfg
-        says '^result=written$'
-    done
-}
-run_on() { # FILE ARGUMENT.., through a pipe
-    file=$1
-    shift
-    # shellcheck disable=SC2002
-    cat "$file" | "$luigi" "$@" >said 2>told
-    status=$?
-    status_is 0
-}
-standard_input_from_a_file_is_an_input() {
-    cp title.bin before
-    "$luigi" press - title.cfg title.bin <title.bin >said 2>told
-    status=$?
-    status_is 2
-    one_sentence
-    tells 'one of the files that were read'
-    cmp -s title.bin before || differs "the BIN is lost"
-}
-standard_input_in_a_sentence() {
-    "$luigi" map - <title.cfg >said 2>told
-    status=$?
-    status_is 1
-    says '^standard input is no LUIGI image'
-}
-standard_input_that_is_closed() {
-    for words in 'card -' 'map -' 'map /dev/stdin' 'labels -' 'press - title.cfg out' 'salvage - out' 'unpress - b c' 'bus - list'; do
-        # shellcheck disable=SC2086
-        "$luigi" $words >said 2>told <&-
-        status=$?
-        status_is 2
-        one_sentence
-        tells 'standard input is closed'
-    done
-}
-standard_input_named_twice() {
-    run "$luigi" press - /dev/stdin out
-    stopped 'standard input can be read only once'
-}
-standard_input_to_be_written() {
-    for words in 'press title.bin title.cfg -' 'salvage out /dev/stdin' 'unpress out - c' 'unpress out b -'; do
-        # shellcheck disable=SC2086
-        run "$luigi" $words
-        stopped 'nothing can be written to standard input: name a file'
-    done
-    [ ! -e ./- ] && [ ! -e b ] && [ ! -e c ] || differs "a file was written"
-}
-a_file_whose_name_is_a_hyphen() {
-    cp "$work/new" ./-
-    run "$luigi" card ./-
-    status_is 0
-    run "$luigi" press title.bin title.cfg ./-
-    status_is 0
 }
 
 # ---- the card
@@ -914,112 +765,11 @@ a_title_back_to_its_sources() {
     no_part
 }
 one_file_for_bin_and_cfg() {
-    mkdir there
-    ln -s there linked
-    for words in 'back ./back' 'there/back linked/back' 'there/back there/../linked/back'; do
-        # shellcheck disable=SC2086
-        run "$luigi" unpress "$work/new" $words
-        status_is 2
-        one_sentence
-        tells 'are one file'
-    done
-    echo kept >back
-    ln back hard
-    ln -s back soft
-    for words in 'back hard' 'back soft' 'soft hard'; do
-        # shellcheck disable=SC2086
-        run "$luigi" unpress --force "$work/new" $words
-        status_is 2
-        one_sentence
-        tells 'are one file'
-    done
-    [ "$(cat back)" = kept ] && [ ! -e there/back ] || differs "a file was written"
-}
-sources_over_files_that_are_there() {
-    for words in 'title.bin back.cfg' 'back.bin title.cfg'; do
-        # shellcheck disable=SC2086
-        run "$luigi" unpress "$work/new" $words
-        status_is 2
-        one_sentence
-        tells "title.[a-z]* is there already: name another file, or write luigi unpress --force $work/new $words to replace it"
-    done
-    cmp -s title.bin "$work/title.bin" && cmp -s title.cfg "$work/title.cfg" || differs "a source is lost"
-    [ ! -e back.bin ] && [ ! -e back.cfg ] || differs "a file was written"
-    run "$luigi" unpress --force "$work/new" title.bin title.cfg
-    status_is 0
-    says "^bin=$(($(wc -c <title.bin)))$"
-    run "$luigi" unpress --force title.bin title.cfg
-    status_is 2
-    tells 'too few names'
-}
-sources_without_the_names_and_credits() {
-    run "$luigi" press title.bin title.cfg out title.label
-    run "$luigi" unpress out back.bin back.cfg
-    status_is 0
-    says '^out has 11 names and credits, which neither back.bin nor back.cfg can hold: keep the image'
-    run "$luigi" unpress --force "$work/new" back.bin back.cfg
-    status_is 0
-    if grep -q credits said; then differs "it speaks of credits that the image does not have"; fi
-    # shellcheck disable=SC2002
-    cat out | "$luigi" unpress --force - back.bin back.cfg >said 2>told
-    status=$?
-    status_is 0
-    says '^If the image has names and credits, neither back.bin nor back.cfg holds them'
-}
-sources_of_which_one_cannot_be_moved() {
-    echo old >back.cfg
-    run faulty rename:2:1 "$luigi" unpress --force "$work/new" back.bin back.cfg
+    run "$luigi" unpress "$work/new" back ./back
     status_is 2
     one_sentence
-    tells 'over back.cfg (not permitted); back.bin is new and whole, and back.cfg is as it was: mend that and unpress again with --force'
-    [ "$(cat back.cfg)" = old ] && [ -s back.bin ] || differs "the sentence is not true"
-    rm back.bin
-    run faulty rename:1:1 "$luigi" unpress --force "$work/new" back.bin back.cfg
-    status_is 2
-    tells 'over back.bin (not permitted); back.bin was not made, and back.cfg is as it was'
-    [ "$(cat back.cfg)" = old ] && [ ! -e back.bin ] || differs "the sentence is not true"
-    no_part
-}
-sources_in_a_sticky_folder() {
-    has_nobody || return
-    [ "$(id -u)" = 0 ] || { skipped="only root has files that nobody may write and not replace"; return; }
-    mkdir sticky
-    echo old >sticky/back.cfg
-    chmod 666 sticky/back.cfg
-    chmod 1777 sticky
-    run nobody "$luigi" unpress --force "$work/new" sticky/back.bin sticky/back.cfg
-    status_is 2
-    one_sentence
-    tells 'over sticky/back.cfg (not permitted); sticky/back.bin is new and whole, and sticky/back.cfg is as it was: '
-    [ "$(cat sticky/back.cfg)" = old ] && [ -s sticky/back.bin ] || differs "the sentence is not true"
-    no_part sticky
-}
-sources_that_are_no_files() {
-    mkdir there
-    run "$luigi" unpress "$work/new" there back.cfg
-    status_is 2
-    one_sentence
-    tells 'there is no regular file: name another file for the BIN'
-    run "$luigi" unpress "$work/new" back.bin there
-    status_is 2
-    one_sentence
-    tells 'there is no regular file: name another file for the CFG'
-    [ ! -e back.bin ] && [ ! -e back.cfg ] || differs "a file was written"
-    no_part
-}
-sources_that_a_kill_breaks_off() {
-    echo old >back.cfg
-    run faulty rename:2:kill "$luigi" unpress --force "$work/new" back.bin back.cfg
-    status_is 2
-    one_sentence
-    tells 'broken off (status [0-9]*); back.bin is new and whole, and back.cfg is as it was: unpress again with --force$'
-    [ "$(cat back.cfg)" = old ] && [ -s back.bin ] || differs "the sentence is not true"
-    no_part
-    rm back.bin back.cfg
-    run faulty rename:1:kill "$luigi" unpress "$work/new" back.bin back.cfg
-    status_is 2
-    tells 'back.bin was not made, and back.cfg was not made: unpress again$'
-    no_part
+    tells 'are one file'
+    [ ! -e back ] || differs "a file was written"
 }
 sources_of_a_damaged_image() {
     head -c 1300 "$work/new" >image
@@ -1034,12 +784,7 @@ sources_over_the_image() {
     run "$luigi" unpress image image back.cfg
     status_is 2
     one_sentence
-    tells 'image is the image that is read, and it is kept: name another file for the BIN'
-    run "$luigi" unpress image back.bin ../case/image
-    status_is 2
-    one_sentence
-    tells 'image is the image that is read, and it is kept: name another file for the CFG'
-    [ ! -e back.bin ] && [ ! -e back.cfg ] || differs "a file was written"
+    tells 'one of the files that were read'
     is_image image new
 }
 
@@ -1094,14 +839,6 @@ a_label_that_is_cut_or_too_long() {
     run "$luigi" labels "$work/new" new.label
     status_is 1
     says '^code=12$'
-    says 'new.label is longer than 65,535 bytes'
-    run "$luigi" press title.bin title.cfg out new.label
-    status_is 1
-    says '^code=12$'
-    says 'new.label is longer than 65,535 bytes, the most that a block holds: leave texts out'
-    # shellcheck disable=SC2002
-    cat new.label | "$luigi" press title.bin title.cfg out - >said 2>told
-    says '^standard input is cut inside a record, or longer than 65,535 bytes'
 }
 labels_of_a_damaged_image() {
     run "$luigi" press title.bin title.cfg out title.label
@@ -1233,7 +970,7 @@ a_longer_image_is_not_salvaged() {
     salvage image
     status_is 1
     says '^code=30$'
-    says 'longer than 24,576 bytes, the most that is salvaged, so nothing was written'
+    says 'longer than 24,576 bytes'
     is_image out old
     head -c 24576 image >shorter
     salvage shorter
@@ -1255,7 +992,7 @@ a_salvage_of_no_file() {
 }
 a_salvage_to_a_full_disk() {
     run faulty write:1:28 "$luigi" salvage "$work/new" out
-    stopped 'out cannot be written whole (the disk is full); out is as it was: make room and salvage again'
+    stopped 'out cannot be written whole (the disk is full): it is as it was; make room and salvage again'
 }
 
 # ---- what the sentences explain
@@ -1279,65 +1016,6 @@ code_26_for_a_page_at_4000() {
     status_is 1
     says '^code=26$'
     says 'of $4800 ($800 words, so never $4000)'
-}
-
-code_22_names_the_byte() {
-    { printf '\357\273\277'; cat "$work/title.cfg"; } >title.cfg
-    press
-    status_is 1
-    says '^code=22$'
-    says '^title.cfg, line 1: it starts with a byte order mark (EF BB BF), which an editor does not show: save the file without one.$'
-    printf '[mapping]\r\n$0000 - $00FF = $5000 ; caf\351\r\n' >title.cfg
-    press
-    says '^title.cfg, line 2: byte 28 is E9 (hexadecimal), which is no printable ASCII, tab or line end: remove or retype it.$'
-    printf '[mapping]\n\t$0000 - $00FF = $5000\n\000' >title.cfg
-    press
-    says '^title.cfg, line 3: byte 1 is 00 (hexadecimal)'
-    printf '[mapping]\r$0000 - $00FF = $5000\r' >title.cfg
-    press
-    says '^title.cfg, line 1: byte 10 is 0D, a CR with no LF after it: end lines in LF or CR LF.$'
-    printf '[mapping]\n$0000 - $00FF = $5000\r' >title.cfg
-    press
-    says '^title.cfg, line 2: byte 22 is 0D, a CR with no LF after it'
-    # shellcheck disable=SC2002
-    cat title.cfg | "$luigi" press title.bin - out >said 2>told
-    says '^standard input, line 2: it has a byte that is no printable ASCII, tab or line end: retype the line.$'
-}
-code_23_for_a_section_that_is_not_known() {
-    printf '[mapping]\n$0000 - $00FF = $5000\n\n  [vars] ; of jzIntv\nname = "Title"\n' >title.cfg
-    press
-    status_is 1
-    says '^code=23$'
-    says '^title.cfg, line 4: \[vars\] is not understood; only \[mapping\] and \[memattr\] are supported'
-    printf '$0000 - $00FF = $5000\n' >title.cfg
-    press
-    says '^title.cfg, line 1: it is not written as a CFG line is, or stands before any section'
-}
-code_24_for_the_129th_line() {
-    { echo '[mapping]'; pages 129; } >title.cfg
-    press
-    status_is 1
-    says '^title.cfg, line 130: this is the 129th entry, and a CFG may have 128: leave a page out, or '
-}
-code_27_for_a_page_and_for_plain_words() {
-    printf '[mapping]\n$0000 - $0FFF = $5000 PAGE 2\n$1000 - $1FFF = $5000\tPAGE 3\n$0000 - $0FFF = $5000 PAGE 3 ; new\n' >title.cfg
-    press
-    status_is 1
-    says '^title.cfg, line 4: this line maps page 3 of $5000, which line 3 maps already. Remove or change one of them.$'
-    printf '[mapping]\n$0000 - $0FFF = $5000\n[memattr]\n$5100 - $51FF = RAM 16\n' >title.cfg
-    press
-    says '^title.cfg, line 4: this line claims what line 2 claims already. Remove or change one of them.$'
-}
-code_32_for_a_large_image() {
-    yes | head -c 8192 >title.bin
-    { echo '[mapping]'; pages 65; } >title.cfg
-    press
-    status_is 0
-    run "$luigi" unpress out back.bin back.cfg
-    status_is 1
-    says '^code=32$'
-    says '^The BIN that unpress writes for out, with words of its own for each line, would pass 524,288 bytes: keep the image.$'
-    [ ! -e back.bin ] && [ ! -e back.cfg ] || differs "a file was written"
 }
 
 # ---- the largest titles: 128 lines, and 128 pages of 4,096 words
@@ -1390,7 +1068,7 @@ no_arguments() {
     [ ! -s said ] || differs "usage went to standard output"
 }
 arguments_that_are_none() {
-    for words in 'press a b' 'press a b c d e' 'card' 'card a b' 'map' 'labels' 'labels a b c' 'salvage a' 'unpress a b' 'bus a' 'vectors a b' 'build a'; do
+    for words in 'press a b' 'press a b c d e' 'card' 'card a b' 'map' 'labels' 'labels a b c' 'salvage a' 'unpress a b' 'bus a' 'vectors a b'; do
         # shellcheck disable=SC2086
         run "$luigi" $words
         status_is 2
@@ -1403,13 +1081,9 @@ a_command_that_is_none() {
     tells '^luigi: there is no command prss: luigi help names them all'
 }
 help_is_asked_for() {
-    for words in help -h --help 'card -h' 'press --help' 'unpress -h' 'bus --help' 'build -h' 'vectors --help'; do
-        # shellcheck disable=SC2086
-        run "$luigi" $words
-        status_is 0
-        says '^luigi press'
-        [ ! -s told ] || differs "it tells '$(cat told)'"
-    done
+    run "$luigi" help
+    status_is 0
+    says '^luigi press'
 }
 the_command_by_links() {
     ln -s "$luigi" one
@@ -1428,48 +1102,28 @@ the_command_from_the_path() {
     status_is 0
     is_image out new
 }
-the_command_with_an_exported_cdpath() {
-    stand_in
-    run env CDPATH="$work/case" PATH="$work/case/kit/bin:$PATH" desk/luigi press title.bin title.cfg out
-    status_is 0
-    [ "$(find "$work/case" -name target)" = "$work/case/desk/target" ] || differs "another folder target was made"
-    [ -x desk/target/bin/press ] || differs "the program was not built in the desk's own folder"
-}
 without_rt() {
     mkdir there
-    for tool in sh sed find cat dirname readlink uname printf env od; do ln -s "$(command -v $tool)" there/$tool 2>/dev/null; done
+    for tool in sh sed find cat dirname readlink uname printf env; do ln -s "$(command -v $tool)" there/$tool 2>/dev/null; done
     run env PATH="$work/case/there" "$luigi" press title.bin title.cfg out
     stopped 'rt, the kit.s command, is not on the path'
 }
 
-# A desk with a kit that only notes what it is asked. Its rt fails where the file broken is there, after it linked what that file
-# names, and waits for the file go where the file slow is there, beside a child of its own.
+# A desk with a kit that only notes what it is asked.
 stand_in() {
     mkdir -p desk/crates/press/src desk/target/bin kit/docs kit/bin "kit/on/$(uname -m)/toolchain/lib" "kit/on/$(uname -m)/toolchain/bin"
     cp "$luigi" desk/luigi
-    printf 'press: basics # a program\nbasics:\n' >desk/crates.txt
+    echo 'press:' >desk/crates.txt
     echo 'fn main() {}' >desk/crates/press/src/main.rt
     cat >kit/bin/rt <<END
 #!/bin/sh
-cd "$work/case/desk" || exit 2
 case \$1 in
 doc) echo "$work/case/kit/docs/START-HERE.md" ;;
 check)
-    shift
-    echo "\$*" >>"$work/case/asked"
-    echo 'rt: basics proved (1 s)'
-    if [ -e "$work/case/slow" ]; then
-        (while [ ! -e "$work/case/go" ]; do sleep 0.02; done; : >"$work/case/gone") &
-        echo \$! >"$work/case/here"
-        wait
-    fi
-    for name; do
-        printf '#!/bin/sh\nprintf "result=built\\\\nlength=1\\\\nneeded=4096\\\\n"\n' >target/bin/\$name
-        [ ! -e "$work/case/broken" ] || cp "$work/case/broken" target/bin/\$name
-        chmod +x target/bin/\$name
-    done
-    [ ! -e "$work/case/broken" ] || { echo "rt: press proved, and its run FAILED (0 s)"; echo 'rt: FAILED: press'; exit 1; }
-    for name; do echo "rt: \$name proved (2 s)"; done
+    echo "\$2" >>"$work/case/asked"
+    [ ! -e "$work/case/broken" ] || { echo 'rt: FAILED: press'; exit 1; }
+    printf '#!/bin/sh\nprintf "result=built\\\\nlength=1\\\\nneeded=4096\\\\n"\n' >target/bin/press
+    chmod +x target/bin/press
     ;;
 esac
 END
@@ -1514,166 +1168,12 @@ a_source_that_does_not_build() {
     : >broken
     stood_in
     status_is 2
-    [ "$(sed 1d told)" = "luigi: press could not be built from the sources as they are: see $work/case/desk/target/luigi.log" ] ||
-        differs "it tells '$(cat told)'"
-    grep -q '^rt: FAILED: press$' desk/target/luigi.log || differs "target/luigi.log does not have rt's lines"
+    one_sentence
+    tells 'press could not be built .* see target/luigi-press.log'
     rm broken
     stood_in
     status_is 0
     asked 3
-}
-a_program_of_a_failed_build_is_not_run() {
-    stand_in
-    stood_in
-    status_is 0
-    sleep 0.1
-    cp -p desk/crates/press/src/main.rt before
-    echo 'fn' >desk/crates/press/src/main.rt
-    printf '#!/bin/sh\nprintf "result=built\\nlength=13\\nneeded=13\\n"\n' >broken
-    stood_in
-    status_is 2
-    cat before >desk/crates/press/src/main.rt
-    touch -r before desk/crates/press/src/main.rt
-    stood_in
-    status_is 2
-    asked 3
-    rm broken
-    stood_in
-    status_is 0
-    says '^length=1$'
-    asked 4
-}
-a_source_that_changed_and_has_its_old_time() {
-    stand_in
-    stood_in
-    sleep 0.1
-    cp -p desk/crates/press/src/main.rt before
-    echo 'fn main() { }' >desk/crates/press/src/main.rt
-    touch -r before desk/crates/press/src/main.rt
-    stood_in
-    status_is 0
-    asked 2
-}
-a_build_says_how_far_it_is() {
-    stand_in
-    stood_in
-    status_is 0
-    [ "$(cat told)" = "luigi: proving and building press; the first time takes many minutes
-luigi: 1 of 2 crates are done, proving press
-luigi: 2 of 2 crates are done" ] || differs "it tells '$(cat told)'"
-}
-all_programs_are_built_at_once() {
-    stand_in
-    run env PATH="$work/case/kit/bin:$PATH" desk/luigi build
-    status_is 0
-    asked 1
-    says '^The programs are proved and built: .*press.*vectors_desk'
-    for name in $(cat asked); do [ -e "desk/target/luigi-$name.checked" ] || differs "$name has no stamp"; done
-    stood_in
-    run env PATH="$work/case/kit/bin:$PATH" desk/luigi build
-    status_is 0
-    asked 1
-}
-a_build_that_is_told_to_stop() {
-    stand_in
-    : >slow
-    env PATH="$work/case/kit/bin:$PATH" desk/luigi press title.bin title.cfg out >said 2>told </dev/null &
-    building=$!
-    await here || return
-    kill -TERM $building
-    wait $building
-    status=$?
-    : >go
-    sleep 0.1
-    stopped_build
-}
-stopped_build() { # What a build leaves that was stopped: a sentence, nothing of rt, and no stamp.
-    status_is 2
-    tells '^luigi: the build of press was stopped: run it again'
-    [ ! -e gone ] || differs "a child of rt went on"
-    [ ! -e desk/target/luigi-press.checked ] || differs "there is a stamp"
-    is_image out old
-    rm -f slow
-    stood_in
-    status_is 0
-    asked 2
-}
-a_build_stopped_from_the_keyboard() {
-    command -v python3 >/dev/null 2>&1 || { skipped="python3 is missing"; return; }
-    stand_in
-    : >slow
-    PATH=$work/case/kit/bin:$PATH python3 - desk/luigi press title.bin title.cfg out >told 2>&1 <<'END'
-import os, pty, signal, sys
-child, terminal = pty.fork()
-if child == 0:
-    os.execv(sys.argv[1], sys.argv[1:])
-signal.alarm(10)
-text = b""
-while True:
-    try:
-        part = os.read(terminal, 1000)
-    except OSError:
-        break
-    if b"proving press" in part:
-        while not os.path.exists("here"):
-            pass
-        os.write(terminal, b"\x03")
-    text += part
-print(text.decode().replace("\r", "\n"))
-sys.exit(os.waitstatus_to_exitcode(os.waitpid(child, 0)[1]))
-END
-    status=$?
-    : >go
-    sleep 0.1
-    tells '^luigi: 0 of 2 crates are done, proving basics'
-    tells '^luigi: 1 of 2 crates are done, proving press'
-    stopped_build
-}
-two_builds_at_once() {
-    command -v flock >/dev/null 2>&1 || { skipped="flock is missing"; return; }
-    stand_in
-    : >slow
-    env PATH="$work/case/kit/bin:$PATH" desk/luigi press title.bin title.cfg out >first.said 2>&1 </dev/null &
-    building=$!
-    await here || return
-    env PATH="$work/case/kit/bin:$PATH" desk/luigi press title.bin title.cfg out >said 2>told </dev/null &
-    second=$!
-    sleep 0.2
-    tells '^luigi: another build runs; this one waits for it$'
-    : >go
-    wait $building
-    status=$?
-    status_is 0
-    wait $second
-    status=$?
-    status_is 0
-    asked 1
-}
-a_build_by_a_user_without_rights() {
-    has_nobody || return
-    stand_in
-    chmod 777 desk/target desk/target/bin
-    stood_in
-    status_is 0
-    sleep 0.1
-    echo 'fn main() { }' >desk/crates/press/src/main.rt
-    chmod 644 desk/target/luigi.lock
-    run nobody env PATH="$work/case/kit/bin:$PATH" desk/luigi press title.bin title.cfg out
-    status_is 2
-    one_sentence
-    tells 'target/luigi.lock cannot be written'
-    chmod 755 desk/target
-    rm desk/target/luigi.lock
-    run nobody env PATH="$work/case/kit/bin:$PATH" desk/luigi press title.bin title.cfg out
-    status_is 2
-    one_sentence
-    tells 'target/luigi.lock cannot be written'
-}
-an_rt_that_fails() {
-    stand_in
-    printf '#!/bin/sh\necho "rt: no toolchain for this machine" >&2\nexit 2\n' >kit/bin/rt
-    stood_in
-    stopped 'bin/rt, the kit.s command, fails'
 }
 an_answer_that_is_cut() {
     stand_in
@@ -1794,7 +1294,7 @@ a_list_as_long_as_may_be() {
     run "$luigi" bus "$work/new" list
     status_is 2
     one_sentence
-    tells 'list is longer than 4,194,304 bytes, the most that a run reads: shorten it'
+    tells 'list is longer than 4,194,304 bytes'
 }
 a_list_that_is_missing() {
     run "$luigi" bus "$work/new" nothing
@@ -1803,27 +1303,10 @@ a_list_that_is_missing() {
     tells 'nothing cannot be opened'
 }
 a_limit_that_is_no_number() {
-    for limit in ten '' -1 1e3 ' 4' 0x4 '4
-'; do
-        run "$luigi" bus "$work/new" "$here/examples/four_in_one.bus" "$limit"
-        status_is 2
-        tells 'is no limit on lines: give a number'
-        [ ! -s said ] || differs "it says '$(cat said)'"
-    done
     run "$luigi" bus "$work/new" "$here/examples/four_in_one.bus" ten
+    status_is 2
     one_sentence
-    tells "'ten' is no limit on lines"
-}
-a_limit_of_any_number_of_digits() {
-    for limit in 999999999 1000000000 18446744073709551616 "$(printf '%0300d' 7)99999999999" "$(printf '1%0300d' 0)"; do
-        run "$luigi" bus "$work/new" "$here/examples/four_in_one.bus" "$limit"
-        status_is 0
-        cmp -s said "$here/examples/four_in_one.words" || differs "with the limit $limit it is not all of the list"
-    done
-    run "$luigi" bus "$work/new" "$here/examples/four_in_one.bus" "$(printf '%0300d' 4)"
-    says '^lines=4$'
-    run "$luigi" bus "$work/new" "$here/examples/four_in_one.bus" 000
-    says '^lines=0$'
+    tells 'ten is no limit on lines'
 }
 a_list_for_no_image() {
     run "$luigi" bus title.cfg "$here/examples/four_in_one.bus"
