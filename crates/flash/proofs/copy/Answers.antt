@@ -1,0 +1,14 @@
+-- `flash::copy` meets its contract. The loop's invariant: i of the words are laid.
+use Rattle.basics.specs.Laws.Lists.{laid_none, laid_more}
+use Rattle.flash.proofs.Laws.{laid_done}
+use borrow.Author.Rules.{rules}
+use Rattle.flash.proofs.copy.Goals as goal
+
+pub loop-i-init : goal.loop-i-init
+loop-i-init c = search (rules, laid_none)
+
+pub loop-i-preserved : goal.loop-i-preserved
+loop-i-preserved c = search (rules, laid_more)
+
+pub returns : goal.returns
+returns c = search (rules, laid_done)
