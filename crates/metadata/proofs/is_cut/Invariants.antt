@@ -1,0 +1,11 @@
+-- `metadata::is_cut` meets its contract. The loop's invariant: whole sub-records stand before p.
+use Prim.Native.Nat.{◌-◌}
+use lib.ListN.{length}
+use Rattle.metadata.specs.Laws.Walk.{Reached}
+use Rattle.metadata.proofs.is_cut.Given as goal
+
+abbrev pub invariant-loop-to : goal.invariant-loop-to
+invariant-loop-to l = Reached l.s l.p
+
+abbrev pub decreases-loop-to : goal.decreases-loop-to
+decreases-loop-to l = length l.s - l.p
