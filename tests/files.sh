@@ -23,25 +23,19 @@ trap 'exit 2' HUP INT TERM
 
 # ---- the failing system
 command -v rt >/dev/null 2>&1 || fail "rt, the kit's command, is not on the path"
-kit=$(dirname "$(dirname "$(rt doc)")")
-tools=$kit/on/$(uname -m)/toolchain
-emulator=$tools/bin/qemu-x86_64
-[ -x "$emulator" ] || emulator=
-"$tools/bin/clang" --target=x86_64-linux-gnu -O1 -fno-stack-protector -fPIC -c tests/fault.c -o "$work/fault.o" &&
-    "$tools/bin/ld.lld" -shared -o "$work/fault.so" "$work/fault.o" || fail "tests/fault.c cannot be compiled by the kit's clang"
+gcc -O1 -fno-stack-protector -fPIC -shared -o "$work/fault.so" tests/fault.c || fail "tests/fault.c cannot be compiled by gcc"
 
 faulty() { # FAULT COMMAND..
     faults=$1
     shift
-    if [ -n "$emulator" ]; then set -- env QEMU_SET_ENV="LD_PRELOAD=$work/fault.so" "$@"; else set -- env LD_PRELOAD="$work/fault.so" "$@"; fi
-    FAULT=$faults FAULT_HERE=$work/case/here FAULT_GO=$work/case/go "$@"
+    FAULT=$faults FAULT_HERE=$work/case/here FAULT_GO=$work/case/go env LD_PRELOAD="$work/fault.so" "$@"
 }
 
 # A program without the command in front of it.
 bare() { # NAME ARGUMENT..
     program=$here/target/bin/$1
     shift
-    ${emulator:+"$emulator"} "$tools/lib/ld-linux-x86-64.so.2" --library-path "$tools/lib" "$program" "$@"
+    "$program" "$@"
 }
 
 # ---- the cases' tools
@@ -1111,7 +1105,7 @@ without_rt() {
 
 # A desk with a kit that only notes what it is asked.
 stand_in() {
-    mkdir -p desk/crates/press/src desk/target/bin kit/docs kit/bin "kit/on/$(uname -m)/toolchain/lib" "kit/on/$(uname -m)/toolchain/bin"
+    mkdir -p desk/crates/press/src desk/target/bin kit/docs kit/bin
     cp "$luigi" desk/luigi
     echo 'press:' >desk/crates.txt
     echo 'fn main() {}' >desk/crates/press/src/main.rt
@@ -1119,16 +1113,16 @@ stand_in() {
 #!/bin/sh
 case \$1 in
 doc) echo "$work/case/kit/docs/START-HERE.md" ;;
-check)
-    echo "\$2" >>"$work/case/asked"
+run)
+    echo "\$PWD" >>"$work/case/asked"
+    mkdir -p out
     [ ! -e "$work/case/broken" ] || { echo 'rt: FAILED: press'; exit 1; }
-    printf '#!/bin/sh\nprintf "result=built\\\\nlength=1\\\\nneeded=4096\\\\n"\n' >target/bin/press
-    chmod +x target/bin/press
+    printf '#!/bin/sh\nprintf "result=built\\\\nlength=1\\\\nneeded=4096\\\\n"\n' >out/press
+    chmod +x out/press
     ;;
 esac
 END
-    printf '#!/bin/sh\nshift 2\nexec "$@"\n' >"kit/on/$(uname -m)/toolchain/lib/ld-linux-x86-64.so.2"
-    chmod +x kit/bin/rt "kit/on/$(uname -m)/toolchain/lib/ld-linux-x86-64.so.2"
+    chmod +x kit/bin/rt
     : >asked
 }
 stood_in() { run env PATH="$work/case/kit/bin:$PATH" desk/luigi press title.bin title.cfg out; }
