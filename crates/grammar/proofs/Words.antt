@@ -17,7 +17,7 @@ use Rattle.text.specs.Laws.Bytes.{until_hit, until_miss, until_most, until_passe
 use Rattle.grammar.specs.declared.Kind.{Kind}
 use Rattle.grammar.specs.declared.Kind.TheVariants.{Blank, Sign, Comment, Letter}
 use Rattle.grammar.specs.declared.Word.{Word}
-use Rattle.grammar.specs.Words.{kind_of, Cut, cut, before, nothing, push, words_after, words_of, word}
+use Rattle.grammar.specs.Words.{kind_of, Cut, cut, before, push, words_after, words_of, word}
 use Rattle.grammar.specs.Code.Steps.{is_blank, is_letter, ends_run, run_end, NextWord}
 
 -- a byte before a cut, by its kind
