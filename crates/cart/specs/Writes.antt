@@ -1,6 +1,6 @@
 -- A write: who takes it, then what it leaves of the active tables, of the RAM and of the flash (01, The machine; 02, W-202, W-206, W-209, W-211
 -- and W-212).
-use Rattle.std.specs.Prelude.{ℕ, ◌+◌, ◌*◌, ◌/◌, ◌%◌, Bool, cond, ◌&&◌, List, set, slice_index, slice_set}
+use Rattle.std.specs.Prelude.{ℕ, ◌+◌, ◌*◌, ◌/◌, ◌%◌, Bool, cond, ◌&&◌, List, slice_index, slice_set}
 use Rattle.places.specs.declared.Console.{Console}
 use Rattle.switches.specs.declared.Register.{Register}
 use Rattle.switches.specs.declared.Register.TheVariants.{HalfPage, Elsewhere}

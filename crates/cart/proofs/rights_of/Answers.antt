@@ -2,8 +2,7 @@
 use Rattle.std.proofs.Common.{◌≡◌, ℕ, ◌+◌, ◌*◌, ◌/◌, ◌%◌, ◌<◌, mod-lt, arith, rules}
 use Rattle.cart.specs.declared.Rights.{Rights}
 use Rattle.cart.specs.Cells.{rights_of}
-use Rattle.cart.proofs.rights_of.Statement.{statement}
-use Rattle.cart.proofs.rights_of.Tie as tie
+use Rattle.cart.proofs.rights_of.Goals as goal
 
 parity : (x q k : ℕ) → x ≡ 2 * q + k → x % 2 ≡ k % 2
 parity x q k e = omega arith
@@ -31,47 +30,26 @@ last_row : (x : ℕ) (r : Rights)
 last_row x r e₀ e₁ e₂ e₃ e₄ e₅ e₆ h =
     row x 7 r (is-7 (x % 8) (above-3 (x % 8) e₀ e₁ e₂ e₃) (mod-lt x {m = 8} (omega arith)) e₄ e₅ e₆) h
 
-returns : tie.Need-returns
-returns c = search (rules, row)
+pub returns-in-0 : goal.returns-in-0
+returns-in-0 c = search (rules, row)
 
-returns-2 : tie.Need-returns-2
-returns-2 c = search (rules, row)
+pub returns-in-1 : goal.returns-in-1
+returns-in-1 c = search (rules, row)
 
-returns-3 : tie.Need-returns-3
-returns-3 c = search (rules, row)
+pub returns-in-2 : goal.returns-in-2
+returns-in-2 c = search (rules, row)
 
-returns-4 : tie.Need-returns-4
-returns-4 c = search (rules, row)
+pub returns-in-3 : goal.returns-in-3
+returns-in-3 c = search (rules, row)
 
-returns-5 : tie.Need-returns-5
-returns-5 c = search (rules, row)
+pub returns-in-4 : goal.returns-in-4
+returns-in-4 c = search (rules, row)
 
-returns-6 : tie.Need-returns-6
-returns-6 c = search (rules, row)
+pub returns-in-5 : goal.returns-in-5
+returns-in-5 c = search (rules, row)
 
-returns-7 : tie.Need-returns-7
-returns-7 c = search (rules, row)
+pub returns-in-6 : goal.returns-in-6
+returns-in-6 c = search (rules, row)
 
-returns-8 : tie.Need-returns-8
-returns-8 c = search (rules, last_row)
-
-pub rights-of-spec : {M : Type 1} → statement M
-rights-of-spec =
-    tie.close
-    (tie.spec
-    (λ c κs. search rules)
-    (λ c κs. search rules)
-    (λ c κs. search rules)
-    (λ c κs. search rules)
-    (λ c κs. search rules)
-    (λ c κs. search rules)
-    (λ c κs. search rules)
-    (λ c κs. search rules)
-    returns
-    returns-2
-    returns-3
-    returns-4
-    returns-5
-    returns-6
-    returns-7
-    returns-8)
+pub returns-in_default : goal.returns-in_default
+returns-in_default c = search (rules, last_row)
