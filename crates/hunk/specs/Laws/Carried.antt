@@ -1,6 +1,6 @@
 -- The form that is chosen can carry the words wherever any form can, and no form that can is shorter.
 use Prim.Native.Nat.{ℕ, zero, suc, ◌+◌, ◌-◌, ◌≤◌, ◌<◌, max}
-use Rattle.std.specs.Prelude.{◌≡◌, refl, List, Bool, false, not, ◌&&◌, ◌||◌, ◌↔◌, ◌⊎◌, get_or}
+use Rattle.std.specs.Prelude.{◌≡◌, refl, List, Bool, false, not, ◌&&◌, ◌||◌, ◌↔◌, get_or}
 use Rattle.std.proofs.Math.Bool.{true}
 use Rattle.std.proofs.Common.{⊎_elim, eq-or-lt_of_le}
 use native.Mathlib.Omega.{arith}

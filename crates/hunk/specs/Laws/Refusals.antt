@@ -188,24 +188,28 @@ module _ (s : List ℕ) (m k n : ℕ) where
 -- the place that is named
 blocks_broken : {p q : ℕ} {ps : List ℕ} (s : List ℕ) (m k n : ℕ) → 3 ≤ length s → Reached s m p n → Run s p ps q → q ≡ end_of s → check_blocks s m n ps ≡ Broken k → BreaksAt s m k
 unfolding check_blocks
-blocks_broken {p} s m k n l r none f e =
-    cases (eqb (end_of s) (length s))
-    (λ t. let g : Whole n ≡ Broken k = rw t at e in let z : ◌≡◌ {A = ℕ} 0 1 = cc in absurd (omega arith))
-    (λ t.
-    let g : Broken (end_of s) ≡ Broken k = rw t at e in
-    let d : k ≡ p = cc in
-    let i : p ≤ length s = run_in r.run l in
-    let y : p < length s = omega (arith, eqb-false (end_of s) (length s) t) in
-    rw d (record { words = n; long = l; here = y; reached = r; why = not_whole s m p n (rw f (data_stop s)) }))
-blocks_broken {p} s m k n l r (also w rest) f e =
-    cases (ltb m ((address s).0 + (n + count_at s p)))
-    (λ t.
-    let g : Broken p ≡ Broken k = rw t at e in
-    let d : k ≡ p = cc in
-    let b : Intact s p = intact s p w in
-    let y : p < length s = omega arith in
-    rw d (record { words = n; long = l; here = y; reached = r; why = outside (ltb-true _ _ t) }))
-    (λ t. blocks_broken s m k (n + count_at s p) l (reach_more s m p n r w (ltb-false _ _ t)) rest f (rw t at e))
+blocks_broken s m k n = from n
+  where
+    from : {p q : ℕ} {ps : List ℕ} (n : ℕ) → 3 ≤ length s → Reached s m p n → Run s p ps q
+        → q ≡ end_of s → check_blocks s m n ps ≡ Broken k → BreaksAt s m k
+    from {p} n l r none f e =
+        cases (eqb (end_of s) (length s))
+        (λ t. let g : Whole n ≡ Broken k = rw t at e in let z : ◌≡◌ {A = ℕ} 0 1 = cc in absurd (omega arith))
+        (λ t.
+        let g : Broken (end_of s) ≡ Broken k = rw t at e in
+        let d : k ≡ p = cc in
+        let i : p ≤ length s = run_in r.run l in
+        let y : p < length s = omega (arith, eqb-false (end_of s) (length s) t) in
+        rw d (record { words = n; long = l; here = y; reached = r; why = not_whole s m p n (rw f (data_stop s)) }))
+    from {p} n l r (also w rest) f e =
+        cases (ltb m ((address s).0 + (n + count_at s p)))
+        (λ t.
+        let g : Broken p ≡ Broken k = rw t at e in
+        let d : k ≡ p = cc in
+        let b : Intact s p = intact s p w in
+        let y : p < length s = omega arith in
+        rw d (record { words = n; long = l; here = y; reached = r; why = outside (ltb-true _ _ t) }))
+        (λ t. from (n + count_at s p) l (reach_more s m p n r w (ltb-false _ _ t)) rest f (rw t at e))
 
 pub broken_breaks : (s : List ℕ) (m k : ℕ) → check_hunk s m ≡ Broken k → ((length s < 3) × (k ≡ 0)) ⊎ BreaksAt s m k
 unfolding check_hunk

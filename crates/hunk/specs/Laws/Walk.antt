@@ -77,9 +77,9 @@ unfolding data_starts_from
 run_starts zero none h v = refl
 run_starts (suc f) none h v = rw v
 run_starts {s} {p = p} zero (also w r) h v = let b : Intact s p = intact s p w in absurd (omega arith)
-run_starts {s} {p = p} (suc f) (also w r) h v =
+run_starts {s} {p = p} (suc f) (also {ps = ps} w r) h v =
     let b : Intact s p = intact s p w in
-    rw w (ap (◌∷◌ p) (run_starts f r (omega arith) v))
+    rw w (ap (◌∷◌ p) (run_starts {ps = ps} f r (omega arith) v))
 
 pub record More (found ps : List ℕ) (q : ℕ) : Type 0 where
   pub rest : List ℕ
@@ -92,7 +92,7 @@ run_split {s} {p = p} (suc f) none h v = record { rest = data_starts_from f s (p
 run_split {s} {p = p} zero (also w r) h v = let b : Intact s p = intact s p w in absurd (omega arith)
 run_split {s} {p = p} (suc f) (also {q = q} {ps = ps} w r) h v =
     let b : Intact s p = intact s p w in
-    let m : More (data_starts_from f s (p + size_at s p)) ps q = run_split f r (omega arith) v in
+    let m : More (data_starts_from f s (p + size_at s p)) ps q = run_split {ps = ps} f r (omega arith) v in
     record { rest = m.rest; is = rw w (ap (◌∷◌ p) m.is) }
 
 -- what the walk finds stands so, and behind it stands no whole data block
