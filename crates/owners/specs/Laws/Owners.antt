@@ -1,7 +1,7 @@
 -- Owners: after no line and after one more; and, of lines that have no place in common, the least owner that an entry meets is the
 -- least number of the lines with which it has a place in common.
 use Rattle.std.specs.Prelude.{ℕ, ◌<◌, Bool, true, false, ◌&&◌, ◌||◌, List, [], ◌∷◌, ◌++◌, ◌≡◌, refl, get_or, replicate}
-use Rattle.std.proofs.Common.{sym, ap, ◌∙◌, arith}
+use Rattle.std.proofs.Common.{sym, ap, ◌∙◌}
 use Rattle.std.proofs.lemmas.List.{length-replicate, get_or-replicate}
 use Rattle.basics.specs.Counts.{any}
 use Rattle.basics.specs.Tables.{table}
@@ -13,7 +13,6 @@ use Rattle.lines.specs.declared.Entry.{Entry}
 use Rattle.lines.specs.declared.Line.{Line}
 use Rattle.lines.specs.Typed.{All, nil, cons}
 use Rattle.lines.specs.Laws.Lines.{all_end, all_map}
-use Rattle.owners.specs.declared.Owners.{Owners}
 use Rattle.owners.specs.Owners.{claims_paragraph, claims_page, only, or_else, first_has, paragraph_owner, page_owner, owners_of, claimed_by, claimed_both, lesser, least_of, least_has, owned_by, least_owner}
 use Rattle.owners.specs.Laws.Least.{else_none, else_assoc, only_none, lesser_none, lesser_both, least_same, least_join, least_only, least_nobody}
 
@@ -68,7 +67,7 @@ least_or f g (l ∷ ls) =
 
 module _ (n : ℕ) (claims : ℕ → Entry → Bool) where
   -- a place that a line claims is nobody's among lines with which it has none in common
-  free : {ls : List Line} (l : Entry) → All (λ m. meet_in n claims l m ≡ false) ls → (p : ℕ) → p < n → claims p l ≡ true → first_has (λ m. m.source) (claims p) ls ≡ 0
+  free : (l : Entry) {ls : List Line} → All (λ m. meet_in n claims l m ≡ false) ls → (p : ℕ) → p < n → claims p l ≡ true → first_has (λ m. m.source) (claims p) ls ≡ 0
   free l nil p h c = refl
   free l (cons {l = m} {ls = ls} q qs) p h c =
       cases (claims p m.entry)
