@@ -1,5 +1,5 @@
 -- Sizes and places in numbers, and what refusals 10, 11 and 13 ask: the definitions compute.
-use Rattle.std.specs.Prelude.{ℕ, List, ◌∷◌, [], ◌≡◌, refl, true, false, replicate, set}
+use Rattle.std.specs.Prelude.{ℕ, List, ◌∷◌, ◌≡◌, refl, true, false, replicate, set}
 use Rattle.basics.specs.Counts.{any}
 use Rattle.tables.specs.Tables.{permissions_at, flips_at, tables_size, sectors_of, unsupported, lacks_ram, oversized, mislent}
 

@@ -2,11 +2,7 @@
 use mathlib.Core.Path.{sym, refl}
 use Rattle.tables.specs.Tables.{tables}
 use Rattle.tables.specs.Laws.Tables.{length_tables}
-use Rattle.tables.proofs.size_of.Statement.{statement}
-use Rattle.tables.proofs.size_of.Tie as tie
+use Rattle.tables.proofs.size_of.Goals as goal
 
-returns : tie.Need-returns
+pub returns : goal.returns
 returns c = (sym (length_tables (tables _ _ _) c.requires.0 c.requires.1 c.requires.2), refl)
-
-pub size-of-spec : {M : Type 1} → statement M
-size-of-spec = tie.close (tie.spec returns)
