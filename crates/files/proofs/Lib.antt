@@ -2,5 +2,4 @@ pub mod Signs
 pub mod Loops
 pub mod Parts
 pub mod Verdicts
-pub mod Filled
 pub mod Same

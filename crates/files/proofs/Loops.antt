@@ -1,17 +1,16 @@
 -- What the loops over names and inputs keep.
-use Prim.Native.Nat.{ℕ, zero, suc, ◌+◌, ◌*◌, ◌≤◌, ◌<◌, ◌/◌, ◌%◌}
+use Prim.Native.Nat.{ℕ, suc, ◌+◌, ◌*◌, ◌≤◌, ◌<◌, ◌/◌, ◌%◌}
 use mathlib.Core.Bool.{Bool, true, false, not, ◌||◌}
-use mathlib.Core.List.{List, [], ◌∷◌, ◌++◌, append_assoc, append-nil}
+use mathlib.Core.List.{List, [], ◌∷◌, ◌++◌, append_assoc}
 use mathlib.Core.Path.{◌≡◌, refl, sym, ap, ◌∙◌}
 use native.Mathlib.Omega.{arith}
 use native.Mathlib.Numerals.{add-one}
 use lib.Dec.{eqb, ltb}
-use lib.ListN.{length, get_or, take, drop, set, length-set, length-append, drop_of_length-le, length-drop}
-use lib.Seq.{take_all, take-suc, length-take-le, drop-cons, get_or-set_same}
+use lib.ListN.{length, get_or, take, drop, set, length-set, length-append, drop_of_length-le}
+use lib.Seq.{take_all, take-suc, length-take-le, drop-cons}
 use borrow.Author.Tests.{eq-eqb, ne_eqb, lt-ltb, le-ltb}
-use Rattle.io.specs.Counts.{IsPrefixLen}
-use Rattle.io.specs.Digits.{hex_digit_ascii}
-use Rattle.libc.specs.Io.{Ended}
+use Rattle.files.specs.Counts.{IsPrefixLen}
+use Rattle.files.specs.Digits.{hex_digit_ascii}
 use Rattle.basics.specs.Counts.{all}
 use Rattle.basics.specs.Lists.{joined}
 use Rattle.basics.specs.Laws.Counts.{all_at}
@@ -134,13 +133,6 @@ module _ (seen : Seen) (inputs : List Seen) where
   pub input_none : (i : ℕ) → length inputs ≡ 4 → 4 ≤ i → Passed i → false ≡ is_input seen inputs
   unfolding is_input
   input_none i l h p = let k : length inputs ≤ i = omega arith in ap (is_input seen) (sym (drop_of_length-le inputs k)) ∙ p
-
--- the last byte of a name as C reads it, behind what was copied to its front
-pub ended_last :
-    (name x b : List ℕ) (k : ℕ) → x ≡ take k name → k ≤ length name → k ≤ 4095 → 4096 ≡ length b → Ended (set (x ++ drop k b) 4095 0)
-ended_last name x b k e n h m =
-    let l : length x ≡ k = ap length e ∙ length-take-le k name n in
-    get_or-set_same (x ++ drop k b) 4095 0 1 (simp (length-append, length-drop) (omega arith))
 
 pub counted : (n : ℕ) (xs : List ℕ) → n ≤ length xs → IsPrefixLen n xs
 counted n xs h = (h, sym (length-take-le n xs h))

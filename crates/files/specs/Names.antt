@@ -2,7 +2,7 @@
 use Rattle.std.specs.Prelude.{ℕ, zero, suc, ◌+◌, ◌/◌, ◌%◌, Bool, cond, not, ◌&&◌, List, [], ◌∷◌, ◌++◌, eqb, ltb, length, get_or, take, drop}
 use Rattle.basics.specs.Counts.{all}
 use Rattle.basics.specs.Lists.{joined}
-use Rattle.io.specs.Digits.{hex_digit_ascii}
+use Rattle.files.specs.Digits.{hex_digit_ascii}
 
 -- the place behind the last `/` of the first n bytes
 unfoldable pub behind : List ℕ → ℕ → ℕ

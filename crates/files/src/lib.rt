@@ -2,6 +2,7 @@
 // what stopped them. Functions on slices and numbers promise equations; what the system does is tried by tests/files.sh.
 #![tactic(auto)]
 
+mod arguments;
 mod names;
 mod reading;
 mod rule;
@@ -9,10 +10,11 @@ mod saying;
 mod sight;
 mod writing;
 
+pub use arguments::has_argument;
 pub use names::{folder, is_name, part_name};
 pub use reading::{meaning, read_all, read_argument, read_file, stop_of};
 pub use rule::{is_input, kind_of, same_file, verdict};
-pub use saying::{line, refused, say, stopped, stops};
+pub use saying::{line, refused, say, say_number, stopped, stops};
 pub use sight::nobody;
 pub use writing::{Stops, write_argument, write_arguments, write_file};
 

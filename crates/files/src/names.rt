@@ -1,15 +1,24 @@
 // Names of files, on slices: which part names the folder, what the system takes for a name, and the name of a part file.
 ghost use Rattle.std.specs.Prelude.{◌+◌, ◌*◌, ◌%◌, ◌≤◌, ◌≡◌, length};
 ghost use Rattle.basics.specs.Lists.{joined};
-ghost use Rattle.io.specs.Counts.{IsPrefixLen};
-ghost use Rattle.io.specs.Digits.{hex_digit_ascii as Digits·glyph};
-ghost use Rattle.libc.specs.Io.{Ended};
+ghost use Rattle.files.specs.Counts.{IsPrefixLen};
+ghost use Rattle.files.specs.Digits.{hex_digit_ascii as Digits·glyph};
 ghost use Rattle.files.specs.Names.{hex_of, folder_of, is_name, part_of, part_length, part_in};
 
-use libc::PATH_MAX;
+use crate::sight::{EILSEQ, EINVAL, ENAMETOOLONG};
+
+// A name has fewer bytes than this, with room for the byte that ends it (POSIX: PATH_MAX).
+const PATH_MAX: usize = 4096;
 
 // What a part's name has behind its folder: seven bytes, and two for each of the twelve bytes of its tag.
 const PART: usize = 31;
+
+// Room for any name.
+pub fn room() -> [u8; PATH_MAX]
+    ensures { 4096 ≡ length result }
+{
+    [0; PATH_MAX]
+}
 
 // How many bytes of a name name its folder, the last `/` with them.
 pub fn folder(name: &[u8]) -> usize
@@ -43,23 +52,26 @@ pub fn is_name(name: &[u8]) -> bool
     true
 }
 
+// A name as the library takes it, which is text; or the system's number for what is no name, or no text.
+pub fn path_of(name: &[u8]) -> Result<&str, u32> {
+    if PATH_MAX <= name.len() {
+        return Err(ENAMETOOLONG);
+    }
+    if !is_name(name) {
+        return Err(EINVAL);
+    }
+    match std::str::from_utf8(name) {
+        Ok(path) => Ok(path),
+        Err(_) => Err(EILSEQ),
+    }
+}
+
 // A text into a part of just its size.
 fn put(out: &mut [u8], text: &[u8])
     requires { length out.old ≡ length text.now }
     ensures { out.new ≡ text.now }
 {
-    bytes::copy(text, out);
-}
-
-// The name as C reads it, with zeros behind it.
-pub fn ended(name: &[u8]) -> [u8; PATH_MAX]
-    ensures { Ended result }
-{
-    let mut path = io::buffer();
-    let k = basics::least(name.len(), PATH_MAX - 1);
-    put(&mut path[..k], &name[..k]);
-    path[PATH_MAX - 1] = 0;
-    path
+    out.copy_from_slice(text);
 }
 
 // The hexadecimal digit of a number's lowest four bits.

@@ -1,10 +1,13 @@
 // Reading a file whole: its end apart from an error, and a file that is longer than the buffer apart from both.
 ghost use Rattle.std.specs.Prelude.{◌+◌, ◌≤◌, ◌≡◌, length};
-ghost use Rattle.io.specs.Counts.{IsPrefixLen};
+ghost use Rattle.files.specs.Counts.{IsPrefixLen};
 ghost use Rattle.files.specs.Reads.{meaning_of, count_in};
 ghost use Rattle.files.specs.Stops.{stop_of};
 
-use crate::{Seen, Stop, Why, saying, sight};
+use crate::{Seen, Stop, Why, arguments, names, saying, sight};
+use std::fs::File;
+use std::io::Read;
+use std::os::fd::AsRawFd;
 
 // What one read brought.
 #[derive(Clone, Copy)]
@@ -62,48 +65,64 @@ fn count_in(b: Brought) -> usize
 }
 
 // What a read says of a file that has brought all that there is room for: more stands behind it, or it is whole.
-fn ending_of(b: Brought) -> Ending {
+fn ending_of(b: Brought, error: u32) -> Ending {
     match b {
         Brought::Bytes(_) => Ending::Longer,
         Brought::End => Ending::Whole,
-        Brought::Failed => Ending::Failed(sight::error_number()),
+        Brought::Failed => Ending::Failed(error),
     }
 }
 
-// One read, to place n of a buffer and on.
-fn read_from(fd: i32, buf: &mut [u8], n: usize) -> Brought
+// What one read brought, and the system's number where it failed.
+#[derive(Clone, Copy)]
+struct Told {
+    brought: Brought,
+    error: u32,
+}
+
+// One read, to place n of a buffer and on. A read that failed answers a number below 0, as C's does.
+fn read_from<R: Read>(source: &mut R, buf: &mut [u8], n: usize) -> Told
     requires { n ≤ length buf.old }
-    ensures { n + count_in result ≤ length buf.old }
+    ensures { n + count_in result.brought ≤ length buf.old }
 {
     let room = buf.len() - n;
-    let answer = libc::read(fd, &mut buf[n..]);
-    meaning(answer, room)
+    match source.read(&mut buf[n..]) {
+        Ok(k) => Told {
+            brought: meaning(k.cast_signed(), room),
+            error: 0,
+        },
+        Err(e) => Told {
+            brought: meaning(-1, room),
+            error: sight::error_number(&e),
+        },
+    }
 }
 
 // What stands behind a full buffer.
-fn behind(fd: i32) -> Ending {
+fn behind<R: Read>(source: &mut R) -> Ending {
     let mut one = [0u8; 1];
-    ending_of(read_from(fd, &mut one, 0))
+    let t = read_from(source, &mut one, 0);
+    ending_of(t.brought, t.error)
 }
 
 // Reads to the end, or until the buffer is full.
-pub fn read_all(fd: i32, buf: &mut [u8]) -> Taken
+pub fn read_all<R: Read>(source: &mut R, buf: &mut [u8]) -> Taken
     ensures { IsPrefixLen result.n buf.new }
 {
     let mut n = 0;
     while n < buf.len() {
-        let brought = read_from(fd, buf, n);
-        let k = count_in(brought);
+        let t = read_from(source, buf, n);
+        let k = count_in(t.brought);
         if k == 0 {
             return Taken {
-                ending: ending_of(brought),
+                ending: ending_of(t.brought, t.error),
                 n,
             };
         }
         n += k;
     }
     Taken {
-        ending: behind(fd),
+        ending: behind(source),
         n,
     }
 }
@@ -132,15 +151,15 @@ fn unread(stop: Stop) -> Reading
     }
 }
 
-// What an open descriptor reads, to its end, and which file it is.
-fn read_open(fd: i32, buf: &mut [u8]) -> Reading
+// What an open file reads, to its end, and which file it is.
+fn read_open(file: &mut File, buf: &mut [u8]) -> Reading
     ensures { IsPrefixLen result.n buf.new }
 {
-    let seen = sight::open_file(fd);
+    let seen = sight::open_file(file);
     if seen.error != 0 {
-        return unread(saying::stop(Why::Look));
+        return unread(saying::stop(Why::Look, seen.error));
     }
-    let t = read_all(fd, buf);
+    let t = read_all(file, buf);
     let n = t.n;
     let ending = t.ending;
     Reading {
@@ -150,32 +169,36 @@ fn read_open(fd: i32, buf: &mut [u8]) -> Reading
     }
 }
 
-// The file of a name, at the front of a buffer. A descriptor below 3 stands in for a closed standard one, and what a program
-// says would go into the file.
-pub fn read_file(name: &[u8], buf: &mut [u8]) -> Reading
+// Whether a file stands in for a standard stream that is closed: its descriptor is below 3, and what a program says would go into it.
+pub fn stands_in(file: &File) -> bool {
+    file.as_raw_fd() < 3
+}
+
+// The file of a name, at the front of a buffer.
+pub fn read_file(rt: &HostRuntime, name: &[u8], buf: &mut [u8]) -> Reading
     ensures { IsPrefixLen result.n buf.new }
 {
-    let fd = os::open_read(name);
-    if fd < 0 {
-        return unread(saying::stop(Why::Open));
-    }
-    if fd < 3 {
-        libc::close(fd);
+    let path = match names::path_of(name) {
+        Ok(path) => path,
+        Err(error) => return unread(saying::stop(Why::Open, error)),
+    };
+    let mut file = match File::open(rt, path) {
+        Ok(file) => file,
+        Err(e) => return unread(saying::stop(Why::Open, sight::error_number(&e))),
+    };
+    if stands_in(&file) {
         return unread(saying::stop_by_rule(Why::Closed));
     }
-    let r = read_open(fd, buf);
-    libc::close(fd);
-    r
+    read_open(&mut file, buf)
 }
 
 // The file that argument i names.
-pub fn read_argument(i: usize, buf: &mut [u8]) -> Reading
+pub fn read_argument(rt: &HostRuntime, i: usize, buf: &mut [u8]) -> Reading
     ensures { IsPrefixLen result.n buf.new }
 {
-    let mut name = io::buffer();
-    let k = os::arg(i, &mut name);
-    if os::errno() != 0 {
-        return unread(saying::stop(Why::Argument));
+    let mut name = names::room();
+    match arguments::argument(rt, i, &mut name) {
+        Ok(k) => read_file(rt, &name[..k], buf),
+        Err(error) => unread(saying::stop(Why::Argument, error)),
     }
-    read_file(&name[..k], buf)
 }

@@ -2,8 +2,7 @@
 ghost use Rattle.std.specs.Prelude.{◌≡◌};
 ghost use Rattle.files.specs.Stops.{no_stop, is_stop};
 
-use crate::{Stop, Why, sight};
-use libc::STDOUT_FILENO;
+use crate::{Stop, Why};
 
 pub fn go_on() -> Stop
     ensures { result ≡ no_stop }
@@ -19,12 +18,9 @@ pub fn stop_by_rule(why: Why) -> Stop {
     Stop { why, error: 0 }
 }
 
-// A stop at a call that just failed.
-pub fn stop(why: Why) -> Stop {
-    Stop {
-        why,
-        error: sight::error_number(),
-    }
+// A stop at a call that failed, with the system's number for it.
+pub fn stop(why: Why, error: u32) -> Stop {
+    Stop { why, error }
 }
 
 pub fn stops(s: Stop) -> bool
@@ -50,58 +46,64 @@ pub fn stops(s: Stop) -> bool
     }
 }
 
-pub fn say(text: &[u8]) -> bool {
-    io::write_all(STDOUT_FILENO, text)
+// Whether all of a text was written.
+pub fn say(rt: &HostRuntime, text: &[u8]) -> bool {
+    rt.write_all(text).is_ok()
 }
 
-pub fn line(key: &[u8], value: u64) -> bool {
-    let named = say(key);
-    let counted = io::print_decimal(STDOUT_FILENO, value);
-    let ended = say(b"\n");
+// A number in decimal.
+pub fn say_number(rt: &HostRuntime, value: u64) -> bool {
+    rt.print(value).is_ok()
+}
+
+pub fn line(rt: &HostRuntime, key: &[u8], value: u64) -> bool {
+    let named = say(rt, key);
+    let counted = say_number(rt, value);
+    let ended = say(rt, b"\n");
     basics::both(named, basics::both(counted, ended))
 }
 
 // Why a file is not written, where that is why.
-fn say_why_unwritten(why: Why) -> bool {
+fn say_why_unwritten(rt: &HostRuntime, why: Why) -> bool {
     match why {
-        Why::Input => say(b"why=input\n"),
-        Why::Protected => say(b"why=protected\n"),
-        Why::Create => say(b"why=create\n"),
-        Why::Mode => say(b"why=mode\n"),
-        Why::Write => say(b"why=write\n"),
-        Why::Sync => say(b"why=sync\n"),
-        Why::Move => say(b"why=move\n"),
-        _ => say(b"why=nothing\n"),
+        Why::Input => say(rt, b"why=input\n"),
+        Why::Protected => say(rt, b"why=protected\n"),
+        Why::Create => say(rt, b"why=create\n"),
+        Why::Mode => say(rt, b"why=mode\n"),
+        Why::Write => say(rt, b"why=write\n"),
+        Why::Sync => say(rt, b"why=sync\n"),
+        Why::Move => say(rt, b"why=move\n"),
+        _ => say(rt, b"why=nothing\n"),
     }
 }
 
 // Why a file is not read, or not written.
-fn say_why(why: Why) -> bool {
+fn say_why(rt: &HostRuntime, why: Why) -> bool {
     match why {
-        Why::Argument => say(b"why=argument\n"),
-        Why::Closed => say(b"why=closed\n"),
-        Why::Open => say(b"why=open\n"),
-        Why::Read => say(b"why=read\n"),
-        Why::Look => say(b"why=look\n"),
-        Why::Link => say(b"why=link\n"),
-        Why::Kind => say(b"why=kind\n"),
-        _ => say_why_unwritten(why),
+        Why::Argument => say(rt, b"why=argument\n"),
+        Why::Closed => say(rt, b"why=closed\n"),
+        Why::Open => say(rt, b"why=open\n"),
+        Why::Read => say(rt, b"why=read\n"),
+        Why::Look => say(rt, b"why=look\n"),
+        Why::Link => say(rt, b"why=link\n"),
+        Why::Kind => say(rt, b"why=kind\n"),
+        _ => say_why_unwritten(rt, why),
     }
 }
 
 // What stopped a program: which of its files, why, and the system's number. The desk's command makes a sentence of it.
-pub fn stopped(file: &[u8], s: Stop) {
-    say(b"result=stopped\nfile=");
-    say(file);
-    say(b"\n");
+pub fn stopped(rt: &HostRuntime, file: &[u8], s: Stop) {
+    say(rt, b"result=stopped\nfile=");
+    say(rt, file);
+    say(rt, b"\n");
     let why = s.why;
-    say_why(why);
-    line(b"error=", s.error as u64);
+    say_why(rt, why);
+    line(rt, b"error=", s.error as u64);
 }
 
 // A refusal: its number and its place.
-pub fn refused(number: u64, place: u64) {
-    say(b"result=refused\n");
-    line(b"code=", number);
-    line(b"at=", place);
+pub fn refused(rt: &HostRuntime, number: u64, place: u64) {
+    say(rt, b"result=refused\n");
+    line(rt, b"code=", number);
+    line(rt, b"at=", place);
 }

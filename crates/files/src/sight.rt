@@ -1,96 +1,36 @@
-// What the system tells of a file, by its name or by a descriptor. The two functions that lend C its struct are proved by a walk.
+// What the system tells of a file, by its name or of an open one.
 ghost use Rattle.std.specs.Prelude.{◌≡◌};
-ghost use Rattle.libc.specs.Io.{Ended};
 ghost use Rattle.files.specs.Rule.{unseen, nobody};
 
 use crate::{Seen, names};
-use libc::PATH_MAX;
-use libc::types::{stat, timespec};
+use std::fs::{File, Metadata};
+use std::os::unix::fs::MetadataExt;
+use std::{fs, io};
 
 // The system's numbers that the desk names, without the sign that C gives them.
 pub const ENOENT: u32 = 2;
 
 pub const EEXIST: u32 = 17;
 
+pub const EINVAL: u32 = 22;
+
+pub const ETXTBSY: u32 = 26;
+
 const EIO: u32 = 5;
 
-const ENAMETOOLONG: u32 = 36;
+pub const ENAMETOOLONG: u32 = 36;
 
-// What C's call answers, and what the desk asks of the file.
-#[derive(Clone, Copy)]
-pub struct Told {
-    pub status: i32,
-    pub device: u64,
-    pub node: u64,
-    pub mode: u32,
-    pub owner: u32,
-    pub group: u32,
-}
-
-fn moment() -> timespec {
-    timespec {
-        tv_sec: 0,
-        tv_nsec: 0,
-    }
-}
-
-fn blank() -> stat {
-    stat {
-        st_dev: 0,
-        st_ino: 0,
-        st_nlink: 0,
-        st_mode: 0,
-        st_uid: 0,
-        st_gid: 0,
-        __pad: 0,
-        st_rdev: 0,
-        st_size: 0,
-        st_blksize: 0,
-        st_blocks: 0,
-        st_atim: moment(),
-        st_mtim: moment(),
-        st_ctim: moment(),
-        __unused: [0; 3],
-    }
-}
-
-fn told_open(fd: i32) -> Told {
-    let mut s = blank();
-    let status = libc::fstat(fd, &mut s);
-    Told {
-        status,
-        device: s.st_dev,
-        node: s.st_ino,
-        mode: s.st_mode,
-        owner: s.st_uid,
-        group: s.st_gid,
-    }
-}
-
-// At a link it tells of the link.
-fn told_named(path: &[u8; PATH_MAX]) -> Told
-    requires { Ended path.now }
-{
-    let mut s = blank();
-    let status = libc::lstat(path, &mut s);
-    Told {
-        status,
-        device: s.st_dev,
-        node: s.st_ino,
-        mode: s.st_mode,
-        owner: s.st_uid,
-        group: s.st_gid,
-    }
-}
+// A name that is no text in UTF-8.
+pub const EILSEQ: u32 = 84;
 
 // A number of the system's without its sign. 0 is none: it would say that nothing failed.
 pub fn number_of(number: i32) -> u32 {
     if 0 < number { number as u32 } else { EIO }
 }
 
-// The system's number for a call that just failed.
-pub fn error_number() -> u32 {
-    number_of(os::errno())
+// The system's number for a call that failed.
+pub fn error_number(e: &io::Error) -> u32 {
+    number_of(e.raw_os_error().unwrap_or(0))
 }
 
 fn unseen(error: u32) -> Seen
@@ -113,29 +53,31 @@ pub fn nobody() -> Seen
     unseen(ENOENT)
 }
 
-fn seen_of(t: Told) -> Seen {
-    if t.status != 0 {
-        return unseen(error_number());
-    }
-    Seen {
-        error: 0,
-        device: t.device,
-        node: t.node,
-        mode: t.mode,
-        owner: t.owner,
-        group: t.group,
+fn seen_of(told: io::Result<Metadata>) -> Seen {
+    match told {
+        Ok(m) => Seen {
+            error: 0,
+            device: m.dev(),
+            node: m.ino(),
+            mode: m.mode(),
+            owner: m.uid(),
+            group: m.gid(),
+        },
+        Err(e) => unseen(error_number(&e)),
     }
 }
 
-pub fn open_file(fd: i32) -> Seen {
-    seen_of(told_open(fd))
+pub fn open_file(file: &File) -> Seen {
+    seen_of(file.metadata())
 }
 
 // What stands under a name itself, a link too.
-pub fn named_file(name: &[u8]) -> Seen {
+pub fn named_file(rt: &HostRuntime, name: &[u8]) -> Seen {
     if !names::is_name(name) {
         return unseen(ENAMETOOLONG);
     }
-    let path = names::ended(name);
-    seen_of(told_named(&path))
+    match names::path_of(name) {
+        Ok(path) => seen_of(fs::symlink_metadata(rt, path)),
+        Err(error) => unseen(error),
+    }
 }

@@ -1,31 +1,38 @@
 // Writing a file whole: beside its target, under a name that nobody else has, and moved into place when it is whole.
 ghost use Rattle.std.specs.Prelude.{◌≡◌};
-ghost use Rattle.io.specs.Counts.{IsPrefixLen};
+ghost use Rattle.files.specs.Counts.{IsPrefixLen};
 
 use crate::saying::{go_on, stop, stop_by_rule, stops};
-use crate::{INPUTS, Seen, Stop, Why, names, rule, sight};
-use libc::W_OK;
+use crate::sight::{EILSEQ, EINVAL, ETXTBSY, error_number};
+use crate::{INPUTS, Seen, Stop, Why, arguments, names, reading, rule, sight};
+use std::fs::{File, OpenOptions, Permissions};
+use std::io::Write;
+use std::os::unix::fs::{PermissionsExt, fchown};
+use std::random::RandomSource;
+use std::{fs, io, process};
 
 // How many names are tried before the folder is given up.
 const TRIES: usize = 16;
 
-// The bits of a mode that say who may do what; and the owner that leaves the owner as it is.
+// The bits of a mode that say who may do what.
 const RIGHTS: u32 = 4096;
 
-const SAME_OWNER: u32 = 4294967295;
-
-// A part file: its descriptor, and how many bytes its name has; or why there is none.
-#[derive(Clone, Copy)]
+// A part file, open to be written, and how many bytes its name has; or why there is none.
+#[derive(Drop)]
 struct Made {
     stop: Stop,
-    fd: i32,
+    file: Option<File>,
     n: usize,
 }
 
 fn unmade(stop: Stop) -> Made
     ensures { result.n ≡ 0 }
 {
-    Made { stop, fd: -1, n: 0 }
+    Made {
+        stop,
+        file: None,
+        n: 0,
+    }
 }
 
 // Byte k of a process's number, the highest first.
@@ -40,10 +47,10 @@ fn byte_of(number: u32, k: u32) -> u8 {
 
 // A tag that no other process has, and that this one has not had: its number, and eight bytes by chance. Where the system has
 // no chance to give, the creation itself still tells a name that is taken.
-fn tag() -> [u8; 12] {
-    let p = sight::number_of(libc::getpid());
+fn tag(rt: &HostRuntime) -> [u8; 12] {
+    let p = process::id(rt.process());
     let mut r = [0u8; 8];
-    libc::getentropy(&mut r);
+    let _ = rt.fill_bytes(&mut r);
     [
         byte_of(p, 0),
         byte_of(p, 1),
@@ -60,131 +67,165 @@ fn tag() -> [u8; 12] {
     ]
 }
 
+// Opens a file that is not there yet, to write it.
+fn create(rt: &HostRuntime, name: &[u8]) -> Result<File, u32> {
+    let path = names::path_of(name)?;
+    match OpenOptions::new()
+        .write(true)
+        .create_new(true)
+        .open(rt, path)
+    {
+        Ok(file) => Ok(file),
+        Err(e) => Err(error_number(&e)),
+    }
+}
+
+// Removes a part file, if it can be.
+fn remove(rt: &HostRuntime, part: &[u8]) {
+    if let Ok(path) = names::path_of(part) {
+        let _ = fs::remove_file(rt, path);
+    }
+}
+
 // Makes a part file, which fails where the name is taken, by a link too.
-fn create_part(name: &[u8], part: &mut [u8]) -> Made
+fn create_part(rt: &HostRuntime, name: &[u8], part: &mut [u8]) -> Made
     ensures { IsPrefixLen result.n part.new }
 {
-    let t = tag();
+    let t = tag(rt);
     let n = names::part_name(name, &t, part);
-    let fd = os::create(&part[..n]);
-    if fd < 0 {
-        return unmade(stop(Why::Create));
-    }
-    if fd < 3 {
-        libc::close(fd);
-        os::unlink(&part[..n]);
+    let file = match create(rt, &part[..n]) {
+        Ok(file) => file,
+        Err(error) => return unmade(stop(Why::Create, error)),
+    };
+    if reading::stands_in(&file) {
+        drop(file);
+        remove(rt, &part[..n]);
         return unmade(stop_by_rule(Why::Closed));
     }
     Made {
         stop: go_on(),
-        fd,
+        file: Some(file),
         n,
     }
 }
 
 // Makes a part file under a name that nobody has.
-fn create_beside(name: &[u8], part: &mut [u8]) -> Made
+fn create_beside(rt: &HostRuntime, name: &[u8], part: &mut [u8]) -> Made
     ensures { IsPrefixLen result.n part.new }
 {
     let mut left = TRIES;
-    let mut made = create_part(name, part);
+    let mut made = create_part(rt, name, part);
     while made.stop.error == sight::EEXIST {
         if left == 0 {
             return made;
         }
         left -= 1;
-        made = create_part(name, part);
+        made = create_part(rt, name, part);
     }
     made
 }
 
 // Gives a new file the owner and the group of the old one, as far as the system lets it.
-fn keep_owner(fd: i32, old: Seen, new: Seen) {
+fn keep_owner(file: &File, old: Seen, new: Seen) {
     if basics::both(old.owner == new.owner, old.group == new.group) {
         return;
     }
-    if libc::fchown(fd, old.owner, old.group) != 0 {
-        libc::fchown(fd, SAME_OWNER, old.group);
+    if fchown(file, Some(old.owner), Some(old.group)).is_err() {
+        let _ = fchown(file, None, Some(old.group));
     }
 }
 
 // Gives a new file the mode of the old one, where there is one.
-fn keep_mode(fd: i32, old: Seen) -> bool {
+fn keep_mode(file: &File, old: Seen) -> io::Result<()> {
     if old.error != 0 {
-        return true;
+        return Ok(());
     }
-    let new = sight::open_file(fd);
-    keep_owner(fd, old, new);
+    let new = sight::open_file(file);
+    keep_owner(file, old, new);
     if new.mode == old.mode {
-        return true;
+        return Ok(());
     }
-    libc::fchmod(fd, old.mode % RIGHTS) == 0
+    file.set_permissions(Permissions::from_mode(old.mode % RIGHTS))
+}
+
+// A call that succeeded goes on, and one that failed stops.
+fn stop_at(why: Why, done: io::Result<()>) -> Stop {
+    match done {
+        Ok(()) => go_on(),
+        Err(e) => stop(why, error_number(&e)),
+    }
 }
 
 // Whether what was written has reached the disk; a file system that has no such call is let be.
-fn is_synced(fd: i32) -> bool {
-    if libc::fsync(fd) == 0 {
-        return true;
-    }
-    os::errno() == libc::EINVAL
+fn sync(file: &File) -> Stop {
+    let s = stop_at(Why::Sync, file.sync_all());
+    if s.error == EINVAL { go_on() } else { s }
 }
 
-fn fill(fd: i32, bytes: &[u8], old: Seen) -> Stop {
-    if !keep_mode(fd, old) {
-        return stop(Why::Mode);
+// Fills the part file.
+fn fill(file: &mut File, bytes: &[u8], old: Seen) -> Stop {
+    let kept = stop_at(Why::Mode, keep_mode(file, old));
+    if stops(kept) {
+        return kept;
     }
-    if !io::write_all(fd, bytes) {
-        return stop(Why::Write);
+    let written = stop_at(Why::Write, file.write_all(bytes));
+    if stops(written) {
+        return written;
     }
-    if !is_synced(fd) {
-        return stop(Why::Sync);
-    }
-    go_on()
+    sync(file)
 }
 
 // Fills the part file and closes it, whatever happens.
-fn fill_and_close(fd: i32, bytes: &[u8], old: Seen) -> Stop {
-    let s = fill(fd, bytes, old);
-    let closed = libc::close(fd);
-    if stops(s) {
-        return s;
+fn fill_and_close(file: Option<File>, bytes: &[u8], old: Seen) -> Stop {
+    match file {
+        Some(mut file) => fill(&mut file, bytes, old),
+        None => go_on(),
     }
-    if closed != 0 {
-        return stop(Why::Write);
-    }
-    go_on()
 }
 
 // Has the move itself reach the disk, where the folder can be opened. The file is whole in either case.
-fn sync_folder(folder: &[u8]) {
-    let fd = os::open_read(folder);
-    if fd < 0 {
+fn sync_folder(rt: &HostRuntime, folder: &[u8]) {
+    let Ok(path) = names::path_of(folder) else {
         return;
+    };
+    if let Ok(file) = File::open(rt, path) {
+        let _ = file.sync_all();
     }
-    libc::fsync(fd);
-    libc::close(fd);
 }
 
-fn settle(name: &[u8]) {
+fn settle(rt: &HostRuntime, name: &[u8]) {
     let k = names::folder(name);
     if k == 0 {
-        sync_folder(b".");
+        sync_folder(rt, b".");
     } else {
-        sync_folder(&name[..k]);
+        sync_folder(rt, &name[..k]);
     }
 }
 
-// Whether what stands there may not be written by this user.
-fn is_protected(name: &[u8], old: Seen) -> bool {
+// Why what stands there may not be written by this user: it is opened to be written at its end, and nothing is written. A program
+// that runs cannot be opened so, and may be moved over.
+fn protection(rt: &HostRuntime, name: &[u8], old: Seen) -> Stop {
     if old.error != 0 {
-        return false;
+        return go_on();
     }
-    let path = names::ended(name);
-    libc::access(&path, W_OK) != 0
+    let Ok(path) = names::path_of(name) else {
+        return stop(Why::Protected, EILSEQ);
+    };
+    match OpenOptions::new().append(true).open(rt, path) {
+        Ok(_) => go_on(),
+        Err(e) => protected(error_number(&e)),
+    }
+}
+
+fn protected(error: u32) -> Stop {
+    if error == ETXTBSY {
+        return go_on();
+    }
+    stop(Why::Protected, error)
 }
 
 // Why a file of this name may not be replaced.
-fn forbidden(name: &[u8], old: Seen, inputs: [Seen; INPUTS]) -> Stop {
+fn forbidden(rt: &HostRuntime, name: &[u8], old: Seen, inputs: [Seen; INPUTS]) -> Stop {
     let by_rule = Stop {
         why: rule::verdict(old, inputs),
         error: old.error,
@@ -192,64 +233,93 @@ fn forbidden(name: &[u8], old: Seen, inputs: [Seen; INPUTS]) -> Stop {
     if stops(by_rule) {
         return by_rule;
     }
-    if is_protected(name, old) {
-        return stop(Why::Protected);
+    protection(rt, name, old)
+}
+
+// Moves a file.
+fn rename(rt: &HostRuntime, from: &[u8], to: &[u8]) -> Result<(), u32> {
+    let from = names::path_of(from)?;
+    let to = names::path_of(to)?;
+    match fs::rename(rt, from, to) {
+        Ok(()) => Ok(()),
+        Err(e) => Err(error_number(&e)),
     }
-    go_on()
 }
 
 // Moves a part file into place; where it cannot be, it is removed.
-fn place(part: &[u8], name: &[u8]) -> Stop {
-    if os::rename(part, name) == 0 {
-        settle(name);
-        return go_on();
+fn place(rt: &HostRuntime, part: &[u8], name: &[u8]) -> Stop {
+    match rename(rt, part, name) {
+        Ok(()) => {
+            settle(rt, name);
+            go_on()
+        }
+        Err(error) => {
+            remove(rt, part);
+            stop(Why::Move, error)
+        }
     }
-    let s = stop(Why::Move);
-    os::unlink(part);
-    s
+}
+
+// A part file that is whole, and how many bytes its name has; or why there is none.
+#[derive(Clone, Copy)]
+struct Part {
+    stop: Stop,
+    n: usize,
+}
+
+fn no_part(stop: Stop) -> Part
+    ensures { result.n ≡ 0 }
+{
+    Part { stop, n: 0 }
 }
 
 // Writes a part file whole, beside its target.
-fn write_part(name: &[u8], bytes: &[u8], inputs: [Seen; INPUTS], part: &mut [u8]) -> Made
+fn write_part(
+    rt: &HostRuntime,
+    name: &[u8],
+    bytes: &[u8],
+    inputs: [Seen; INPUTS],
+    part: &mut [u8],
+) -> Part
     ensures { IsPrefixLen result.n part.new }
 {
-    let old = sight::named_file(name);
-    let s = forbidden(name, old, inputs);
+    let old = sight::named_file(rt, name);
+    let s = forbidden(rt, name, old, inputs);
     if stops(s) {
-        return unmade(s);
+        return no_part(s);
     }
-    let made = create_beside(name, part);
+    let made = create_beside(rt, name, part);
     let n = made.n;
-    if stops(made.stop) {
-        return made;
+    let s = made.stop;
+    if stops(s) {
+        return Part { stop: s, n };
     }
-    let filled = fill_and_close(made.fd, bytes, old);
+    let filled = fill_and_close(made.file, bytes, old);
     if stops(filled) {
-        os::unlink(&part[..n]);
-        return unmade(filled);
+        remove(rt, &part[..n]);
+        return no_part(filled);
     }
-    made
+    Part { stop: s, n }
 }
 
 // Writes a file whole. Whatever stops it, what stood there stays, whole.
-pub fn write_file(name: &[u8], bytes: &[u8], inputs: [Seen; INPUTS]) -> Stop {
-    let mut part = io::buffer();
-    let made = write_part(name, bytes, inputs, &mut part);
+pub fn write_file(rt: &HostRuntime, name: &[u8], bytes: &[u8], inputs: [Seen; INPUTS]) -> Stop {
+    let mut part = names::room();
+    let made = write_part(rt, name, bytes, inputs, &mut part);
     let n = made.n;
     if stops(made.stop) {
         return made.stop;
     }
-    place(&part[..n], name)
+    place(rt, &part[..n], name)
 }
 
 // The file that argument i names.
-pub fn write_argument(i: usize, bytes: &[u8], inputs: [Seen; INPUTS]) -> Stop {
-    let mut name = io::buffer();
-    let k = os::arg(i, &mut name);
-    if os::errno() != 0 {
-        return stop(Why::Argument);
+pub fn write_argument(rt: &HostRuntime, i: usize, bytes: &[u8], inputs: [Seen; INPUTS]) -> Stop {
+    let mut name = names::room();
+    match arguments::argument(rt, i, &mut name) {
+        Ok(k) => write_file(rt, &name[..k], bytes, inputs),
+        Err(error) => stop(Why::Argument, error),
     }
-    write_file(&name[..k], bytes, inputs)
 }
 
 // What stopped the first file of two, and the second.
@@ -274,46 +344,60 @@ fn stop_second(s: Stop) -> Stops {
 }
 
 // Moves two part files into place; where the first cannot be, the second is removed.
-fn place_both(a: &[u8], first: &[u8], b: &[u8], second: &[u8]) -> Stops {
-    let s = place(a, first);
+fn place_both(rt: &HostRuntime, a: &[u8], first: &[u8], b: &[u8], second: &[u8]) -> Stops {
+    let s = place(rt, a, first);
     if stops(s) {
-        os::unlink(b);
+        remove(rt, b);
         return stop_first(s);
     }
-    stop_second(place(b, second))
+    stop_second(place(rt, b, second))
 }
 
 // Two files, each moved into place when both are whole; the second may not be the first.
-fn write_files(first: &[u8], a: &[u8], second: &[u8], b: &[u8], input: Seen) -> Stops {
-    let mut part = io::buffer();
-    let mut other = io::buffer();
+fn write_files(
+    rt: &HostRuntime,
+    first: &[u8],
+    a: &[u8],
+    second: &[u8],
+    b: &[u8],
+    input: Seen,
+) -> Stops {
+    let mut part = names::room();
+    let mut other = names::room();
     let none = sight::nobody();
-    let made = write_part(first, a, [input, none, none, none], &mut part);
+    let made = write_part(rt, first, a, [input, none, none, none], &mut part);
     let n = made.n;
     if stops(made.stop) {
         return stop_first(made.stop);
     }
-    let old = sight::named_file(first);
-    let beside = write_part(second, b, [input, old, none, none], &mut other);
+    let old = sight::named_file(rt, first);
+    let beside = write_part(rt, second, b, [input, old, none, none], &mut other);
     let m = beside.n;
     if stops(beside.stop) {
-        os::unlink(&part[..n]);
+        remove(rt, &part[..n]);
         return stop_second(beside.stop);
     }
-    place_both(&part[..n], first, &other[..m], second)
+    place_both(rt, &part[..n], first, &other[..m], second)
 }
 
 // The files that arguments i and j name.
-pub fn write_arguments(i: usize, a: &[u8], j: usize, b: &[u8], input: Seen) -> Stops {
-    let mut first = io::buffer();
-    let mut second = io::buffer();
-    let k = os::arg(i, &mut first);
-    if os::errno() != 0 {
-        return stop_first(stop(Why::Argument));
-    }
-    let l = os::arg(j, &mut second);
-    if os::errno() != 0 {
-        return stop_second(stop(Why::Argument));
-    }
-    write_files(&first[..k], a, &second[..l], b, input)
+pub fn write_arguments(
+    rt: &HostRuntime,
+    i: usize,
+    a: &[u8],
+    j: usize,
+    b: &[u8],
+    input: Seen,
+) -> Stops {
+    let mut first = names::room();
+    let mut second = names::room();
+    let k = match arguments::argument(rt, i, &mut first) {
+        Ok(k) => k,
+        Err(error) => return stop_first(stop(Why::Argument, error)),
+    };
+    let l = match arguments::argument(rt, j, &mut second) {
+        Ok(l) => l,
+        Err(error) => return stop_second(stop(Why::Argument, error)),
+    };
+    write_files(rt, &first[..k], a, &second[..l], b, input)
 }

@@ -1,11 +1,11 @@
 -- Worked ones: names, answers of a read, and verdicts.
-use Rattle.std.specs.Prelude.{true, false, List, [], ◌∷◌, ◌≡◌, refl, ℕ, pos, negsuc}
+use Rattle.std.specs.Prelude.{false, [], ◌∷◌, ◌≡◌, refl, ℕ, pos, negsuc}
 use Rattle.basics.specs.Counts.{all}
 use Rattle.basics.specs.Lists.{joined}
 use Rattle.files.specs.declared.Seen.{Seen}
 use Rattle.files.specs.declared.Why.TheVariants.{Nothing, Look, Link, Kind, Input}
 use Rattle.files.specs.declared.reading.Brought.TheVariants.{Bytes, End, Failed}
-use Rattle.files.specs.Names.{behind, folder_of, is_name, part_of, mark}
+use Rattle.files.specs.Names.{behind, folder_of, is_name, part_of}
 use Rattle.files.specs.Reads.{meaning_of}
 use Rattle.files.specs.Rule.{is_input, verdict_of}
 

@@ -4,8 +4,7 @@ use Rattle.std.specs.Prelude.{Bool, true, false, not, ◌⊎◌, ◌↔◌, ◌�
 use Rattle.std.proofs.Math.Bool.{cond}
 use mathlib.Core.List.{List, [], ◌∷◌}
 use Rattle.std.proofs.Math.Logic.{inl, inr}
-use Rattle.std.proofs.Common.{⊎_elim, sym, ap, ◌∙◌, arith, eq-eqb, ne_eqb, eqb-true}
-use Rattle.std.proofs.lemmas.Bool.{eqb-false}
+use Rattle.std.proofs.Common.{⊎_elim, sym, ap, ◌∙◌, arith, eq-eqb, eqb-true}
 use Rattle.basics.specs.Laws.Tests.{cases, true_is_not_false, or_right, or_left, not-false}
 use Rattle.files.specs.declared.Seen.{Seen}
 use Rattle.files.specs.declared.Why.{Why}

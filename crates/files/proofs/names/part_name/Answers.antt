@@ -1,0 +1,24 @@
+-- `names::part_name` meets its contract: nothing where it does not fit, and else the name at the front.
+use native.Mathlib.Omega.{arith}
+use lib.ListN.{length-take, length-append, length-drop}
+use borrow.Author.Rules.{rules}
+use Rattle.files.proofs.Loops.{counted}
+use Rattle.files.proofs.Parts.{short_length, short_out, whole_length, whole_out}
+use Rattle.files.proofs.names.part_name.Goals as goal
+
+pub returns-then-out-k : goal.returns-then-out-k
+returns-then-out-k c = (short_length _ _ c.folder-k.ensures.0 _ (omega arith), short_out _ _ c.folder-k.ensures.0 _ _ (omega arith), search rules)
+
+pub returns-then-out-k-lt-PART : goal.returns-then-out-k-lt-PART
+returns-then-out-k-lt-PART c = (short_length _ _ c.folder-k.ensures.0 _ (omega arith), short_out _ _ c.folder-k.ensures.0 _ _ (omega arith), search rules)
+
+pub slice_bounds-put_part-end-2 : goal.slice_bounds-put_part-end-2
+slice_bounds-put_part-end-2 c = simp length-take (omega arith)
+
+pub put_part-requires : goal.put_part-requires
+put_part-requires c = (search rules, search rules, simp length-take (omega arith))
+
+pub returns : goal.returns
+returns c =
+    let folder = c.folder-k in
+    (whole_length _ _ folder.ensures.0 _ (omega arith), whole_out _ _ folder.ensures.0 _ _ _ (omega arith) c.put_part.ensures, counted _ _ (simp (length-append, length-drop, c.put_part.auto.out, length-take) (omega arith)))
