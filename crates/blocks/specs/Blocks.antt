@@ -1,5 +1,5 @@
 -- A block is its bytes: type, payload length, checksum of these, checksum of the payload, payload (001, Block Header).
-use Rattle.std.specs.Prelude.{ℕ, ◌+◌, ◌≡◌, List, [], ◌∷◌, ◌++◌, Bool, cond, ◌&&◌, length, get_or, take, drop, eqb, leb}
+use Rattle.std.specs.Prelude.{ℕ, ◌+◌, ◌≡◌, List, ◌∷◌, ◌++◌, Bool, cond, ◌&&◌, length, get_or, take, drop, eqb, leb}
 use Rattle.basics.specs.Bytes.{at16, at32, le16, le32}
 use Rattle.sums.specs.Crc.{dowcrc_of, crc324_of}
 

@@ -7,10 +7,9 @@ use Rattle.std.proofs.lemmas.List.{take-append-le}
 use Rattle.basics.specs.Bytes.{at16}
 use Rattle.basics.specs.Lists.{part}
 use Rattle.basics.specs.Laws.Lists.{length_part, get_d_part}
-use Rattle.basics.specs.Laws.Tests.{cases, or_false_left, or_false_right, not-false, true_is_not_false}
+use Rattle.basics.specs.Laws.Tests.{cases, or_false_left, or_false_right, not-false}
 use Rattle.basics.specs.Laws.Stands.{stands_in, stands_at, stands_after, stands_length}
 use Rattle.sums.specs.Crc.{dowcrc_of}
-use Rattle.blocks.specs.declared.Frame.{Frame}
 use Rattle.blocks.specs.declared.Frame.TheVariants.{Over, Cut, Framed}
 use Rattle.blocks.specs.Blocks.{type_of, size_said, Block}
 use Rattle.blocks.specs.Frames.{ends_at, next_of, cut_at, frame_at}

@@ -1,0 +1,14 @@
+-- `blocks::judge_hunk` meets its contract: by the cases of the hunk's check.
+use Rattle.blocks.proofs.Laws.{hunk_whole, hunk_breaks}
+use borrow.Author.Rules.{rules}
+use Rattle.blocks.proofs.Laws.{break_fits}
+use Rattle.blocks.proofs.judge_hunk.Goals as goal
+
+pub returns-in-Whole : goal.returns-in-Whole
+returns-in-Whole c = search (rules, hunk_whole)
+
+pub returns-in-Broken : goal.returns-in-Broken
+returns-in-Broken c = search (rules, hunk_breaks)
+
+pub overflow_add-k : goal.overflow_add-k
+overflow_add-k c = search (rules, break_fits)
