@@ -153,8 +153,7 @@ fn note_line(st: Scan, text: &[u8], at: usize) -> Scan
     note(next(st), says)
 }
 
-// What all lines of a CFG say. The loop holds the reader, which the borrow checker does not cover, so its proof is a walk by
-// hand; what a turn does is done by covered functions, which take the text and the place.
+// What all lines of a CFG say. The loop holds the reader; what a turn does is done by functions that take the text and the place.
 fn scan_lines(cfg: &[u8]) -> Scan
     requires { length cfg.now ≤ cfg_limit }
     ensures { result ≡ scan_of (says_of cfg.now) }

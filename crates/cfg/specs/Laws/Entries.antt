@@ -1,5 +1,5 @@
 -- What the entries of a CFG are: their numbers fit, their lines rise, and an acceptance holds them all.
-use Rattle.std.specs.Prelude.{ℕ, ◌≤◌, ◌<◌, suc, ◌+◌, List, [], ◌∷◌, ◌++◌, refl, ◌≡◌, Bool, cond, true, false, length, take, get_or, eqb}
+use Rattle.std.specs.Prelude.{ℕ, ◌≤◌, ◌<◌, suc, ◌+◌, List, [], ◌∷◌, ◌++◌, refl, ◌≡◌, length, take, get_or}
 use Rattle.std.proofs.Common.{◌∙◌, arith, le_refl, length-take-le, ext_get_or, get_or-take, ltb-false}
 use Rattle.std.proofs.Math.ListN.{get_or-eq_default}
 use Rattle.std.proofs.lemmas.Bool.{eqb-false}
