@@ -1,5 +1,5 @@
 -- The CFG of lines in an array, and what functions write of it.
-use Rattle.std.specs.Prelude.{◌+◌, ◌-◌, min, ℕ, List, [], ◌++◌, ◌∷◌, map, drop, length, replicate, take}
+use Rattle.std.specs.Prelude.{◌-◌, min, ℕ, List, [], ◌++◌, ◌∷◌, map, drop, length, replicate, take}
 use Rattle.basics.specs.Lists.{joined, put_front}
 use Rattle.places.specs.Limits.{line_limit}
 use Rattle.text.specs.Bytes.{text}

@@ -1,18 +1,14 @@
 -- What is written of lines, one line after the other; and that it is the CFG of their entries.
-use Rattle.std.specs.Prelude.{◌+◌, ◌*◌, ◌-◌, ◌<◌, ◌≤◌, min, suc, ℕ, List, [], ◌++◌, ◌∷◌, map, ◌≡◌, refl, drop, get_or, length, replicate, take}
-use Rattle.std.proofs.Common.{◌∙◌, ap, ap₂, sym, arith, add-one, length-append, length-drop, length-take, length-take-le, take-suc}
+use Rattle.std.specs.Prelude.{◌+◌, ◌*◌, ◌-◌, ◌≤◌, min, ℕ, List, [], ◌++◌, ◌∷◌, ◌≡◌, refl, drop, length, replicate, take}
+use Rattle.std.proofs.Common.{◌∙◌, ap, ap₂, arith, length-append, length-take}
 use Rattle.std.proofs.lemmas.List.{length-replicate}
 use Rattle.std.proofs.Math.Seq.{take-append_seam}
-use borrow.Rule.Slice.PartMut.{put_mid}
-use Rattle.basics.specs.Laws.Each.{joined_append, joined_more}
-use Rattle.basics.specs.Laws.Puts.{put_all, put_room, put_wrote}
-use Rattle.basics.specs.Laws.Wrote.{Wrote, wrote_none, wrote_part, wrote_long}
-use Rattle.basics.specs.Lists.{joined, put_front}
+use Rattle.basics.specs.Laws.Puts.{put_room}
+use Rattle.basics.specs.Lists.{joined}
 use Rattle.text.specs.Bytes.{text}
 use Rattle.lines.specs.declared.Entry.{Entry}
 use Rattle.lines.specs.declared.Entry.TheVariants.{Paged, Ram, Rom}
 use Rattle.lines.specs.declared.Line.{Line}
-use Rattle.lines.specs.declared.Width.{Width}
 use Rattle.lines.specs.declared.Width.TheVariants.{Eight, Sixteen}
 use Rattle.print.specs.Cfg.{cfg_text, entry_line, line_text, section_text}
 use Rattle.print.specs.Code.Texts.{page_digit, text_of}
