@@ -4,27 +4,26 @@ use mathlib.Core.Path.{◌≡◌, refl, sym, ap, ◌∙◌}
 use mathlib.Core.List.{List, [], ◌∷◌, ◌++◌}
 use mathlib.Core.Bool.{Bool, true, false, cond, not, ◌&&◌, ◌||◌}
 use native.Mathlib.Omega.{arith}
-use borrow.Author.Tests.{eq-eqb, ne_eqb, eqb-true, eqb-false}
-use lib.ListN.{length, length-append, length-drop}
+use borrow.Author.Tests.{ne_eqb, eqb-true, eqb-false}
+use lib.ListN.{length, length-append}
 use lib.Dec.{eqb}
 use mir.Val.{Fits}
 use mir.Syntax.{w64}
 use Rattle.basics.specs.declared.Refusal.{Refusal}
 use Rattle.basics.specs.Lists.{part, joined, flat}
-use Rattle.basics.specs.Rows.{Row, Gives, Silent, none, also}
+use Rattle.basics.specs.Rows.{Gives, Silent, none}
 use Rattle.basics.specs.Refusals.{refuse, no_refusal, first_refusal, passes}
 use Rattle.basics.specs.Laws.Lists.{length_part}
 use Rattle.basics.specs.Laws.Tests.{cases, true_is_not_false, or_none}
-use Rattle.basics.specs.Laws.Rows.{gives_first, silent_first, silent_append, silent_gives, gives_append, first_append}
-use Rattle.basics.specs.Laws.Refusals.{refused_exactly, accepted_exactly, silent_behind}
+use Rattle.basics.specs.Laws.Rows.{gives_first, silent_append, silent_gives, gives_append}
+use Rattle.basics.specs.Laws.Refusals.{silent_behind}
 use Rattle.sums.specs.Crc.{crc324_of}
-use Rattle.hunk.specs.Hunk.{Hunk, hunk_of, words_of}
 use Rattle.blocks.specs.declared.Frame.{Frame}
 use Rattle.blocks.specs.declared.Frame.TheVariants.{Over, Cut, Framed}
 use Rattle.blocks.specs.declared.Judged.{Judged}
-use Rattle.blocks.specs.Blocks.{type_of, payload_in, size_said, is_tables, is_hunk}
+use Rattle.blocks.specs.Blocks.{type_of, payload_in, size_said, is_tables}
 use Rattle.blocks.specs.Frames.{frame_at, on_frame}
-use Rattle.blocks.specs.Judged.{wrong_tables, judge_rows, judged_of}
+use Rattle.blocks.specs.Judged.{judge_rows}
 use Rattle.blocks.specs.Images.{blocks_in, judge_all, any_tables, hunks_in, word_count}
 use Rattle.blocks.specs.Laws.Frames.{framed_type}
 use Rattle.blocks.specs.Laws.Judged.{judge_refuses, Passed, passed}

@@ -2,7 +2,7 @@
 use Rattle.std.specs.Prelude.{ℕ, ◌+◌, ◌-◌, ◌<◌, ◌≤◌, ◌≡◌, List, [], ◌∷◌, ◌++◌, Bool, true, false, ◌&&◌, ◌||◌, length, get_or, leb, ltb}
 use Rattle.basics.specs.Lists.{Each}
 use Rattle.places.specs.Limits.{lent}
-use Rattle.hunk.specs.Hunk.{Hunk, end_of, words_of}
+use Rattle.hunk.specs.Hunk.{Hunk, end_of}
 use Rattle.blocks.specs.Blocks.{is_hunk, payload_in}
 use Rattle.blocks.specs.Images.{blocks_in, hunks_in, word_count}
 use Rattle.load.specs.declared.Loading.{Loading}

@@ -1,5 +1,5 @@
 -- What the checking pass and the storing pass answer, over the blocks that are read.
-use Rattle.std.specs.Prelude.{ℕ, ◌+◌, ◌≤◌, ◌≡◌, List, [], ◌∷◌, Bool, cond, not, length, eqb}
+use Rattle.std.specs.Prelude.{ℕ, ◌+◌, ◌≤◌, List, [], ◌∷◌, Bool, cond, not, length, eqb}
 use Rattle.basics.specs.declared.Refusal.{Refusal}
 use Rattle.basics.specs.Lists.{part}
 use Rattle.basics.specs.Refusals.{refuse, no_refusal, first_refusal, passes}

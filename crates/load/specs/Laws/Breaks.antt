@@ -22,7 +22,7 @@ use Rattle.hunk.specs.declared.Checked.{Checked}
 use Rattle.hunk.specs.declared.Checked.TheVariants.{Whole, Broken}
 use Rattle.hunk.specs.Hunk.{check_hunk, broken, break_of}
 use Rattle.hunk.specs.Laws.Refusals.{BreaksAt, broken_breaks, breaks_broken}
-use Rattle.tables.specs.Tables.{Tables, tables_in, tables_rows}
+use Rattle.tables.specs.Tables.{tables_in, tables_rows}
 use Rattle.blocks.specs.Blocks.{frame_size, type_of, sum_said, payload_in, is_tables, is_hunk, Block}
 use Rattle.blocks.specs.Judged.{is_encrypted, wrong_sum, wrong_metadata, wrong_tables, wrong_hunk, break_in, judge_rows}
 use Rattle.blocks.specs.Images.{first_block, blocks_in, stop_of, is_cut, judge_all, any_tables, payload_of_tables}
@@ -58,16 +58,19 @@ header_other s (here a) n = omega arith
 header_other s (later a (here b)) n = omega arith
 header_other s (later a (later b (here c))) n = omega arith
 header_other s (later a (later b (later c (here d)))) n = omega arith
+header_other s (later a (later b (later c (later _ g)))) n = elim g [ ]
 
 tables_other : {r : Refusal} (flags flips : List ℕ) (m f : ℕ) → Gives (tables_rows flags flips m f) r → r.number ≡ 9 → ⊥
 unfolding tables_rows
 tables_other flags flips m f (here a) n = omega arith
 tables_other flags flips m f (later a (here b)) n = omega arith
 tables_other flags flips m f (later a (later b (here c))) n = omega arith
+tables_other flags flips m f (later a (later b (later _ g))) n = elim g [ ]
 
 end_other : {r : Refusal} (a b : Bool) (p q : ℕ) → Gives ((a, refuse 5 p) ∷ (b, refuse 8 q) ∷ []) r → r.number ≡ 9 → ⊥
 end_other a b p q (here e) n = omega arith
 end_other a b p q (later d (here e)) n = omega arith
+end_other a b p q (later d (later _ g)) n = elim g [ ]
 
 record NineIn (m p sum : ℕ) (x : List ℕ) (r : Refusal) : Type 0 where
   pub good_sum : wrong_sum sum x ≡ false
@@ -76,11 +79,15 @@ record NineIn (m p sum : ℕ) (x : List ℕ) (r : Refusal) : Type 0 where
 
 nine_row : {r : Refusal} (m : ℕ) (e : Bool) (p sum : ℕ) (x : List ℕ) → Gives (judge_rows m e p sum x) r → r.number ≡ 9 → NineIn m p sum x r
 unfolding judge_rows
-nine_row m e p sum x (here a) n = absurd (omega arith)
-nine_row m e p sum x (later a (here b)) n = absurd (omega arith)
-nine_row m e p sum x (later a (later b (here c))) n = absurd (omega arith)
-nine_row m e p sum x (later a (later b (later w (here c)))) n = absurd (omega arith)
-nine_row m e p sum x (later a (later b (later w (later c (here d))))) n = record { good_sum = b; wrong = d; is = refl }
+nine_row m e p sum x g n = at x g n
+  where
+    at : (x : List ℕ) {r : Refusal} → Gives (judge_rows m e p sum x) r → r.number ≡ 9 → NineIn m p sum x r
+    at x (here a) n = absurd (omega arith)
+    at x (later a (here b)) n = absurd (omega arith)
+    at x (later a (later b (here c))) n = absurd (omega arith)
+    at x (later a (later b (later w (here c)))) n = absurd (omega arith)
+    at x (later a (later b (later w (later c (here d))))) n = record { good_sum = b; wrong = d; is = refl }
+    at x (later a (later b (later w (later c (later _ g))))) n = elim g [ ]
 
 -- ---- which block
 
@@ -94,6 +101,7 @@ record InBlock (m : ℕ) (e : Bool) (p : ℕ) (xs : List (List ℕ)) (r : Refusa
 
 in_block : {r : Refusal} (m : ℕ) (e : Bool) (p : ℕ) (xs : List (List ℕ)) → Gives (judge_all m e p xs) r → InBlock m e p xs r
 unfolding judge_all any_tables joined
+in_block m e p [] g = elim g [ ]
 in_block {r} m e p (x ∷ xs) g = go (λ h. in_block m (e || is_tables x) (p + length x) xs h) (gives_cases (judge_rows m e p (crc324_of (payload_in x)) x) _ g)
   where
     go : (Gives (judge_all m (e || is_tables x) (p + length x) xs) r → InBlock m (e || is_tables x) (p + length x) xs r)

@@ -1,30 +1,27 @@
 -- From the passes to the load: the tables block that the checking pass found is the first of the image's, and the hunks that the storing
 -- pass stores one after the other are the hunks laid over the RAM.
-use Rattle.std.specs.Prelude.{ℕ, ◌+◌, ◌≤◌, min, refl, List, [], ◌∷◌, ◌++◌, Bool, true, cond, not, ◌&&◌, ◌||◌, length, drop, eqb}
+use Rattle.std.specs.Prelude.{ℕ, ◌+◌, ◌≤◌, min, refl, List, [], ◌∷◌, ◌++◌, Bool, true, not, ◌&&◌, ◌||◌, length, drop, eqb}
 use Rattle.std.proofs.Math.Path.{◌≡◌, sym}
 use Rattle.std.proofs.Common.{ap, ◌∙◌, arith, length-drop, drop-drop}
 use Rattle.std.proofs.Math.Bool.{false}
-use borrow.Author.Tests.{eq-eqb, ne_eqb, eqb-true, eqb-false}
+use borrow.Author.Tests.{ne_eqb, eqb-true, eqb-false}
 use Rattle.std.proofs.lemmas.List.{drop-append-le}
 use Rattle.basics.specs.declared.Refusal.{Refusal}
-use Rattle.basics.specs.Lists.{part, lay, flat, Each, none as no_blocks, also as and_block}
+use Rattle.basics.specs.Lists.{lay, flat, Each, none as no_blocks, also as and_block}
 use Rattle.basics.specs.Rows.{Silent, none, also}
-use Rattle.basics.specs.Refusals.{refuse, no_refusal, first_refusal, passes}
-use Rattle.basics.specs.Laws.Lay.{Inside, length_lay}
-use Rattle.basics.specs.Laws.Tests.{cases, not-false, or_false_left, true_is_not_false}
-use Rattle.basics.specs.Laws.Rows.{silent_left, silent_right, silent_first}
+use Rattle.basics.specs.Refusals.{first_refusal, passes}
+use Rattle.basics.specs.Laws.Lay.{length_lay}
+use Rattle.basics.specs.Laws.Tests.{cases, true_is_not_false}
+use Rattle.basics.specs.Laws.Rows.{silent_left, silent_right}
 use Rattle.basics.specs.Laws.Stands.{stands_part}
 use Rattle.basics.specs.Laws.Refusals.{refused_front, silent_behind, accepted_exactly}
 use Rattle.places.specs.Limits.{lent, lent_limit}
 use Rattle.sums.specs.Crc.{crc324_of}
 use Rattle.header.specs.Header.{header_rows, header_refusal, flags_of}
 use Rattle.header.specs.Laws.Refusals.{header_accepted, accepted_length}
-use Rattle.hunk.specs.declared.Checked.{Checked}
-use Rattle.hunk.specs.declared.Checked.TheVariants.{Whole, Broken}
-use Rattle.hunk.specs.Hunk.{Hunk, address, words_of, check_hunk, store_hunk}
+use Rattle.hunk.specs.Hunk.{address, words_of, store_hunk}
 use Rattle.tables.specs.Tables.{tables_size, tables_in, flash_words, tables_rows, tables_refusal}
-use Rattle.tables.specs.Laws.Refusals.{tables_refusing}
-use Rattle.blocks.specs.Blocks.{type_of, payload_in, size_said, is_tables, is_hunk, Block}
+use Rattle.blocks.specs.Blocks.{payload_in, size_said, is_tables, is_hunk, Block}
 use Rattle.blocks.specs.Judged.{wrong_tables, wrong_hunk, judge_rows}
 use Rattle.blocks.specs.Images.{first_block, blocks_in, judge_all, any_tables, payload_of_tables, hunks_in, overlay, word_count}
 use Rattle.blocks.specs.Laws.Frames.{block_fits, rest_is}
@@ -32,7 +29,7 @@ use Rattle.blocks.specs.Laws.Images.{next_blocks, reading}
 use Rattle.load.specs.declared.Verdict.{Verdict}
 use Rattle.load.specs.declared.Verdict.TheVariants.{Refused, Loads}
 use Rattle.load.specs.declared.Loading.{Loading}
-use Rattle.load.specs.Load.{walk_rows, refusal_rows, refusal_of, refusal_by_size, loads, loaded_of, refused, loading_of, load_ram_of, hunks_laid}
+use Rattle.load.specs.Load.{walk_rows, refusal_of, refusal_by_size, refused, loading_of, load_ram_of, hunks_laid}
 use Rattle.load.specs.Code.Passes.{tables_place, verdict_of, Tabled, tables_at, end_refusal, finished_of, finished_ram_of}
 use Rattle.load.specs.Laws.Refusals.{walk_silent, walk_refusing}
 

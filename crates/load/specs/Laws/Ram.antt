@@ -1,5 +1,5 @@
 -- The RAM after a load, word by word: what demand 2 says of it.
-use Rattle.std.specs.Prelude.{ℕ, ◌-◌, ◌<◌, ◌≤◌, ◌+◌, List, [], ◌∷◌, ◌++◌, ◌≡◌, refl, false, cond, Bool, true, ◌&&◌, ◌||◌, ◌⊎◌, get_or, length, leb, ltb, eqb}
+use Rattle.std.specs.Prelude.{ℕ, ◌-◌, ◌<◌, ◌≤◌, ◌+◌, List, [], ◌∷◌, ◌++◌, ◌≡◌, refl, false, cond, Bool, true, ◌||◌, get_or, length, leb, ltb}
 use Rattle.std.proofs.Common.{ap, sym, ◌∙◌, inr, inl, arith, eq-eqb, leb-true, ltb-true, ltb-false, leb-false}
 use Rattle.std.proofs.Math.ListN.{get_or-eq_default}
 use Rattle.basics.specs.Lists.{lay, Each, none as no_blocks, also as and_block}
@@ -11,12 +11,12 @@ use Rattle.places.specs.Limits.{lent}
 use Rattle.sums.specs.Crc.{crc324_of}
 use Rattle.hunk.specs.declared.Checked.{Checked}
 use Rattle.hunk.specs.declared.Checked.TheVariants.{Whole, Broken}
-use Rattle.hunk.specs.Hunk.{Hunk, hunk_of, check_hunk, broken, end_of, words_of, address}
+use Rattle.hunk.specs.Hunk.{Hunk, check_hunk, broken}
 use Rattle.hunk.specs.Laws.Refusals.{WholeIn, whole_words}
 use Rattle.blocks.specs.Blocks.{payload_in, is_hunk, is_tables}
 use Rattle.blocks.specs.Judged.{wrong_hunk, judge_rows}
-use Rattle.blocks.specs.Images.{first_block, blocks_in, judge_all, hunks_in, overlay, word_count}
-use Rattle.load.specs.Load.{refusal_of, loads, loaded_of, loading_of, load_ram_of, hunks_laid}
+use Rattle.blocks.specs.Images.{first_block, blocks_in, judge_all, hunks_in, overlay}
+use Rattle.load.specs.Load.{refusal_of, loads, loading_of, load_ram_of, hunks_laid}
 use Rattle.load.specs.Leaves.{names, named, Filled, Leaves}
 use Rattle.load.specs.Laws.Refusals.{answer_refusal, Accepted, accepted}
 use Rattle.load.specs.Laws.Passes.{judged_hunk, stored_over}

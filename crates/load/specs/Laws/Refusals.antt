@@ -1,8 +1,7 @@
 -- When a load is refused: with this number and place exactly when that row holds and none before it in 01's order does; it loads exactly
 -- when no row holds; and a refused load changes no word.
-use Rattle.std.specs.Prelude.{ℕ, ◌≤◌, ◌≡◌, refl, List, [], ◌∷◌, ◌++◌, Bool, true, false, not, ◌||◌, ◌↔◌, length, eqb}
-use Rattle.std.proofs.Common.{sym, ap, ◌∙◌, arith, eq-eqb, ne_eqb, eqb-true}
-use Rattle.std.proofs.lemmas.Bool.{eqb-false}
+use Rattle.std.specs.Prelude.{ℕ, ◌≡◌, List, [], ◌∷◌, Bool, true, false, not, ◌||◌, ◌↔◌, length}
+use Rattle.std.proofs.Common.{sym, arith, ne_eqb, eqb-true}
 use Rattle.basics.specs.declared.Refusal.{Refusal}
 use Rattle.basics.specs.Rows.{Gives, Silent, none, also}
 use Rattle.basics.specs.Refusals.{refuse, no_refusal}
@@ -14,7 +13,7 @@ use Rattle.header.specs.Header.{header_rows, flags_of}
 use Rattle.header.specs.Laws.Refusals.{header_refusing}
 use Rattle.tables.specs.Tables.{tables_in, tables_rows}
 use Rattle.tables.specs.Laws.Refusals.{tables_refusing}
-use Rattle.blocks.specs.Blocks.{payload_in, is_tables}
+use Rattle.blocks.specs.Blocks.{is_tables}
 use Rattle.blocks.specs.Judged.{judge_rows}
 use Rattle.blocks.specs.Images.{first_block, blocks_in, stop_of, is_cut, judge_all, any_tables, payload_of_tables}
 use Rattle.blocks.specs.Laws.Judged.{judge_refusing}

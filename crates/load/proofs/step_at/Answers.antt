@@ -1,0 +1,28 @@
+-- `load::step_at` meets its contract: one law for each way out.
+use Rattle.load.proofs.Laws.{steps, place_fits, frame_later, frame_inside}
+use borrow.Author.Rules.{rules}
+use Rattle.load.proofs.step_at.Goals as goal
+
+pub slice_bounds-judge-count : goal.slice_bounds-judge-count
+slice_bounds-judge-count c = search (rules, frame_later)
+
+pub slice_bounds-judge-start : goal.slice_bounds-judge-start
+slice_bounds-judge-start c = search (rules, frame_later)
+
+pub slice_bounds-judge-end : goal.slice_bounds-judge-end
+slice_bounds-judge-end c = search (rules, frame_inside)
+
+pub overflow_add-p : goal.overflow_add-p
+overflow_add-p c = search (rules, place_fits)
+
+pub returns-then-r-ne0 : goal.returns-then-r-ne0
+returns-then-r-ne0 c = search (rules, steps)
+
+pub returns-in-Over : goal.returns-in-Over
+returns-in-Over c = search (rules, steps)
+
+pub returns-in-Cut : goal.returns-in-Cut
+returns-in-Cut c = search (rules, steps)
+
+pub returns-else-r-ne0 : goal.returns-else-r-ne0
+returns-else-r-ne0 c = search (rules, steps)
