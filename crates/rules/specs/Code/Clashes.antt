@@ -1,5 +1,5 @@
 -- Rule 27, line by line: what is known of lines that passed 25 and 26, and what the search for the first that shares finds.
-use Rattle.std.specs.Prelude.{ℕ, ◌<◌, List, [], ◌≡◌}
+use Rattle.std.specs.Prelude.{◌<◌, List, [], ◌≡◌}
 use Rattle.basics.specs.Lists.{Each}
 use Rattle.basics.specs.Refusals.{first_refusal}
 use Rattle.lines.specs.declared.Line.{Line}

@@ -1,5 +1,5 @@
 -- Rules 25 and 26 of one line, as facts: its addresses in order, and its shape.
-use Rattle.std.specs.Prelude.{ℕ, ◌<◌, ◌%◌, ◌/◌, ◌-◌, ◌+◌, ◌≤◌, suc, zero, ◌≡◌, refl, Bool, false, true, ◌&&◌, not, ◌||◌, cond, ◌⊎◌, leb, eqb, ltb}
+use Rattle.std.specs.Prelude.{ℕ, ◌<◌, ◌%◌, ◌/◌, ◌-◌, ◌+◌, ◌≤◌, suc, zero, ◌≡◌, refl, false, true, ◌&&◌, not, ◌||◌, cond, ◌⊎◌, leb, eqb, ltb}
 use Rattle.std.proofs.Common.{sym, ◌∙◌, inl, inr, ⊎_elim, arith, leb-false, eqb-true, eq-eqb, ne_eqb, leb-true, ltb-false}
 use Rattle.basics.specs.Laws.Tests.{cases, and_right, not-true, or_false_right, and_left, or_false_left, or_cases, not-false}
 use Rattle.places.specs.Limits.{paragraph_size, chapter_size, half_size, half_start, chapter_pages}

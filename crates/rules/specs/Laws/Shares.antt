@@ -1,14 +1,13 @@
 -- Rule 27 by owners: lines that share claim a place in common, and the least owner that a line meets is the least number of the earlier
 -- lines with which it shares.
-use Prim.Native.Nat.{ℕ, zero, suc, ◌<◌, ◌+◌, ◌-◌, ◌*◌, ◌≤◌, max, ◌/◌, ◌%◌}
+use Prim.Native.Nat.{ℕ, suc, ◌<◌, ◌+◌, ◌-◌, ◌*◌, ◌≤◌, max, ◌/◌, ◌%◌}
 use Rattle.std.specs.Prelude.{Bool, false, ◌||◌, ◌&&◌, not, ◌≡◌, refl, List, [], ◌∷◌, ltb, leb}
 use Rattle.std.proofs.Math.Bool.{true, cond}
-use Rattle.std.proofs.Common.{◌∙◌, ap, arith}
+use Rattle.std.proofs.Common.{◌∙◌, arith}
 use Rattle.std.proofs.Math.Path.{sym}
 use Rattle.std.proofs.Math.Logic.{⊎_elim}
 use Rattle.std.proofs.Math.Dec.{eqb}
 use borrow.Author.Tests.{ltb-true, ltb-false, eqb-true, eq-eqb, leb-true, eqb-false, le-leb, ne_eqb}
-use Rattle.basics.specs.Counts.{any}
 use Rattle.basics.specs.Lists.{Each, none, also}
 use Rattle.basics.specs.Laws.Tests.{cases, and_left, and_right, and_true, or_left, or_right, or_false_left, or_false_right, same_test, or_cases}
 use Rattle.basics.specs.Laws.Counts.{any_of, Place, any_at}
@@ -22,8 +21,8 @@ use Rattle.owners.specs.Owners.{claims_paragraph, claims_page, only, lesser, lea
 use Rattle.owners.specs.Laws.Owners.{meet_in, common, Apart, least_met}
 use Rattle.rules.specs.Rules.{meets, shares, shares_earlier}
 use Rattle.rules.specs.Code.Shapes.{Fine}
-use Rattle.rules.specs.Code.Clashes.{Numbered, Allowed}
-use Rattle.rules.specs.Laws.Shapes.{Aligned, aligned}
+use Rattle.rules.specs.Code.Clashes.{Numbered}
+use Rattle.rules.specs.Laws.Shapes.{aligned}
 
 module _ (m e : Entry) (fm : Fine m) (fe : Fine e) where
   -- two plain entries that meet have the first paragraph of the higher one

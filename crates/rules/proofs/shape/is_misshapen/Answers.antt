@@ -1,0 +1,10 @@
+-- `rules::shape::is_misshapen` meets its contract, by the layer.
+use borrow.Author.Rules.{rules}
+use Rattle.rules.proofs.Tests.{misshapen_plain, misshapen_page}
+use Rattle.rules.proofs.shape.is_misshapen.Goals as goal
+
+pub returns-then-t-eq0 : goal.returns-then-t-eq0
+returns-then-t-eq0 c = search (rules, misshapen_plain)
+
+pub returns : goal.returns
+returns c = search (rules, misshapen_page)
