@@ -65,6 +65,7 @@ module _ (out : List ℕ) (c : Content) where
   nine r e (later f (later g (later h (here k)))) = lowest_first locutus_paragraphs (past_lent c) (ltb-true _ _ (lowest_any locutus_paragraphs (past_lent c) ∙ k))
   nine r e (later f (later g (later h (later k (here i))))) = absurd (omega arith)
   nine r e (later f (later g (later h (later k (later i (here j)))))) = absurd (omega arith)
+  nine r e (later f (later g (later h (later k (later i (later _ j)))))) = elim j [ ]
 
   pub answers : Answers out c
   unfolding writing_of written_of refusal_of

@@ -1,6 +1,6 @@
 -- No image of paragraphs, however many of Locutus are chosen, passes the limit (02, W-210). So the writer's 1 never comes back; its row
 -- stands as 01 has it.
-use Rattle.std.specs.Prelude.{ℕ, ◌*◌, ◌≤◌, ◌<◌, List, [], ◌∷◌, ◌≡◌, Bool, true, false, length, ltb}
+use Rattle.std.specs.Prelude.{ℕ, ◌*◌, ◌≤◌, List, [], ◌∷◌, ◌≡◌, Bool, false, length, ltb}
 use Rattle.std.proofs.Common.{arith, le-ltb, length-append}
 use Rattle.basics.specs.Lists.{joined, Each, none, also}
 use Rattle.basics.specs.Laws.Counts.{count_most}
