@@ -4,11 +4,7 @@ use mathlib.Core.Path.{refl, sym}
 use lib.ListN.{length-replicate}
 use Rattle.flash.specs.Flash.{erased_word}
 use Rattle.lending.specs.Lending.{flash_limit}
-use Rattle.lending.proofs.erased_flash.Statement.{statement}
-use Rattle.lending.proofs.erased_flash.Tie as tie
+use Rattle.lending.proofs.erased_flash.Goals as goal
 
-returns : tie.Need-returns
+pub returns : goal.returns
 returns c = (refl, sym (length-replicate {A = ℕ} flash_limit erased_word))
-
-pub erased-flash-spec : {M : Type 1} → statement M
-erased-flash-spec = tie.close (tie.spec returns)

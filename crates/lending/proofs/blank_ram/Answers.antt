@@ -3,11 +3,7 @@ use Prim.Native.Nat.{ℕ}
 use mathlib.Core.Path.{refl, sym}
 use lib.ListN.{length-replicate}
 use Rattle.places.specs.Limits.{lent_limit}
-use Rattle.lending.proofs.blank_ram.Statement.{statement}
-use Rattle.lending.proofs.blank_ram.Tie as tie
+use Rattle.lending.proofs.blank_ram.Goals as goal
 
-returns : tie.Need-returns
+pub returns : goal.returns
 returns c = (refl, sym (length-replicate {A = ℕ} lent_limit 0))
-
-pub blank-ram-spec : {M : Type 1} → statement M
-blank-ram-spec = tie.close (tie.spec returns)
