@@ -1,6 +1,6 @@
 -- One law for each return: what the code has tested and called, as the words that it leaves.
 use Prim.Native.Nat.{ℕ, ◌-◌, ◌+◌, ◌*◌, ◌/◌, ◌<◌, ◌≤◌}
-use mathlib.Core.Bool.{Bool, true, false, not, ◌&&◌, ◌||◌}
+use mathlib.Core.Bool.{Bool, true, false, not}
 use mathlib.Core.List.{List}
 use mathlib.Core.Path.{◌≡◌, refl, sym, ap, ◌∙◌}
 use native.Mathlib.Omega.{arith}
@@ -13,7 +13,7 @@ use Rattle.flash.specs.Registers.{remembered}
 use Rattle.jlp.specs.declared.Jlp.{Jlp}
 use Rattle.jlp.specs.declared.Results.{Results}
 use Rattle.jlp.specs.Arith.{results}
-use Rattle.jlp.specs.Window.{in_window, in_ram, is_operand, on_at, off_at, operands_start, operands_end}
+use Rattle.jlp.specs.Window.{in_window, in_ram, is_operand, on_at, off_at, operands_start}
 use Rattle.jlp.specs.Laws.Window.{between_low, between_high}
 use Rattle.jlp.specs.Accelerators.{operand_count, with_on, turns_on, turns_off, takes, latches, function_of, operated, crc_after, with_crc_and_saves, written_on, written_jlp}
 use Rattle.jlp.specs.Laws.Accelerators.{on_in_window, off_takes, on_takes}

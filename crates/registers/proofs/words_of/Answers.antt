@@ -1,0 +1,7 @@
+-- `registers::words_of` meets its contract: word by word.
+use Rattle.basics.specs.Tables.{made}
+use Rattle.registers.proofs.words_of.Goals as goal
+
+pub returns : goal.returns
+unfolding made
+returns c = rw c.one_if-on.ensures
