@@ -10,7 +10,7 @@ use Rattle.basics.specs.Laws.Lists.{take_min}
 use Rattle.basics.specs.Laws.Tables.{get_d_table, table_same}
 use Rattle.basics.specs.Laws.Counts.{any_same, all_same, count_same}
 use Rattle.basics.specs.Laws.Nth.{nth_same}
-use Rattle.places.specs.Limits.{line_limit, chapters, chapter_paragraphs, chapter_pages, paragraphs, layers, slots, cells}
+use Rattle.places.specs.Limits.{line_limit, chapters, chapter_paragraphs, chapter_pages, paragraphs, layers, slots}
 use Rattle.switches.specs.Flips.{first_k}
 use Rattle.lines.specs.declared.Line.{Line}
 use Rattle.lines.specs.Kinds.{kind_of}
