@@ -1,3 +1,2 @@
 // Plans: the kind of each paragraph and the pages of each chapter. Definitions and theorems; no code.
 #![tactic(auto)]
-
