@@ -1,8 +1,8 @@
 -- Sub-records behind a label's, and blocks behind an image's, never change an earlier answer.
-use Rattle.std.specs.Prelude.{ℕ, ◌≡◌, true, false, cond, length, eqb}
+use Rattle.std.specs.Prelude.{ℕ, ◌≡◌, true, false, length, eqb}
 use Rattle.std.proofs.Common.{sym, ◌∙◌, arith, eqb-true}
 use Rattle.std.proofs.Math.Path.{ap}
-use mathlib.Core.List.{List, [], ◌++◌}
+use mathlib.Core.List.{List, ◌++◌}
 use Rattle.std.proofs.lemmas.Bool.{eqb-false}
 use Rattle.basics.specs.declared.Refusal.{Refusal}
 use Rattle.basics.specs.Lists.{Each}

@@ -1,5 +1,5 @@
 -- What a lookup tells that found a text: nothing was refused, and the label has it, or the label has too few and the image has it.
-use Rattle.std.specs.Prelude.{ℕ, ◌≡◌, refl, List, true, eqb}
+use Rattle.std.specs.Prelude.{ℕ, ◌≡◌, refl, List}
 use Rattle.std.proofs.Common.{arith, eqb-true}
 use Rattle.basics.specs.declared.Refusal.{Refusal}
 use Rattle.basics.specs.Refusals.{passes}
@@ -8,7 +8,7 @@ use Rattle.metadata.specs.declared.Sought.{Sought}
 use Rattle.metadata.specs.declared.Sought.TheVariants.{Left, At}
 use Rattle.metadata.specs.Texts.{texts_of, seek_in}
 use Rattle.lookup.specs.declared.Found.{Found}
-use Rattle.lookup.specs.declared.Found.TheVariants.{Nothing, Label, Image, Refused}
+use Rattle.lookup.specs.declared.Found.TheVariants.{Label, Image, Refused}
 use Rattle.lookup.specs.Lookup.{image_texts, or_label, refusal_of, text_of, find_of}
 
 label_only : (a e : ℕ) (x y : Sought) → or_label x y ≡ Label a e → x ≡ At a e

@@ -1,6 +1,6 @@
 -- When a lookup is refused, and what it finds with an empty label.
 use Rattle.std.specs.Prelude.{ℕ, ◌≡◌, cond}
-use mathlib.Core.List.{List, [], ◌∷◌, ◌++◌}
+use mathlib.Core.List.{List, [], ◌∷◌}
 use Rattle.std.proofs.Common.{arith}
 use borrow.Author.Tests.{ne_eqb}
 use Rattle.basics.specs.declared.Refusal.{Refusal}

@@ -1,9 +1,9 @@
 -- The text of a lookup stands in the file that is named, at the place that is named, and is the n-th that the file's sub-records with the
 -- tag hold: of a label its own, of an image those of its metadata blocks in order.
-use Rattle.std.specs.Prelude.{ℕ, ◌+◌, ◌-◌, ◌≤◌, ◌≡◌, refl, List, [], ◌∷◌, ◌++◌, map, true, false, cond, ◌&&◌, length, take, drop, leb, eqb}
-use Rattle.std.proofs.Common.{sym, ap, ap₂, ◌∙◌, append_assoc, arith, length-drop, length-append, take-append-drop, length-take-le, le-leb}
+use Rattle.std.specs.Prelude.{ℕ, ◌+◌, ◌-◌, ◌≤◌, ◌≡◌, refl, List, [], ◌∷◌, ◌++◌, map, true, cond, ◌&&◌, length, take, drop, leb, eqb}
+use Rattle.std.proofs.Common.{sym, ap, ap₂, ◌∙◌, append_assoc, arith, take-append-drop, length-take-le, le-leb}
 use Rattle.std.specs.Borrow.{Bor}
-use Rattle.basics.specs.Lists.{part, joined, flat, Each, none, also}
+use Rattle.basics.specs.Lists.{part, flat, Each, none, also}
 use Rattle.basics.specs.Laws.Each.{each_append}
 use Rattle.basics.specs.Laws.Lists.{length_part}
 use Rattle.basics.specs.Laws.Stands.{stands_after, stands_part, stands_length}
