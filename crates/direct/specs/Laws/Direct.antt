@@ -1,5 +1,5 @@
 -- The short ways are the cartridge's own: what they hear and leave is what its reads and writes do, whatever else is lent.
-use Rattle.std.specs.Prelude.{ℕ, ◌/◌, ◌%◌, List, ◌≡◌, refl, Bool, true, false, not, ◌&&◌, ◌||◌, eqb}
+use Rattle.std.specs.Prelude.{ℕ, ◌/◌, ◌%◌, List, ◌≡◌, refl, Bool, true, false, not, ◌&&◌, eqb}
 use Rattle.std.proofs.Common.{sym, ap, subst, ◌∙◌, arith}
 use borrow.Author.Tests.{ne_eqb, eqb-false}
 use Rattle.basics.specs.Laws.Tests.{cases, and_left, and_right, and_false, or_false_left, or_false_right, true_is_not_false}
