@@ -1,3 +1,2 @@
 // The plan behind an image: definitions and theorems; no code.
 #![tactic(auto)]
-
