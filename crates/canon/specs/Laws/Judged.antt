@@ -76,7 +76,7 @@ tails : {l : Line} {ls es : List Line} → All (λ e. All (λ f. shares e f ≡ 
 tails nil = nil
 tails (cons (cons a bs) c) = cons bs (tails c)
 
-none_earlier : {es : List Line} (f : Entry) → All (λ e. shares e f ≡ false) es → shares_earlier es f ≡ false
+none_earlier : (f : Entry) {es : List Line} → All (λ e. shares e f ≡ false) es → shares_earlier es f ≡ false
 none_earlier f nil = refl
 none_earlier f (cons a bs) = rw a (none_earlier f bs)
 
