@@ -1,6 +1,6 @@
 -- Loading an image of a header, tables and blocks that refuse nothing gives its tables and counts and lays its hunks over the RAM: for any
 -- such blocks, a block of a type that is not looked into among them; and for the blocks of hunks, behind others.
-use Rattle.std.specs.Prelude.{ℕ, suc, ◌+◌, ◌*◌, ◌≤◌, ◌<◌, ◌^◌, ◌≡◌, Bool, true, not, ◌||◌}
+use Rattle.std.specs.Prelude.{ℕ, ◌+◌, ◌*◌, ◌≤◌, ◌<◌, ◌^◌, ◌≡◌, Bool, true, ◌||◌}
 use Rattle.std.proofs.Math.Path.{refl, ap}
 use Rattle.std.proofs.Common.{sym, ◌∙◌, inr, arith, eq-eqb, ne_eqb}
 use mathlib.Core.List.{List, [], ◌∷◌, ◌++◌, map}
@@ -8,18 +8,15 @@ use Rattle.std.proofs.Math.Bool.{false}
 use Rattle.std.proofs.Math.ListN.{length, length-append}
 use Rattle.std.proofs.lemmas.List.{length-map}
 use Rattle.std.proofs.Math.Dec.{eqb}
-use Rattle.basics.specs.Lists.{flat, Each, none as no_blocks, also as and_block}
+use Rattle.basics.specs.Lists.{Each, none as no_blocks, also as and_block}
 use Rattle.basics.specs.Rows.{Silent, none, also}
-use Rattle.basics.specs.Refusals.{no_refusal}
 use Rattle.basics.specs.Laws.Rows.{silent_append}
 use Rattle.basics.specs.Laws.Tests.{and_false}
 use Rattle.places.specs.Limits.{image_limit, lent, lent_limit, paragraph_size}
 use Rattle.sums.specs.Crc.{crc324_of}
-use Rattle.header.specs.Header.{header_of, flags_of, header_rows}
-use Rattle.header.specs.Flags.{compat_of}
+use Rattle.header.specs.Header.{header_of, flags_of}
 use Rattle.jlp.specs.declared.Jlp.{Jlp}
 use Rattle.header.specs.Laws.Header.{length_header, flags_back, header_silent}
-use Rattle.cart.specs.declared.Cartridge.{Cartridge}
 use Rattle.tables.specs.Tables.{Tables, tables_in, tables_payload, jlp_of, cartridge_of, cartridge_with, tables_rows}
 use Rattle.tables.specs.Laws.Tables.{length_tables, payload_tables}
 use Rattle.hunk.specs.declared.Checked.TheVariants.{Whole}
@@ -30,9 +27,8 @@ use Rattle.metadata.specs.Records.{is_cut}
 use Rattle.blocks.specs.Judged.{wrong_sum, wrong_metadata, wrong_tables, wrong_hunk, judge_rows}
 use Rattle.blocks.specs.Images.{first_block, image_of, blocks_in, judge_all, any_tables, payload_of_tables, hunks_in, overlay, word_count}
 use Rattle.blocks.specs.Laws.ReadBack as Made
-use Rattle.blocks.specs.Laws.Images.{blocks_back, image_ends, length_image}
-use Rattle.load.specs.declared.Loading.{Loading}
-use Rattle.load.specs.Load.{refusal_of, loads, loaded_of, loading_of, load_ram_of}
+use Rattle.blocks.specs.Laws.Images.{blocks_back, image_ends}
+use Rattle.load.specs.Load.{loading_of, load_ram_of}
 use Rattle.load.specs.Laws.Refusals.{Accepted, accepts}
 use Rattle.save.specs.Chosen.{tables_block, hunk_block, image_with, Sized}
 use Rattle.save.specs.Laws.Chosen.{Lies}

@@ -2,7 +2,7 @@
 use Rattle.std.specs.Prelude.{ℕ, zero, suc, ◌+◌, ◌*◌, ◌≤◌, ◌<◌, ◌≡◌, refl, List, [], ◌∷◌, ◌++◌, Bool, true, length, get_or}
 use Rattle.std.proofs.Common.{sym, ap, ap₂, ◌∙◌, append-nil, inl, arith, ext_get_or}
 use Rattle.basics.specs.Listed.{listed}
-use Rattle.basics.specs.Lists.{lay, Each, none as no_hunks, also as and_hunk}
+use Rattle.basics.specs.Lists.{lay, Each, also as and_hunk}
 use Rattle.basics.specs.Laws.Lay.{lay_in, lay_out, length_lay}
 use Rattle.basics.specs.Laws.Tests.{cases}
 use Rattle.places.specs.declared.Locutus.{Locutus}
@@ -28,7 +28,7 @@ rising_same none (none l) = none l
 rising_same {a} {b} (also {g = g} {h = h} {gs = gs} e n s) (also l r) =
     let f : g.address.0 ≡ h.address.0 = ap (λ (x : Locutus). x.0) e in
     let k : a ≤ g.address.0 = omega arith in
-    let q : Rising (g.address.0 + length g.words) gs b = rw (f, n) (rising_same s r) in
+    let q : Rising (g.address.0 + length g.words) gs b = rw (f, n) (rising_same {a = h.address.0 + length h.words} s r) in
     also k q
 
 -- the words before them are kept, and the first of them is not written over
@@ -48,7 +48,9 @@ module _ (h : Hunk) (hs : List Hunk) (b : ℕ) (r : Rising (h.address.0 + length
 pub told : {a b n : ℕ} (gs hs : List Hunk) → SamePlaces gs hs → Rising a hs b → Each (Lies n) hs → (ram : List ℕ) → n ≤ length ram → overlay gs ram ≡ overlay hs ram → gs ≡ hs
 unfolding overlay
 told [] [] none r w ram s o = refl
-told (g ∷ gs) (h ∷ hs) (also e n p) (also {b = b} l r) (and_hunk w ws) ram s o =
+told [] (h ∷ hs) p r w ram s o = elim p [ ]
+told (g ∷ gs) [] p r w ram s o = elim p [ ]
+told {a} (g ∷ gs) (h ∷ hs) (also e n p) (also {b = b} l r) (and_hunk w ws) ram s o =
     let f : g.address.0 ≡ h.address.0 = ap (λ (x : Locutus). x.0) e in
     let q : Rising (g.address.0 + length g.words) gs b = rw (f, n) (rising_same p r) in
     let k : h.address.0 + length h.words ≤ length ram = omega (arith, w.whole, w.within) in
@@ -60,7 +62,7 @@ told (g ∷ gs) (h ∷ hs) (also e n p) (also {b = b} l r) (and_hunk w ws) ram s
     let y : g ≡ h = ap₂ hunk e x in
     let m : List ℕ = lay h.address.0 h.words ram in
     let z : overlay gs m ≡ overlay hs m = sym (ap (λ (u : Hunk). overlay gs (lay u.address.0 u.words ram)) y) ∙ o in
-    ap₂ ◌∷◌ y (told gs hs p r ws m (omega (arith, length_lay h.address.0 h.words ram)) z)
+    ap₂ ◌∷◌ y (told {a = h.address.0 + length h.words} gs hs p r ws m (omega (arith, length_lay h.address.0 h.words ram)) z)
 
 -- the chosen paragraphs
 rising_up : {a b c : ℕ} {hs : List Hunk} → Rising a hs b → b ≤ c → Rising a hs c

@@ -1,9 +1,9 @@
 -- The round trip: whatever the writer accepts, loaded into any RAM of the same length, with a flash that 13 lets through, gives the same
 -- tables and the marked words, and every other word is kept (01, demand 2; 02, W-209).
-use Rattle.std.specs.Prelude.{ℕ, ◌+◌, ◌*◌, ◌/◌, ◌%◌, ◌≤◌, min, ◌≡◌, refl, Bool, false, length, get_or, take, drop}
+use Rattle.std.specs.Prelude.{ℕ, ◌+◌, ◌*◌, ◌/◌, ◌%◌, ◌≤◌, min, ◌≡◌, Bool, false, length, get_or, take, drop}
 use Rattle.std.proofs.Common.{sym, subst, ◌∙◌}
 use Rattle.std.proofs.Math.Path.{ap}
-use mathlib.Core.List.{List, [], ◌++◌}
+use mathlib.Core.List.{List, []}
 use native.Mathlib.Omega.{arith}
 use Rattle.std.proofs.Math.Seq.{take-append_seam}
 use Rattle.basics.specs.Counts.{count}

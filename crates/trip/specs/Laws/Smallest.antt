@@ -116,6 +116,7 @@ record Behind (xs zs ys : List (List ℕ)) : Type 0 where
 
 peeled : {m : ℕ} (xs zs ys : List (List ℕ)) → Each (Other m) xs → SameBlocks (xs ++ zs) ys → Behind xs zs ys
 peeled [] zs ys no_blocks s = record { rest = ys; is = refl; alike = s }
+peeled (x ∷ xs) zs [] _ s = elim s [ ]
 peeled (x ∷ xs) zs (y ∷ ys) (and_block o os) (same s) =
     let b : Behind xs zs ys = peeled xs zs ys os s in
     record { rest = b.rest; is = ap (◌∷◌ x) b.is; alike = b.alike }
@@ -179,6 +180,7 @@ module _ (flags uid : List ℕ) (t : Tables) (others : List (List ℕ)) (hs : Li
         (each_behind others p.rest (rw p.is at k)) (each_behind others p.rest (rw p.is at o))
 
     at_tables : (bs : List (List ℕ)) → blocks_in other ≡ bs → SameBlocks (tables_block t ∷ others ++ map hunk_block hs) bs → Each Filled bs → Each Block bs → Each Bytes bs → length image ≤ length other
+    at_tables [] e s f k o = elim s [ ]
     at_tables (y ∷ ys) e (same s) (and_block f fs) (and_block k ks) (and_block o os) = at_others ys e (peeled others (map hunk_block hs) ys ot s) fs ks os
     at_tables (y ∷ ys) e (coded c s) f k o =
         let n : is_hunk (tables_block t) ≡ false = rw (Made.type_back tables_type (crc324_of (tables_payload t)) (tables_payload t)) in
