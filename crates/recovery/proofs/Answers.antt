@@ -2,7 +2,7 @@
 use Prim.Native.Nat.{ℕ, ◌+◌, ◌-◌, ◌*◌, ◌<◌, ◌≤◌}
 use mathlib.Core.Path.{◌≡◌, refl, sym, ap, ◌∙◌}
 use mathlib.Core.List.{List, [], ◌∷◌, ◌++◌, append_assoc, append-nil}
-use mathlib.Core.Bool.{Bool, true, false, cond}
+use mathlib.Core.Bool.{Bool}
 use native.Mathlib.Omega.{arith}
 use borrow.Author.Tests.{lt-ltb, le-ltb, eq-eqb, ne_eqb, eqb-true, eqb-false, ltb-true}
 use borrow.Rule.Slice.PartMut.{put_mid}
@@ -11,7 +11,6 @@ use lib.Seq.{length-take-le, set_out}
 use lib.Dec.{ltb}
 use Rattle.basics.specs.declared.Refusal.{Refusal}
 use Rattle.basics.specs.Lists.{part, flat, put_front}
-use Rattle.basics.specs.Rows.{Silent}
 use Rattle.basics.specs.Refusals.{refuse, no_refusal, first_refusal, passes}
 use Rattle.basics.specs.Laws.Tests.{cases}
 use Rattle.basics.specs.Laws.Refusals.{refused_front, silent_behind}
@@ -26,7 +25,7 @@ use Rattle.recovery.specs.declared.Found.{Found}
 use Rattle.recovery.specs.declared.Verdict.{Verdict}
 use Rattle.recovery.specs.declared.Verdict.TheVariants.{Refused, Goes}
 use Rattle.recovery.specs.declared.Salvaging.{Salvaging}
-use Rattle.recovery.specs.Salvage.{kept_in, closing, closed, salvage_of, blocks_rows, image_refusal, refusal_of, refused, fitted, salvaging_of, written_of}
+use Rattle.recovery.specs.Salvage.{kept_in, closing, salvage_of, blocks_rows, image_refusal, refusal_of, refused, fitted, salvaging_of, written_of}
 use Rattle.recovery.specs.Card.{answer_of, answered_of}
 use Rattle.recovery.specs.Laws.Closed.{closed_is, length_closed}
 use Rattle.recovery.specs.Laws.Salvage.{salvage_is}
@@ -208,7 +207,7 @@ module _ (out s : List ℕ) (h : Refusal) (eh : h ≡ header_refusal s) where
 
       pub went-written : (found : Found) → v ≡ Goes found → (after : List ℕ) → after ≡ put_front (salvage_of s) out → after ≡ written_of out s
       unfolding written_of
-      went-written found e after ea = ea ∙ fitted-by out s (went found e).0
+      went-written found e left ea = ea ∙ fitted-by out s (went found e).0
 
 -- ---- the program's
 

@@ -1,8 +1,8 @@
 -- One law for each return of the functions on one block, and of the salvage.
 use Prim.Native.Nat.{ℕ, ◌+◌, ◌-◌, ◌^◌, ◌<◌, ◌≤◌, min}
-use mathlib.Core.Path.{◌≡◌, refl, sym, ap, ◌∙◌}
+use mathlib.Core.Path.{◌≡◌, sym, ap, ◌∙◌}
 use mathlib.Core.List.{List}
-use mathlib.Core.Bool.{Bool, true, false, cond, not}
+use mathlib.Core.Bool.{Bool, true, false, not}
 use native.Mathlib.Omega.{arith}
 use borrow.Author.Tests.{eq-eqb, ne_eqb}
 use lib.ListN.{length, get_or}
@@ -11,7 +11,7 @@ use mir.Val.{Fits}
 use mir.Syntax.{w64}
 use Rattle.basics.specs.declared.Refusal.{Refusal}
 use Rattle.basics.specs.Lists.{part}
-use Rattle.basics.specs.Refusals.{refuse, no_refusal, passes}
+use Rattle.basics.specs.Refusals.{refuse, passes}
 use Rattle.basics.specs.Laws.Lists.{length_part}
 use Rattle.basics.specs.Laws.Tests.{not-true, not-false}
 use Rattle.basics.specs.Laws.Octets.{Bytes}

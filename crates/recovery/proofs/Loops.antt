@@ -1,7 +1,7 @@
 -- The passes: each says what it did of the blocks before the place where it stands.
 use Prim.Native.Nat.{ℕ, ◌+◌, ◌-◌, ◌*◌, ◌^◌, ◌<◌, ◌≤◌}
 use mathlib.Core.Path.{◌≡◌, refl, sym, ap, ◌∙◌}
-use mathlib.Core.List.{List, [], ◌∷◌, ◌++◌, append-nil}
+use mathlib.Core.List.{List, [], ◌∷◌, ◌++◌}
 use mathlib.Core.Bool.{Bool, true, false, cond, not, ◌&&◌, ◌||◌}
 use native.Mathlib.Omega.{arith}
 use borrow.Author.Tests.{eq-eqb, ne_eqb, eqb-true, eqb-false, ltb-true, ltb-false}
@@ -13,7 +13,7 @@ use mir.Val.{Fits}
 use mir.Syntax.{w64}
 use Rattle.basics.specs.declared.Refusal.{Refusal}
 use Rattle.basics.specs.Lists.{part, joined, flat, put_front}
-use Rattle.basics.specs.Rows.{Row, Gives, Silent, none, also}
+use Rattle.basics.specs.Rows.{Gives, Silent, none}
 use Rattle.basics.specs.Refusals.{refuse, no_refusal, first_refusal, passes}
 use Rattle.basics.specs.Laws.Each.{joined_append, joined_more}
 use Rattle.basics.specs.Laws.Lists.{length_part}
@@ -28,9 +28,8 @@ use Rattle.header.specs.Header.{flags_of}
 use Rattle.blocks.specs.declared.Frame.{Frame}
 use Rattle.blocks.specs.declared.Frame.TheVariants.{Over, Cut, Framed}
 use Rattle.blocks.specs.declared.Judged.{Judged}
-use Rattle.blocks.specs.Blocks.{type_of, size_said, payload_in, is_tables, is_hunk}
+use Rattle.blocks.specs.Blocks.{type_of, size_said, payload_in, is_tables}
 use Rattle.blocks.specs.Frames.{frame_at, on_frame}
-use Rattle.blocks.specs.Judged.{wrong_tables, judge_rows}
 use Rattle.blocks.specs.Images.{blocks_in, any_tables, payload_of_tables}
 use Rattle.blocks.specs.Laws.Frames.{framed_type}
 use Rattle.blocks.specs.Laws.Judged.{judge_refuses, Passed, passed}

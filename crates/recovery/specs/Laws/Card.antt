@@ -1,10 +1,10 @@
 -- The program's salvage: refused exactly when a row says so; its buffer of a byte more than the card takes, and its array of a place for each
 -- eight bytes, are never too short.
-use Rattle.std.specs.Prelude.{ℕ, ◌+◌, ◌*◌, ◌≤◌, ◌≡◌, List, ◌∷◌, true, false, ◌↔◌, length, ltb}
+use Rattle.std.specs.Prelude.{ℕ, ◌+◌, ◌*◌, ◌≤◌, ◌≡◌, List, ◌↔◌, length, ltb}
 use Rattle.std.proofs.Common.{arith}
 use Rattle.basics.specs.declared.Refusal.{Refusal}
 use Rattle.basics.specs.Rows.{Gives}
-use Rattle.basics.specs.Refusals.{refuse, first_refusal}
+use Rattle.basics.specs.Refusals.{first_refusal}
 use Rattle.basics.specs.Laws.Tests.{cases}
 use Rattle.basics.specs.Laws.Refusals.{Refusing, refused_exactly as exactly-refused}
 use Rattle.places.specs.Limits.{card_limit}

@@ -1,5 +1,5 @@
 -- A header of 32 bytes, whatever stands behind it; and that header, blocks, and the end that closes them: read back, within the limit.
-use Rattle.std.specs.Prelude.{ℕ, ◌+◌, ◌<◌, ◌≤◌, ◌≡◌, List, [], ◌∷◌, ◌++◌, Bool, true, false, cond, ◌||◌, get_or, take, drop, ltb}
+use Rattle.std.specs.Prelude.{ℕ, ◌+◌, ◌<◌, ◌≤◌, ◌≡◌, List, ◌++◌, true, false, get_or, take, drop, ltb}
 use Rattle.std.proofs.Math.Path.{refl}
 use Rattle.std.proofs.Common.{sym, ap, ◌∙◌, arith, le-ltb, ltb-true, length-drop, take_at}
 use Rattle.std.proofs.Math.ListN.{length, get_or-append}
@@ -10,7 +10,7 @@ use Rattle.basics.specs.Rows.{Silent, none, also}
 use Rattle.basics.specs.Laws.Tests.{cases}
 use Rattle.places.specs.Limits.{image_limit}
 use Rattle.header.specs.Header.{header_size, flags_of, wrong_length, wrong_magic, wrong_version, wrong_header_sum, header_rows}
-use Rattle.blocks.specs.Blocks.{end_mark, Block}
+use Rattle.blocks.specs.Blocks.{Block}
 use Rattle.blocks.specs.Frames.{ends_at}
 use Rattle.blocks.specs.Images.{image_of, blocks_in, is_cut}
 use Rattle.blocks.specs.Laws.Images.{blocks_back, image_ends, length_image}

@@ -1,12 +1,12 @@
 -- Blocks that are kept: the tables are among them and they refuse nothing to a load; blocks that refuse nothing to a load are all kept; and
 -- each block is kept or left out.
-use Rattle.std.specs.Prelude.{ℕ, ◌+◌, ◌*◌, ◌≤◌, ◌≡◌, refl, List, [], ◌∷◌, ◌++◌, Bool, true, cond, not, ◌&&◌, ◌||◌, length, eqb}
+use Rattle.std.specs.Prelude.{ℕ, ◌+◌, ◌*◌, ◌≤◌, ◌≡◌, refl, List, [], ◌∷◌, ◌++◌, Bool, true, cond, not, ◌||◌, length, eqb}
 use Rattle.std.proofs.Math.Path.{sym, ap}
 use Rattle.std.proofs.Common.{◌∙◌, append_assoc, append-nil, arith, eqb-true, ne_eqb, length-append}
 use Rattle.std.proofs.Math.Bool.{false}
 use Rattle.basics.specs.declared.Refusal.{Refusal}
 use Rattle.basics.specs.Lists.{flat, joined, Each, none as no_blocks, also as and_block}
-use Rattle.basics.specs.Rows.{Row, Silent, none, also}
+use Rattle.basics.specs.Rows.{Row, Silent, none}
 use Rattle.basics.specs.Refusals.{refuse, no_refusal, first_refusal, passes}
 use Rattle.basics.specs.Laws.Tests.{cases, and_left, or_assoc, or_none, true_is_not_false}
 use Rattle.basics.specs.Laws.Rows.{silent_first, silent_append, silent_left, silent_right}
@@ -16,7 +16,7 @@ use Rattle.blocks.specs.declared.Judged.{Judged}
 use Rattle.blocks.specs.Blocks.{type_of, payload_in, is_tables, is_hunk, Block}
 use Rattle.blocks.specs.Judged.{is_encrypted, wrong_sum, wrong_metadata, wrong_tables, wrong_hunk, break_in, judge_rows, judged_of}
 use Rattle.blocks.specs.Images.{judge_all, any_tables, payload_of_tables}
-use Rattle.blocks.specs.Laws.Judged.{standing, judged_standing, Passed, passed}
+use Rattle.blocks.specs.Laws.Judged.{standing, judged_standing, passed}
 use Rattle.recovery.specs.Salvage.{number_for, left_out, kept, drops_from, block_rows, kept_rows}
 
 -- ---- the number that a block is refused with, at any place

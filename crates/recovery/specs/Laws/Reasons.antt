@@ -1,6 +1,6 @@
 -- The refusals of a salvage in 02's words: 1 to 4; of a block 7, 6 where it is the tables, 12 and 8; no tables block before the stop; what a load
 -- refuses of flags and tables; a buffer that is too short. No block refuses by 9, and none by 6 that is a hunk: it is left out.
-use Rattle.std.specs.Prelude.{ℕ, ◌+◌, ◌<◌, ◌≡◌, refl, List, [], ◌∷◌, ◌++◌, Bool, not, ◌&&◌, ◌||◌, ◌⊎◌, length, eqb, ltb}
+use Rattle.std.specs.Prelude.{ℕ, ◌+◌, ◌<◌, ◌≡◌, refl, List, [], ◌∷◌, ◌++◌, Bool, not, ◌||◌, ◌⊎◌, length, eqb, ltb}
 use Rattle.std.proofs.Common.{sym, ap, ◌∙◌, inl, inr, arith, ltb-true, length-append}
 use Rattle.std.proofs.Math.Bool.{true, false}
 use Rattle.std.proofs.lemmas.Bool.{eqb-false}
@@ -16,7 +16,7 @@ use Rattle.header.specs.Header.{header_rows, flags_of}
 use Rattle.tables.specs.Tables.{flash_words}
 use Rattle.hunk.specs.Hunk.{check_hunk, broken}
 use Rattle.blocks.specs.Blocks.{sum_said, payload_in, is_tables, is_hunk}
-use Rattle.blocks.specs.Judged.{is_encrypted, wrong_sum, wrong_metadata, wrong_tables, judge_rows, judged_of}
+use Rattle.blocks.specs.Judged.{is_encrypted, wrong_metadata, wrong_tables, judge_rows, judged_of}
 use Rattle.blocks.specs.Images.{first_block, blocks_in, any_tables}
 use Rattle.recovery.specs.Salvage.{left_out, salvage_of, block_rows, kept_rows, end_rows, blocks_rows, image_rows, refusal_rows, salvaging_of}
 use Rattle.recovery.specs.Laws.Kept.{hunk_out}
@@ -59,6 +59,7 @@ module _ (e : Bool) (p : ℕ) (x : List ℕ) (d : left_out x ≡ false) where
   by_row (later a (later b (here m))) k = metadata m
   by_row (later a (later b (later m (here c)))) k = tables c
   by_row (later a (later b (later m (later c (here w))))) k = absurd (k (λ z. omega arith) (and_left (is_hunk x) (broken (check_hunk (payload_in x) lent_limit)) w))
+  by_row (later a (later b (later m (later c (later _ g))))) k = elim g [ ]
 
 block_by : {r : Refusal} (e : Bool) (p : ℕ) (x : List ℕ) → Gives (block_rows e p x) r → BlockRefuses e p x r
 block_by {r} e p x g = cases (left_out x) (λ d. out (rw d at g)) (λ d. let k = rw d at g in by_row e p x d k (no_hunk e p x d k))
@@ -77,6 +78,7 @@ record InBlock (e : Bool) (p : ℕ) (xs : List (List ℕ)) (r : Refusal) : Type 
 
 in_block : {r : Refusal} (e : Bool) (p : ℕ) (xs : List (List ℕ)) → Gives (kept_rows e p xs) r → InBlock e p xs r
 unfolding kept_rows any_tables joined
+in_block e p [] g = elim g [ ]
 in_block {r} e p (x ∷ xs) g = go (λ h. in_block (e || is_tables x) (p + length x) xs h) (gives_cases (block_rows e p x) _ g)
   where
     go : (Gives (kept_rows (e || is_tables x) (p + length x) xs) r → InBlock (e || is_tables x) (p + length x) xs r)
@@ -104,6 +106,7 @@ module _ (out s : List ℕ) where
 
       by_length : {q : Refusal} → Gives ((ltb (length out) (length (salvage_of s)), refuse 29 0) ∷ []) q → Refuses out s q
       by_length (here l) = short (ltb-true _ _ l)
+      by_length (later _ g) = elim g [ ]
 
       in_blocks : (Gives (kept_rows false first_block (blocks_in s)) r) ⊎ ((Silent (kept_rows false first_block (blocks_in s))) × (Gives ((not (any_tables (blocks_in s)), refuse 8 (length s)) ∷ end_rows lent_limit (flash_words (flags_of s)) (flags_of s) (blocks_in s)) r)) → Refuses out s r
       in_blocks (inl k) = by_block (in_block false first_block (blocks_in s) k)

@@ -1,6 +1,6 @@
 -- Salvage: what it writes loads into a RAM of 524,288 words and stores what the kept hunks say; an image that such a RAM accepts loads the
 -- same before and after; what salvage wrote is salvaged as it is; and each block before the stop is kept or left out (02, W-208).
-use Rattle.std.specs.Prelude.{ℕ, ◌+◌, ◌*◌, ◌≤◌, ◌≡◌, refl, List, [], ◌∷◌, ◌++◌, Bool, true, length, take, drop}
+use Rattle.std.specs.Prelude.{ℕ, ◌+◌, ◌*◌, ◌≤◌, ◌≡◌, refl, List, [], ◌∷◌, ◌++◌, true, length, take, drop}
 use Rattle.std.proofs.Common.{sym, ap, ap₂, ◌∙◌, take-append-drop, length-take-le}
 use Rattle.std.proofs.Math.Bool.{false, not}
 use native.Mathlib.Omega.{arith}
@@ -23,8 +23,8 @@ use Rattle.blocks.specs.Laws.Images.{reading}
 use Rattle.load.specs.Load.{walk_rows, refusal_of, loaded_of, loading_of, load_ram_of}
 use Rattle.load.specs.Laws.Refusals.{Accepted, accepted, accepts}
 use Rattle.recovery.specs.declared.Stopped.TheVariants.{Nowhere}
-use Rattle.recovery.specs.Salvage.{kept, drops_from, kept_in, drops_in, stopped_of, closed, salvage_of, kept_rows, end_rows, blocks_rows, image_rows}
-use Rattle.recovery.specs.Laws.Kept.{Keeps, keeps, kept_each, kept_silent, AllKept, all_kept, kept_dropped, drops_few}
+use Rattle.recovery.specs.Salvage.{kept, kept_in, drops_in, stopped_of, closed, salvage_of, kept_rows, end_rows, blocks_rows, image_rows}
+use Rattle.recovery.specs.Laws.Kept.{keeps, kept_each, kept_silent, AllKept, all_kept, kept_dropped, drops_few}
 use Rattle.recovery.specs.Laws.Closed.{flags_are, header_other, closing_one, closed_is, length_closed, closed_header, closed_length, closed_blocks, closed_whole}
 
 pub salvage_is : (s : List ℕ) → salvage_of s ≡ closed (take header_size s) (kept_in s)

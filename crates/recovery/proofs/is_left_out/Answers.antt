@@ -1,0 +1,10 @@
+-- `recovery::is_left_out` meets its contract: by the type, and by the judgement.
+use Rattle.recovery.proofs.Laws.{out_other, out_hunk}
+use borrow.Author.Rules.{rules}
+use Rattle.recovery.proofs.is_left_out.Goals as goal
+
+pub returns-then-byte_at-ne-HUNK_TYPE : goal.returns-then-byte_at-ne-HUNK_TYPE
+returns-then-byte_at-ne-HUNK_TYPE c = search (rules, out_other)
+
+pub returns : goal.returns
+returns c = search (rules, out_hunk)

@@ -1,0 +1,31 @@
+-- `recovery::step_at` meets its contract: one law for each way out.
+use Rattle.recovery.proofs.Laws.{steps, place_fits, frame_later, frame_inside}
+use borrow.Author.Rules.{rules}
+use Rattle.recovery.proofs.step_at.Goals as goal
+
+pub slice_bounds-judge-count : goal.slice_bounds-judge-count
+slice_bounds-judge-count c = search (rules, frame_later)
+
+pub slice_bounds-judge-start : goal.slice_bounds-judge-start
+slice_bounds-judge-start c = search (rules, frame_later)
+
+pub slice_bounds-judge-end : goal.slice_bounds-judge-end
+slice_bounds-judge-end c = search (rules, frame_inside)
+
+pub returns-then-r-eq0 : goal.returns-then-r-eq0
+returns-then-r-eq0 c = search (rules, steps)
+
+pub returns-then-t-eq-HUNK_TYPE : goal.returns-then-t-eq-HUNK_TYPE
+returns-then-t-eq-HUNK_TYPE c = search (rules, steps)
+
+pub overflow_add-p : goal.overflow_add-p
+overflow_add-p c = search (rules, place_fits)
+
+pub returns-in-Over : goal.returns-in-Over
+returns-in-Over c = search (rules, steps)
+
+pub returns-in-Cut : goal.returns-in-Cut
+returns-in-Cut c = search (rules, steps)
+
+pub returns-else-t-eq-HUNK_TYPE : goal.returns-else-t-eq-HUNK_TYPE
+returns-else-t-eq-HUNK_TYPE c = search (rules, steps)
