@@ -1,6 +1,6 @@
 -- The canonical lines, gathered place by place.
-use Prim.Native.Nat.{◌*◌, ◌+◌, ◌<◌, ◌≤◌, suc, zero, ℕ}
-use mathlib.Core.Path.{◌∙◌, ◌≡◌, ap, ap₂, refl, sym}
+use Prim.Native.Nat.{◌+◌, ◌<◌, ◌≤◌, suc, zero, ℕ}
+use mathlib.Core.Path.{◌∙◌, ◌≡◌, ap, ap₂, sym}
 use mathlib.Core.List.{List, [], ◌++◌, ◌∷◌, append_assoc, append-nil}
 use mathlib.Core.Bool.{Bool, cond, false, true}
 use native.Mathlib.Omega.{arith}
@@ -18,7 +18,7 @@ use Rattle.canon.specs.Canonical.{mapping_entries, page_entry, ram_entry, rom_en
 use Rattle.canon.specs.Laws.Lines.{canonical_lines, line, memattr_line, page_line, ram_line, rom_line}
 use Rattle.basics.specs.Laws.Listed.{length_listed}
 use Rattle.basics.specs.Listed.{listed}
-use Rattle.ledger.specs.Code.Lists.{added, list_of, listing_of, mapping_lines, most_mapping, rom_lines, shown}
+use Rattle.ledger.specs.Code.Lists.{added, list_of, listing_of, mapping_lines, most_mapping, rom_lines}
 use Rattle.ledger.specs.Held.{plan_in}
 use Rattle.ledger.specs.Laws.Held.{page_in_lem}
 use Rattle.ledger.specs.Laws.Lists.{added_list}

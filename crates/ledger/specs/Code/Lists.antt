@@ -1,5 +1,5 @@
 -- Lines in an array, and the canonical lines so far.
-use Rattle.std.specs.Prelude.{◌+◌, ℕ, List, [], ◌++◌, ◌∷◌, get_or, length, set}
+use Rattle.std.specs.Prelude.{◌+◌, ℕ, List, ◌++◌, get_or, length, set}
 use Rattle.basics.specs.Tables.{table}
 use Rattle.places.specs.Limits.{flip_entries, line_limit, paragraphs}
 use Rattle.places.specs.Places.{bin_word, console}

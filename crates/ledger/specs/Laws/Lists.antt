@@ -1,5 +1,5 @@
 -- Lines in an array: none, and one more.
-use Rattle.std.specs.Prelude.{◌+◌, ◌<◌, ◌≤◌, ℕ, ◌≡◌, refl, List, [], ◌++◌, ◌∷◌, ◌⊎◌, get_or, length, replicate, set}
+use Rattle.std.specs.Prelude.{◌<◌, ◌≤◌, ℕ, ◌≡◌, List, [], ◌++◌, ◌∷◌, ◌⊎◌, get_or, length, replicate, set}
 use Rattle.std.proofs.Common.{◌∙◌, ap, sym, inl, inr, arith, length-append, length-set, get_or-set_other, get_or-set_same}
 use Rattle.std.proofs.Math.ListN.{get_or-append, get_or-eq_default}
 use Rattle.std.proofs.lemmas.List.{get_or-replicate, length-replicate}

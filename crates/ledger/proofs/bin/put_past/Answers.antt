@@ -1,0 +1,19 @@
+-- `ledger::bin::put_past` meets its contract. The loop's invariant: the first i words are written.
+use borrow.Author.Rules.{rules}
+use Rattle.ledger.proofs.Bins.{from_more, from_none, words_all, words_same, words_second}
+use Rattle.ledger.proofs.bin.put_past.Goals as goal
+
+pub loop-i-init : goal.loop-i-init
+loop-i-init c = search (rules, from_none)
+
+pub bounds-out-i-in-loop-i : goal.bounds-out-i-in-loop-i
+bounds-out-i-in-loop-i c = search (rules, words_second)
+
+pub loop-i-preserved : goal.loop-i-preserved
+loop-i-preserved c = search (rules, from_more)
+
+pub shape_of-out : goal.shape_of-out
+shape_of-out c = search (rules, words_same)
+
+pub returns : goal.returns
+returns c = search (rules, words_all)
