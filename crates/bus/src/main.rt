@@ -3,28 +3,30 @@
 // refuses; or `result=stopped` with the file and the reason.
 #![tactic(auto)]
 
-ghost use Rattle.std.specs.Prelude.{◌≡◌, ◌≤◌, length};
+ghost use Rattle.std.specs.Prelude.{◌≡◌, ◌≤◌, vec_len, IfOk};
 
 use basics::Refusal;
 use cart::Cartridge;
-use libc::EINVAL;
+use std::alloc::{AllocError, Global};
+use std::env::FillError;
+use std::rt::Env;
 
 // The most bytes of a list.
 const LIST_LIMIT: usize = 4194304;
 
 // Room for one byte more than a list may have, so that a longer one is seen to be longer. The image stands in it first: once it is loaded it is not
 // asked again.
-fn file_room() -> [u8; 4194305]
-    ensures { 4194305 ≡ length result }
+fn file_room(alloc: Global) -> Result<Vec<u8>, AllocError>
+    ensures { IfOk result (λ v. 4194305 ≡ vec_len v) }
 {
-    [0; 4194305]
+    vec![in alloc; 0; 4194305]
 }
 
 // Room for the answers of any list: a read takes 15 bytes with the end of its line.
-fn answer_room() -> [u32; 279620]
-    ensures { 279620 ≡ length result }
+fn answer_room(alloc: Global) -> Result<Vec<u32>, AllocError>
+    ensures { IfOk result (λ v. 279620 ≡ vec_len v) }
 {
-    [0; 279620]
+    vec![in alloc; 0; 279620]
 }
 
 // A limit that is given, or that what is given is none.
@@ -66,26 +68,22 @@ fn limit_of(text: &[u8]) -> Limit {
 }
 
 // The third argument; where there is none, as many lines as no list has more.
-fn given_limit() -> Limit {
+fn given_limit(rt: &HostRuntime) -> Limit {
     let mut text = [0u8; 32];
-    let k = os::arg(3, &mut text);
-    let error = os::errno();
-    if error == EINVAL {
-        return Limit::Is(LIST_LIMIT);
+    match rt.arg(3, &mut text) {
+        Ok(k) => limit_of(&text[..k]),
+        Err(FillError::NotPresent) => Limit::Is(LIST_LIMIT),
+        Err(FillError::TooLong) => Limit::Not,
     }
-    if error != 0 {
-        return Limit::Not;
-    }
-    limit_of(&text[..k])
 }
 
-fn refused(r: Refusal) {
-    files::refused(r.number as u64, r.place as u64);
+fn refused(rt: &HostRuntime, r: Refusal) {
+    files::refused(rt, r.number as u64, r.place as u64);
 }
 
-fn show_answer(n: u32) {
+fn show_answer(rt: &HostRuntime, n: u32) {
     if n == cart::SILENCE {
-        files::say(b"word=silence\n");
+        files::say(rt, b"word=silence\n");
         return;
     }
     let line = [
@@ -100,25 +98,32 @@ fn show_answer(n: u32) {
         text::upper_digit(n),
         b'\n',
     ];
-    files::say(&line);
+    files::say(rt, &line);
 }
 
-fn show(answers: &[u32], lines: u64) {
+fn show(rt: &HostRuntime, answers: &[u32], lines: u64) {
     let mut i = 0;
     while i < answers.len() {
-        show_answer(answers[i]);
+        show_answer(rt, answers[i]);
         i += 1;
     }
-    files::line(b"lines=", lines);
+    files::line(rt, b"lines=", lines);
 }
 
 // Runs the list on the cartridge as it is loaded.
-fn run(list: &[u8], limit: usize, c: Cartridge, ram: &mut [u16], flash: &mut [u16]) {
-    let mut out = answer_room();
-    let ran = accesses::run(list, limit, c, ram, flash, &mut out);
+fn run(
+    rt: &HostRuntime,
+    list: &[u8],
+    limit: usize,
+    c: Cartridge,
+    ram: &mut [u16],
+    flash: &mut [u16],
+    out: &mut [u32],
+) {
+    let ran = accesses::run(list, limit, c, ram, flash, out);
     let r = ran.refusal;
     if r.number != 0 {
-        refused(r);
+        refused(rt, r);
         return;
     }
     let n = ran.length;
@@ -126,50 +131,59 @@ fn run(list: &[u8], limit: usize, c: Cartridge, ram: &mut [u16], flash: &mut [u1
     if out.len() < n {
         return;
     }
-    show(&out[..n], ran.lines as u64);
+    show(rt, &out[..n], ran.lines as u64);
 }
 
 // Reads the list and the limit, and runs it.
-fn run_file(file: &mut [u8], c: Cartridge, ram: &mut [u16], flash: &mut [u16]) {
-    let t = files::read_argument(2, file);
+fn run_file(
+    rt: &HostRuntime,
+    file: &mut [u8],
+    c: Cartridge,
+    ram: &mut [u16],
+    flash: &mut [u16],
+    out: &mut [u32],
+) {
+    let t = files::read_argument(rt, 2, file);
     let n = t.n;
     if files::stops(t.stop) {
-        files::stopped(b"LIST", t.stop);
+        files::stopped(rt, b"LIST", t.stop);
         return;
     }
     if LIST_LIMIT < n {
-        files::say(b"result=stopped\nfile=LIST\nwhy=long\nerror=0\n");
+        files::say(rt, b"result=stopped\nfile=LIST\nwhy=long\nerror=0\n");
         return;
     }
-    let Limit::Is(most) = given_limit() else {
-        files::say(b"result=stopped\nfile=LIMIT\nwhy=number\nerror=0\n");
+    let Limit::Is(most) = given_limit(rt) else {
+        files::say(rt, b"result=stopped\nfile=LIMIT\nwhy=number\nerror=0\n");
         return;
     };
-    run(&file[..n], most, c, ram, flash);
+    run(rt, &file[..n], most, c, ram, flash, out);
 }
 
 // Loads the image, with the flash that it asks for, and runs the list on it.
-fn play(file: &mut [u8], ram: &mut [u16], flash: &mut [u16]) {
-    let t = files::read_argument(1, file);
+fn play(rt: &HostRuntime, file: &mut [u8], ram: &mut [u16], flash: &mut [u16], out: &mut [u32]) {
+    let t = files::read_argument(rt, 1, file);
     let n = t.n;
     if files::stops(t.stop) {
-        files::stopped(b"IMAGE", t.stop);
+        files::stopped(rt, b"IMAGE", t.stop);
         return;
     }
     let f = lending::flash_words(&file[..n], flash.len());
     let loading = load::load(&file[..n], ram, &flash[..f]);
     let r = loading.refusal;
     if r.number != 0 {
-        refused(r);
+        refused(rt, r);
         return;
     }
     let c = loading.cartridge;
-    run_file(file, c, ram, &mut flash[..f]);
+    run_file(rt, file, c, ram, &mut flash[..f], out);
 }
 
-fn main() {
-    let mut file = file_room();
+fn main(rt: HostRuntime) -> Result<(), AllocError> {
+    let mut file = file_room(rt.alloc())?;
+    let mut answers = answer_room(rt.alloc())?;
     let mut ram = lending::blank_ram();
     let mut flash = lending::erased_flash();
-    play(&mut file, &mut ram, &mut flash);
+    play(&rt, &mut file, &mut ram, &mut flash, &mut answers);
+    Ok(())
 }

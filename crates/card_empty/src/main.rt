@@ -1,6 +1,6 @@
 // The image card, run on empty input.
 #![tactic(auto)]
 
-fn main() {
-    report::card();
+fn main(rt: HostRuntime) {
+    report::card(&rt);
 }

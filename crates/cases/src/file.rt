@@ -10,9 +10,9 @@ pub struct FileRead {
 }
 
 // `name` has the family's name, of k bytes; the rest of it is overwritten.
-pub fn read_family(name: &mut [u8], k: usize, file: &mut [u8]) -> FileRead {
+pub fn read_family(rt: &HostRuntime, name: &mut [u8], k: usize, file: &mut [u8]) -> FileRead {
     let end = put(name, k, b".vec");
-    let r = files::read_file(front(name, end), file);
+    let r = files::read_file(rt, front(name, end), file);
     let n = r.n;
     let cut = basics::either(files::stops(r.stop), n == file.len());
     FileRead { n, whole: !cut }

@@ -1,4 +1,6 @@
 // What a record has its inputs made of: bytes and words from a generator's seed, and runs of them laid over; and text put into a buffer.
+ghost use Rattle.std.specs.Prelude.{◌≤◌};
+
 use crate::record::{after, get16, get32};
 use basics::{byte_at, least};
 
@@ -58,12 +60,29 @@ pub fn put(out: &mut [u8], at: usize, text: &[u8]) -> usize {
     after(at, text.len())
 }
 
+// A number's digits at the back of a buffer, which has room for those of any; answers where they start.
+fn decimal(n: u64, out: &mut [u8; 20]) -> usize
+    ensures { result ≤ 20 }
+{
+    let mut rest = n;
+    let mut i = 20;
+    while 0 < i {
+        i -= 1;
+        out[i] = b'0' + (rest % 10) as u8;
+        rest /= 10;
+        if rest == 0 {
+            return i;
+        }
+    }
+    i
+}
+
 // A line NAME=VALUE, the name with its sign; answers the place after it.
 pub fn put_line(out: &mut [u8], at: usize, name: &[u8], value: usize) -> usize {
     let mut digits = [0u8; 20];
-    let k = io::decimal(value as u64, &mut digits);
+    let k = decimal(value as u64, &mut digits);
     let p = put(out, at, name);
-    let q = put(out, p, &digits[..k]);
+    let q = put(out, p, &digits[k..]);
     put(out, q, b"\n")
 }
 

@@ -1,5 +1,4 @@
 // How many cases there were, how many differ, and the first that does.
-use libc::STDOUT_FILENO;
 use std::num::wrapping_add_u64;
 
 #[derive(Clone, Copy)]
@@ -51,48 +50,45 @@ pub fn with_cases(had: u64, t: Tally) -> u64 {
     wrapping_add_u64(had, 1)
 }
 
-fn counts(t: Tally) {
-    io::print_decimal(STDOUT_FILENO, t.cases);
-    io::write_all(STDOUT_FILENO, b" cases, ");
-    io::print_decimal(STDOUT_FILENO, t.differ);
-    io::write_all(STDOUT_FILENO, b" differ");
+fn counts(rt: &HostRuntime, t: Tally) {
+    files::say_number(rt, t.cases);
+    files::say(rt, b" cases, ");
+    files::say_number(rt, t.differ);
+    files::say(rt, b" differ");
 }
 
 // The line of a family that was not run.
-pub fn not_run(name: &[u8]) {
-    io::write_all(STDOUT_FILENO, name);
-    io::write_all(STDOUT_FILENO, b": not run\n");
+pub fn not_run(rt: &HostRuntime, name: &[u8]) {
+    files::say(rt, name);
+    files::say(rt, b": not run\n");
 }
 
 // The last line.
-pub fn report_all(t: Tally, had: u64, files: u64) {
-    io::write_all(STDOUT_FILENO, b"all: ");
-    counts(t);
-    io::write_all(STDOUT_FILENO, b", ");
-    io::print_decimal(STDOUT_FILENO, had);
-    io::write_all(STDOUT_FILENO, b" of ");
-    io::print_decimal(STDOUT_FILENO, files);
-    io::write_all(STDOUT_FILENO, b" files run");
+pub fn report_all(rt: &HostRuntime, t: Tally, had: u64, files: u64) {
+    files::say(rt, b"all: ");
+    counts(rt, t);
+    files::say(rt, b", ");
+    files::say_number(rt, had);
+    files::say(rt, b" of ");
+    files::say_number(rt, files);
+    files::say(rt, b" files run");
     if had != files {
-        io::write_all(
-            STDOUT_FILENO,
-            b"; a file is missing, cannot be read or is empty",
-        );
+        files::say(rt, b"; a file is missing, cannot be read or is empty");
     }
-    io::write_all(STDOUT_FILENO, b"\n");
+    files::say(rt, b"\n");
 }
 
 // The line of a family; another names the first case that differs.
-pub fn report(name: &[u8], t: Tally) {
-    io::write_all(STDOUT_FILENO, name);
-    io::write_all(STDOUT_FILENO, b": ");
-    counts(t);
-    io::write_all(STDOUT_FILENO, b"\n");
+pub fn report(rt: &HostRuntime, name: &[u8], t: Tally) {
+    files::say(rt, name);
+    files::say(rt, b": ");
+    counts(rt, t);
+    files::say(rt, b"\n");
     if t.differ != 0 {
-        io::write_all(STDOUT_FILENO, b"first: ");
-        io::write_all(STDOUT_FILENO, name);
-        io::write_all(STDOUT_FILENO, b" ");
-        io::print_decimal(STDOUT_FILENO, t.first);
-        io::write_all(STDOUT_FILENO, b"\n");
+        files::say(rt, b"first: ");
+        files::say(rt, name);
+        files::say(rt, b" ");
+        files::say_number(rt, t.first);
+        files::say(rt, b"\n");
     }
 }

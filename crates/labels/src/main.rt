@@ -35,72 +35,72 @@ fn label_room() -> [u8; LABEL_ROOM]
 }
 
 // A tag by the name that 001's table gives its variable.
-fn say_tag(tag: u8) -> bool {
+fn say_tag(rt: &HostRuntime, tag: u8) -> bool {
     match tag {
-        0x00 => files::say(b"name="),
-        0x01 => files::say(b"short_name="),
-        0x02 => files::say(b"author="),
-        0x03 => files::say(b"publisher="),
-        0x04 => files::say(b"release_date="),
-        0x05 => files::say(b"license="),
-        0x06 => files::say(b"description="),
-        0x07 => files::say(b"misc="),
-        0x08 => files::say(b"game_art_by="),
-        0x09 => files::say(b"music_by="),
-        0x0A => files::say(b"sfx_by="),
-        0x0B => files::say(b"voices_by="),
-        0x0C => files::say(b"docs_by="),
-        0x0D => files::say(b"concept_by="),
-        0x0E => files::say(b"box_art_by="),
-        _ => files::say(b"more_info_at="),
+        0x00 => files::say(rt, b"name="),
+        0x01 => files::say(rt, b"short_name="),
+        0x02 => files::say(rt, b"author="),
+        0x03 => files::say(rt, b"publisher="),
+        0x04 => files::say(rt, b"release_date="),
+        0x05 => files::say(rt, b"license="),
+        0x06 => files::say(rt, b"description="),
+        0x07 => files::say(rt, b"misc="),
+        0x08 => files::say(rt, b"game_art_by="),
+        0x09 => files::say(rt, b"music_by="),
+        0x0A => files::say(rt, b"sfx_by="),
+        0x0B => files::say(rt, b"voices_by="),
+        0x0C => files::say(rt, b"docs_by="),
+        0x0D => files::say(rt, b"concept_by="),
+        0x0E => files::say(rt, b"box_art_by="),
+        _ => files::say(rt, b"more_info_at="),
     }
 }
 
 // A text has at most 255 bytes, and each is shown by four at most.
-fn say_text(text: &[u8]) -> bool {
+fn say_text(rt: &HostRuntime, text: &[u8]) -> bool {
     let mut out = [0u8; 1020];
     let n = shelf::escape(&mut out, text);
     // never so: what was written stands in the buffer
     if out.len() < n {
         return false;
     }
-    files::say(&out[..n])
+    files::say(rt, &out[..n])
 }
 
-fn show(tag: u8, text: &[u8]) {
-    say_tag(tag);
+fn show(rt: &HostRuntime, tag: u8, text: &[u8]) {
+    say_tag(rt, tag);
     if tag == DATE_TAG {
-        date::say_date(text);
+        date::say_date(rt, text);
     } else {
-        say_text(text);
+        say_text(rt, text);
     }
-    files::say(b"\n");
+    files::say(rt, b"\n");
 }
 
 // Shows the text that was found, if one was.
-fn show_found<'a>(label: &'a [u8], image: &'a [u8], tag: u8, f: Found) -> bool {
+fn show_found<'a>(rt: &HostRuntime, label: &'a [u8], image: &'a [u8], tag: u8, f: Found) -> bool {
     match f {
         Found::Nothing => false,
         Found::Refused(_) => false,
         Found::Label(_, _) => {
-            show(tag, lookup::shown(label, image, f));
+            show(rt, tag, lookup::shown(label, image, f));
             true
         }
         Found::Image(_, _) => {
-            show(tag, lookup::shown(label, image, f));
+            show(rt, tag, lookup::shown(label, image, f));
             true
         }
     }
 }
 
 // Every text with the tag, the first one first; answers how many. No file here has so many as an image has bytes.
-fn show_tag<'a>(label: &'a [u8], image: &'a [u8], tag: u8) -> usize
+fn show_tag<'a>(rt: &HostRuntime, label: &'a [u8], image: &'a [u8], tag: u8) -> usize
     ensures { result ≤ image_limit }
 {
     let mut n = 0;
     while n < IMAGE_LIMIT {
         let f = lookup::text_of(label, image, tag, n + 1);
-        if !show_found(label, image, tag, f) {
+        if !show_found(rt, label, image, tag, f) {
             return n;
         }
         n += 1;
@@ -113,69 +113,70 @@ fn is_twice(label: &[u8], image: &[u8], tag: u8) -> bool {
     basics::either(lookup::is_twice(image, tag), metadata::is_twice(label, tag))
 }
 
-fn show_twice(label: &[u8], image: &[u8]) {
+fn show_twice(rt: &HostRuntime, label: &[u8], image: &[u8]) {
     if is_twice(label, image, NAME_TAG) {
-        files::say(b"twice=name\n");
+        files::say(rt, b"twice=name\n");
     }
     if is_twice(label, image, SHORT_NAME_TAG) {
-        files::say(b"twice=short_name\n");
+        files::say(rt, b"twice=short_name\n");
     }
 }
 
-fn shelf_label<'a>(label: &'a [u8], image: &'a [u8]) {
-    files::say(b"result=shown\n");
+fn shelf_label<'a>(rt: &HostRuntime, label: &'a [u8], image: &'a [u8]) {
+    files::say(rt, b"result=shown\n");
     let mut texts = 0;
     let mut tag = 0;
     while tag <= LAST_TAG {
-        texts += show_tag(label, image, tag);
+        texts += show_tag(rt, label, image, tag);
         tag += 1;
     }
-    show_twice(label, image);
-    files::line(b"texts=", texts as u64);
+    show_twice(rt, label, image);
+    files::line(rt, b"texts=", texts as u64);
 }
 
 // A label file that no block can hold is refused here as it is in pressing, for it is not read to its end.
-fn answer<'a>(label: &'a [u8], image: &'a [u8]) {
+fn answer<'a>(rt: &HostRuntime, label: &'a [u8], image: &'a [u8]) {
     let r = lookup::refusal_of(label, image);
     if r.number != 0 {
-        files::refused(r.number as u64, r.place as u64);
+        files::refused(rt, r.number as u64, r.place as u64);
         return;
     }
     if PAYLOAD_LIMIT < label.len() {
-        files::refused(12, 0);
+        files::refused(rt, 12, 0);
         return;
     }
-    shelf_label(label, image);
+    shelf_label(rt, label, image);
 }
 
 // With the label file that the second argument names.
-fn labelled(image: &[u8]) {
+fn labelled(rt: &HostRuntime, image: &[u8]) {
     let mut label = label_room();
-    let l = files::read_argument(2, &mut label);
+    let l = files::read_argument(rt, 2, &mut label);
     let n = l.n;
     if files::stops(l.stop) {
-        files::stopped(b"LABEL", l.stop);
+        files::stopped(rt, b"LABEL", l.stop);
         return;
     }
-    answer(&label[..n], image);
+    answer(rt, &label[..n], image);
 }
 
 // With no label file, which is an empty one.
-fn unlabelled(image: &[u8]) {
-    answer(&image[..0], image);
+fn unlabelled(rt: &HostRuntime, image: &[u8]) {
+    answer(rt, &image[..0], image);
 }
 
-fn main() {
+fn main(rt: HostRuntime) {
+    let rt = &rt;
     let mut image = image_room();
-    let i = files::read_argument(1, &mut image);
+    let i = files::read_argument(rt, 1, &mut image);
     let n = i.n;
     if files::stops(i.stop) {
-        files::stopped(b"IMAGE", i.stop);
+        files::stopped(rt, b"IMAGE", i.stop);
         return;
     }
-    if 2 < os::arg_count() {
-        labelled(&image[..n]);
+    if files::has_argument(rt, 2) {
+        labelled(rt, &image[..n]);
         return;
     }
-    unlabelled(&image[..n]);
+    unlabelled(rt, &image[..n]);
 }

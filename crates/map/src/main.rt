@@ -3,13 +3,14 @@
 // the reason.
 #![tactic(auto)]
 
-ghost use Rattle.std.specs.Prelude.{◌≡◌, ◌+◌, ◌<◌, length};
+ghost use Rattle.std.specs.Prelude.{◌≡◌, ◌+◌, ◌<◌, vec_len, IfOk};
 ghost use Rattle.places.specs.Limits.{chapters, image_limit};
 
 use basics::Refusal;
 use cart::Cartridge;
 use chart::{Leaf, Shown};
 use places::{CHAPTER_PAGES, CHAPTER_PARAGRAPHS, CHAPTERS, FLIP_ENTRIES, IMAGE_LIMIT};
+use std::alloc::{AllocError, Global};
 
 // The lengths of a chapter's line and of a line of pages, and where their first sign and their first page stand.
 const CHAPTER_LINE: usize = 37;
@@ -23,14 +24,14 @@ const PAGES_AT: usize = 4;
 // Room for one byte more than an image may have, so that a longer one is seen to be longer.
 const FILE_ROOM: usize = IMAGE_LIMIT + 1;
 
-fn file_room() -> [u8; FILE_ROOM]
-    ensures { image_limit + 1 ≡ length result }
+fn file_room(alloc: Global) -> Result<Vec<u8>, AllocError>
+    ensures { IfOk result (λ v. image_limit + 1 ≡ vec_len v) }
 {
-    [0; FILE_ROOM]
+    vec![in alloc; 0; FILE_ROOM]
 }
 
-fn refused(r: Refusal) {
-    files::refused(r.number as u64, r.place as u64);
+fn refused(rt: &HostRuntime, r: Refusal) {
+    files::refused(rt, r.number as u64, r.place as u64);
 }
 
 fn sign_of(s: Shown) -> u8 {
@@ -45,7 +46,7 @@ fn sign_of(s: Shown) -> u8 {
 }
 
 // Chapter x and the signs of its paragraphs.
-fn show_chapter(c: Cartridge, x: usize)
+fn show_chapter(rt: &HostRuntime, c: Cartridge, x: usize)
     requires { x < chapters }
 {
     let mut line = [b' '; CHAPTER_LINE];
@@ -55,15 +56,18 @@ fn show_chapter(c: Cartridge, x: usize)
     for k in 0..CHAPTER_PARAGRAPHS {
         line[SIGNS_AT + 2 * k] = sign_of(chart::shown_at(c, (CHAPTER_PARAGRAPHS * x + k) as u8));
     }
-    files::say(&line);
+    files::say(rt, &line);
 }
 
-fn show_chapters(c: Cartridge) {
-    files::say(b"     0 1 2 3 4 5 6 7 8 9 A B C D E F\n");
+fn show_chapters(rt: &HostRuntime, c: Cartridge) {
+    files::say(rt, b"     0 1 2 3 4 5 6 7 8 9 A B C D E F\n");
     for x in 0..CHAPTERS {
-        show_chapter(c, x);
+        show_chapter(rt, c, x);
     }
-    files::say(b"\n.  silent    #  ROM    W  RAM 16    B  RAM 8    P  paged    J  JLP\n\n");
+    files::say(
+        rt,
+        b"\n.  silent    #  ROM    W  RAM 16    B  RAM 8    P  paged    J  JLP\n\n",
+    );
 }
 
 // What a flip entry shows, in two bytes: the number of a page of the cartridge's RAM, dots for silence, strokes where the entry does not act.
@@ -82,7 +86,7 @@ fn pair_of(l: Leaf) -> Pair {
 }
 
 // Chapter x and what each of its pages shows.
-fn show_pages(flips: &[u16; FLIP_ENTRIES], x: usize)
+fn show_pages(rt: &HostRuntime, flips: &[u16; FLIP_ENTRIES], x: usize)
     requires { x < chapters }
 {
     let mut line = [b' '; PAGES_LINE];
@@ -94,7 +98,7 @@ fn show_pages(flips: &[u16; FLIP_ENTRIES], x: usize)
         line[PAGES_AT + 3 * y] = pair.0;
         line[PAGES_AT + 3 * y + 1] = pair.1;
     }
-    files::say(&line);
+    files::say(rt, &line);
 }
 
 // Whether chapter x shows pages: its last paragraph tells.
@@ -118,51 +122,55 @@ fn any_paged(c: Cartridge) -> bool {
     false
 }
 
-fn show_paged(c: Cartridge) {
+fn show_paged(rt: &HostRuntime, c: Cartridge) {
     if !any_paged(c) {
         return;
     }
-    files::say(b"pages, by the page of cartridge RAM that each shows (.. silence, -- no page)\n");
-    files::say(b"     0  1  2  3  4  5  6  7  8  9  A  B  C  D  E  F\n");
+    files::say(
+        rt,
+        b"pages, by the page of cartridge RAM that each shows (.. silence, -- no page)\n",
+    );
+    files::say(rt, b"     0  1  2  3  4  5  6  7  8  9  A  B  C  D  E  F\n");
     for x in 0..CHAPTERS {
         if is_paged(c, x) {
-            show_pages(&c.flips, x);
+            show_pages(rt, &c.flips, x);
         }
     }
-    files::say(b"\n");
+    files::say(rt, b"\n");
 }
 
-fn show(c: Cartridge, words: u64) {
+fn show(rt: &HostRuntime, c: Cartridge, words: u64) {
     let j = c.jlp;
     let saves = j.saves;
-    show_chapters(c);
-    show_paged(c);
-    files::line(b"words=", words);
-    files::line(b"jlp=", j.field as u64);
-    files::line(b"flash=", saves.sectors as u64);
+    show_chapters(rt, c);
+    show_paged(rt, c);
+    files::line(rt, b"words=", words);
+    files::line(rt, b"jlp=", j.field as u64);
+    files::line(rt, b"flash=", saves.sectors as u64);
 }
 
 // Loads the image, with the flash that it asks for, and shows its map.
-fn map(file: &mut [u8], ram: &mut [u16], flash: &[u16]) {
-    let t = files::read_argument(1, file);
+fn map(rt: &HostRuntime, file: &mut [u8], ram: &mut [u16], flash: &[u16]) {
+    let t = files::read_argument(rt, 1, file);
     let n = t.n;
     if files::stops(t.stop) {
-        files::stopped(b"IMAGE", t.stop);
+        files::stopped(rt, b"IMAGE", t.stop);
         return;
     }
     let f = lending::flash_words(&file[..n], flash.len());
     let loading = load::load(&file[..n], ram, &flash[..f]);
     let r = loading.refusal;
     if r.number != 0 {
-        refused(r);
+        refused(rt, r);
         return;
     }
-    show(loading.cartridge, loading.words as u64);
+    show(rt, loading.cartridge, loading.words as u64);
 }
 
-fn main() {
-    let mut file = file_room();
+fn main(rt: HostRuntime) -> Result<(), AllocError> {
+    let mut file = file_room(rt.alloc())?;
     let mut ram = lending::blank_ram();
     let flash = lending::erased_flash();
-    map(&mut file, &mut ram, &flash);
+    map(&rt, &mut file, &mut ram, &flash);
+    Ok(())
 }

@@ -75,57 +75,58 @@ fn answer_of(b: Building) -> Answer {
     }
 }
 
-fn refused(a: Answer, bin: &[u8], cfg: &[u8]) {
-    files::refused(a.number, a.place);
+fn refused(rt: &HostRuntime, a: Answer, bin: &[u8], cfg: &[u8]) {
+    files::refused(rt, a.number, a.place);
     if a.number == 27 {
-        files::line(b"with=", rival_of(bin, cfg));
+        files::line(rt, b"with=", rival_of(bin, cfg));
     }
 }
 
-fn built(a: Answer) {
-    files::say(b"result=built\n");
-    files::line(b"length=", a.length as u64);
-    files::line(b"needed=", a.needed);
+fn built(rt: &HostRuntime, a: Answer) {
+    files::say(rt, b"result=built\n");
+    files::line(rt, b"length=", a.length as u64);
+    files::line(rt, b"needed=", a.needed);
 }
 
 // Builds the image and writes it.
-fn press(bin: &[u8], cfg: &[u8], label: &[u8], inputs: [Seen; INPUTS]) {
+fn press(rt: &HostRuntime, bin: &[u8], cfg: &[u8], label: &[u8], inputs: [Seen; INPUTS]) {
     let mut out = image_room();
     let a = answer_of(build::build(bin, cfg, label, &mut out));
     let n = a.length;
     if a.number != 0 {
-        refused(a, bin, cfg);
+        refused(rt, a, bin, cfg);
         return;
     }
     // never so: 29 would have come first
     if out.len() < n {
         return;
     }
-    let s = files::write_argument(3, &out[..n], inputs);
+    let s = files::write_argument(rt, 3, &out[..n], inputs);
     if files::stops(s) {
-        files::stopped(b"OUT", s);
+        files::stopped(rt, b"OUT", s);
     } else {
-        built(a);
+        built(rt, a);
     }
 }
 
 // The same with no label, which is an empty one.
-fn press_unlabelled(bin: &[u8], cfg: &[u8], inputs: [Seen; INPUTS]) {
-    press(bin, cfg, &cfg[..0], inputs);
+fn press_unlabelled(rt: &HostRuntime, bin: &[u8], cfg: &[u8], inputs: [Seen; INPUTS]) {
+    press(rt, bin, cfg, &cfg[..0], inputs);
 }
 
 // The same with the label file that the fourth argument names.
-fn press_labelled(bin: &[u8], cfg: &[u8], from_bin: Seen, from_cfg: Seen) {
+fn press_labelled(rt: &HostRuntime, bin: &[u8], cfg: &[u8], from_bin: Seen, from_cfg: Seen) {
     let mut label = label_room();
-    let l = files::read_argument(4, &mut label);
+    let l = files::read_argument(rt, 4, &mut label);
     let n = l.n;
     if files::stops(l.stop) {
-        files::stopped(b"LABEL", l.stop);
+        files::stopped(rt, b"LABEL", l.stop);
         return;
     }
     let from_label = l.seen;
     let none = files::nobody();
     press(
+        rt,
         bin,
         cfg,
         &label[..n],
@@ -133,27 +134,28 @@ fn press_labelled(bin: &[u8], cfg: &[u8], from_bin: Seen, from_cfg: Seen) {
     );
 }
 
-fn main() {
+fn main(rt: HostRuntime) {
+    let rt = &rt;
     let mut bin = bin_room();
     let mut cfg = cfg_room();
-    let b = files::read_argument(1, &mut bin);
+    let b = files::read_argument(rt, 1, &mut bin);
     let bn = b.n;
     if files::stops(b.stop) {
-        files::stopped(b"BIN", b.stop);
+        files::stopped(rt, b"BIN", b.stop);
         return;
     }
-    let c = files::read_argument(2, &mut cfg);
+    let c = files::read_argument(rt, 2, &mut cfg);
     let cn = c.n;
     if files::stops(c.stop) {
-        files::stopped(b"CFG", c.stop);
+        files::stopped(rt, b"CFG", c.stop);
         return;
     }
     let from_bin = b.seen;
     let from_cfg = c.seen;
-    if 4 < os::arg_count() {
-        press_labelled(&bin[..bn], &cfg[..cn], from_bin, from_cfg);
+    if files::has_argument(rt, 4) {
+        press_labelled(rt, &bin[..bn], &cfg[..cn], from_bin, from_cfg);
         return;
     }
     let none = files::nobody();
-    press_unlabelled(&bin[..bn], &cfg[..cn], [from_bin, from_cfg, none, none]);
+    press_unlabelled(rt, &bin[..bn], &cfg[..cn], [from_bin, from_cfg, none, none]);
 }

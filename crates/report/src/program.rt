@@ -3,7 +3,6 @@ ghost use Rattle.std.specs.Prelude.{◌+◌, ◌≡◌, length};
 ghost use Rattle.places.specs.Limits.{card_limit, card_words};
 
 use crate::Report;
-use libc::STDIN_FILENO;
 use places::{CARD_LIMIT, CARD_WORDS};
 
 // Room for one byte more than the card takes: a longer file fills it, however long it is.
@@ -41,26 +40,27 @@ fn shown_of(r: Report) -> Shown {
     }
 }
 
-fn show(s: Shown) {
+fn show(rt: &HostRuntime, s: Shown) {
     if s.number == 0 {
-        files::say(b"result=loaded\n");
-        files::line(b"blocks=", s.blocks);
-        files::line(b"words=", s.words);
+        files::say(rt, b"result=loaded\n");
+        files::line(rt, b"blocks=", s.blocks);
+        files::line(rt, b"words=", s.words);
     } else {
-        files::refused(s.number, s.place);
+        files::refused(rt, s.number, s.place);
     }
 }
 
-pub fn card() {
+pub fn card(rt: &HostRuntime) {
     let mut file = file_room();
     let mut ram = blank_ram();
-    let t = files::read_all(STDIN_FILENO, &mut file);
+    let mut input = rt.stdin();
+    let t = files::read_all(&mut input, &mut file);
     let n = t.n;
     let ending = t.ending;
     let s = files::stop_of(ending);
     if files::stops(s) {
-        files::stopped(b"IMAGE", s);
+        files::stopped(rt, b"IMAGE", s);
         return;
     }
-    show(shown_of(crate::answer(&file[..n], &mut ram)));
+    show(rt, shown_of(crate::answer(&file[..n], &mut ram)));
 }

@@ -51,71 +51,72 @@ fn shown_of(s: Salvaging) -> Shown {
     }
 }
 
-fn stopped_at(w: Stopped) -> bool {
+fn stopped_at(rt: &HostRuntime, w: Stopped) -> bool {
     match w {
-        Stopped::Nowhere => files::say(b"stopped=none\n"),
-        Stopped::At(p) => files::line(b"stopped=", p as u64),
+        Stopped::Nowhere => files::say(rt, b"stopped=none\n"),
+        Stopped::At(p) => files::line(rt, b"stopped=", p as u64),
     }
 }
 
-fn drop_at(p: usize) {
-    files::line(b"drop=", p as u64);
+fn drop_at(rt: &HostRuntime, p: usize) {
+    files::line(rt, b"drop=", p as u64);
 }
 
-fn drops_at(places: &[usize]) {
+fn drops_at(rt: &HostRuntime, places: &[usize]) {
     for i in 0..places.len() {
-        drop_at(places[i]);
+        drop_at(rt, places[i]);
     }
 }
 
-fn lost(image: &[u8]) {
+fn lost(rt: &HostRuntime, image: &[u8]) {
     let mut places = places_room();
     let n = recovery::drops(image, &mut places);
     // never so: the array has room for all
     if places.len() < n {
         return;
     }
-    drops_at(&places[..n]);
+    drops_at(rt, &places[..n]);
 }
 
-fn salvaged(s: Shown, image: &[u8]) {
-    files::line(b"kept=", s.kept);
-    files::line(b"dropped=", s.dropped);
+fn salvaged(rt: &HostRuntime, s: Shown, image: &[u8]) {
+    files::line(rt, b"kept=", s.kept);
+    files::line(rt, b"dropped=", s.dropped);
     let w = s.stopped;
-    stopped_at(w);
-    lost(image);
+    stopped_at(rt, w);
+    lost(rt, image);
 }
 
 // Salvages the image and writes what is left of it.
-fn salvage(image: &[u8], inputs: [Seen; INPUTS]) {
+fn salvage(rt: &HostRuntime, image: &[u8], inputs: [Seen; INPUTS]) {
     let mut out = file_room();
     let a = shown_of(recovery::answer(image, &mut out));
     let n = a.length;
     if a.number != 0 {
-        files::refused(a.number, a.place);
+        files::refused(rt, a.number, a.place);
         return;
     }
     // never so: 29 would have come first
     if out.len() < n {
         return;
     }
-    let s = files::write_argument(2, &out[..n], inputs);
+    let s = files::write_argument(rt, 2, &out[..n], inputs);
     if files::stops(s) {
-        files::stopped(b"OUT", s);
+        files::stopped(rt, b"OUT", s);
     } else {
-        salvaged(a, image);
+        salvaged(rt, a, image);
     }
 }
 
-fn main() {
+fn main(rt: HostRuntime) {
+    let rt = &rt;
     let mut image = file_room();
-    let r = files::read_argument(1, &mut image);
+    let r = files::read_argument(rt, 1, &mut image);
     let n = r.n;
     if files::stops(r.stop) {
-        files::stopped(b"IMAGE", r.stop);
+        files::stopped(rt, b"IMAGE", r.stop);
         return;
     }
     let seen = r.seen;
     let none = files::nobody();
-    salvage(&image[..n], [seen, none, none, none]);
+    salvage(rt, &image[..n], [seen, none, none, none]);
 }

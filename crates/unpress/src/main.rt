@@ -50,35 +50,35 @@ fn answer_of(u: Unbuilding) -> Answer {
     }
 }
 
-fn written(a: Answer) {
-    files::say(b"result=written\n");
-    files::line(b"bin=", a.bin as u64);
-    files::line(b"cfg=", a.cfg as u64);
+fn written(rt: &HostRuntime, a: Answer) {
+    files::say(rt, b"result=written\n");
+    files::line(rt, b"bin=", a.bin as u64);
+    files::line(rt, b"cfg=", a.cfg as u64);
 }
 
 // Writes both files.
-fn put(a: Answer, bin: &[u8], cfg: &[u8], input: Seen) {
-    let s = files::write_arguments(2, bin, 3, cfg, input);
+fn put(rt: &HostRuntime, a: Answer, bin: &[u8], cfg: &[u8], input: Seen) {
+    let s = files::write_arguments(rt, 2, bin, 3, cfg, input);
     if files::stops(s.first) {
-        files::stopped(b"BIN", s.first);
+        files::stopped(rt, b"BIN", s.first);
         return;
     }
     if files::stops(s.second) {
-        files::stopped(b"CFG", s.second);
+        files::stopped(rt, b"CFG", s.second);
         return;
     }
-    written(a);
+    written(rt, a);
 }
 
 // Goes back, and writes both files.
-fn unpress(image: &[u8], input: Seen) {
+fn unpress(rt: &HostRuntime, image: &[u8], input: Seen) {
     let mut bin = bin_room();
     let mut cfg = cfg_room();
     let a = answer_of(unbuild::unbuild(image, &mut bin, &mut cfg));
     let n = a.bin;
     let m = a.cfg;
     if a.number != 0 {
-        files::refused(a.number, a.place);
+        files::refused(rt, a.number, a.place);
         return;
     }
     // never so: 29 would have come first
@@ -88,17 +88,18 @@ fn unpress(image: &[u8], input: Seen) {
     if cfg.len() < m {
         return;
     }
-    put(a, &bin[..n], &cfg[..m], input);
+    put(rt, a, &bin[..n], &cfg[..m], input);
 }
 
-fn main() {
+fn main(rt: HostRuntime) {
+    let rt = &rt;
     let mut image = image_room();
-    let i = files::read_argument(1, &mut image);
+    let i = files::read_argument(rt, 1, &mut image);
     let n = i.n;
     if files::stops(i.stop) {
-        files::stopped(b"IMAGE", i.stop);
+        files::stopped(rt, b"IMAGE", i.stop);
         return;
     }
     let seen = i.seen;
-    unpress(&image[..n], seen);
+    unpress(rt, &image[..n], seen);
 }

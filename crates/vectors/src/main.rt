@@ -2,7 +2,7 @@
 // a line for each family, and the first case that differs; the last line says whether every file was there and had cases.
 #![tactic(auto)]
 
-ghost use Rattle.std.specs.Prelude.{◌≡◌, ◌+◌, length};
+ghost use Rattle.std.specs.Prelude.{◌≡◌, ◌+◌, vec_len, IfOk};
 ghost use Rattle.places.specs.Limits.{lent_limit};
 
 use cases::fill::put;
@@ -10,6 +10,7 @@ use cases::record::{end_of, front};
 use cases::tally::Tally;
 use cases::{file, rooms, tally};
 use places::LENT_LIMIT;
+use std::alloc::{AllocError, Global};
 use sums::TABLE_ENTRIES;
 
 mod card;
@@ -35,18 +36,18 @@ pub enum Family {
 const FAMILIES: usize = 9;
 
 // Room for any buffer or built image, and for any RAM or flash.
-fn buffer_room() -> [u8; 1200000]
-    ensures { 1200000 ≡ length result }
+fn buffer_room(alloc: Global) -> Result<Vec<u8>, AllocError>
+    ensures { IfOk result (λ v. 1200000 ≡ vec_len v) }
 {
-    [0; 1200000]
+    vec![in alloc; 0; 1200000]
 }
 
 const WORD_ROOM: usize = LENT_LIMIT + 257;
 
-fn word_room() -> [u16; WORD_ROOM]
-    ensures { lent_limit + 257 ≡ length result }
+fn word_room(alloc: Global) -> Result<Vec<u16>, AllocError>
+    ensures { IfOk result (λ v. lent_limit + 257 ≡ vec_len v) }
 {
-    [0; WORD_ROOM]
+    vec![in alloc; 0; WORD_ROOM]
 }
 
 // Whether the record, its length and its fields, agrees.
@@ -106,6 +107,7 @@ fn put_name(family: Family, out: &mut [u8]) -> usize {
 
 // Runs a family's records, and prints its line.
 fn run_records(
+    rt: &HostRuntime,
     family: Family,
     name: &[u8],
     file: &[u8],
@@ -116,12 +118,13 @@ fn run_records(
     flash: &mut [u16],
 ) -> Tally {
     let t = run(family, file, ieee, a, b, ram, flash);
-    tally::report(name, t);
+    tally::report(rt, name, t);
     t
 }
 
 // Reads a family's file, NAME.vec, and runs it. A file that is missing, or not read to its end, has no case.
 fn run_file(
+    rt: &HostRuntime,
     family: Family,
     ieee: &[u32; TABLE_ENTRIES],
     file: &mut [u8],
@@ -132,12 +135,13 @@ fn run_file(
 ) -> Tally {
     let mut name = [0u8; 16];
     let k = put_name(family, &mut name);
-    let r = file::read_family(&mut name, k, file);
+    let r = file::read_family(rt, &mut name, k, file);
     if !r.whole {
-        tally::not_run(front(&name, k));
+        tally::not_run(rt, front(&name, k));
         return tally::nothing();
     }
     run_records(
+        rt,
         family,
         front(&name, k),
         front(file, r.n),
@@ -165,6 +169,7 @@ fn family_of(k: usize) -> Family {
 
 // Runs every family's file, and prints the line of all: how many cases, how many differ, how many files had any.
 fn run_files(
+    rt: &HostRuntime,
     before: Tally,
     file: &mut [u8],
     a: &mut [u8],
@@ -177,21 +182,22 @@ fn run_files(
     let mut had = 0;
     let mut k = 0;
     while k < FAMILIES {
-        let t = run_file(family_of(k), &ieee, file, a, b, ram, flash);
+        let t = run_file(rt, family_of(k), &ieee, file, a, b, ram, flash);
         had = tally::with_cases(had, t);
         all = tally::both_of(all, t);
         k += 1;
     }
-    tally::report_all(all, had, FAMILIES as u64);
+    tally::report_all(rt, all, had, FAMILIES as u64);
 }
 
-fn main() {
-    let mut file = rooms::file_room();
-    let mut a = rooms::image_room();
-    let mut b = buffer_room();
-    let mut ram = word_room();
-    let mut flash = word_room();
+fn main(rt: HostRuntime) -> Result<(), AllocError> {
+    let mut file = rooms::file_room(rt.alloc())?;
+    let mut a = rooms::image_room(rt.alloc())?;
+    let mut b = buffer_room(rt.alloc())?;
+    let mut ram = word_room(rt.alloc())?;
+    let mut flash = word_room(rt.alloc())?;
     let first = checksums::vectors();
-    tally::report(b"001", first);
-    run_files(first, &mut file, &mut a, &mut b, &mut ram, &mut flash);
+    tally::report(&rt, b"001", first);
+    run_files(&rt, first, &mut file, &mut a, &mut b, &mut ram, &mut flash);
+    Ok(())
 }

@@ -2,7 +2,7 @@
 // labels, salvage, lists of accesses, back to BIN and CFG. It prints what `vectors` prints of the other families.
 #![tactic(auto)]
 
-ghost use Rattle.std.specs.Prelude.{◌≡◌, length};
+ghost use Rattle.std.specs.Prelude.{◌≡◌, vec_len, IfOk};
 ghost use Rattle.places.specs.Limits.{image_limit};
 
 use cases::fill::put;
@@ -10,6 +10,7 @@ use cases::record::{end_of, front};
 use cases::tally::Tally;
 use cases::{file, rooms, tally};
 use places::IMAGE_LIMIT;
+use std::alloc::{AllocError, Global};
 use sums::TABLE_ENTRIES;
 
 mod back;
@@ -30,10 +31,10 @@ pub enum Family {
 const FAMILIES: usize = 6;
 
 // Room for any buffer.
-fn buffer_room() -> [u8; IMAGE_LIMIT]
-    ensures { image_limit ≡ length result }
+fn buffer_room(alloc: Global) -> Result<Vec<u8>, AllocError>
+    ensures { IfOk result (λ v. image_limit ≡ vec_len v) }
 {
-    [0; IMAGE_LIMIT]
+    vec![in alloc; 0; IMAGE_LIMIT]
 }
 
 // Whether the record, its length and its fields, agrees.
@@ -98,6 +99,7 @@ fn family_of(k: usize) -> Family {
 
 // Runs a family's records, and prints its line.
 fn run_records(
+    rt: &HostRuntime,
     family: Family,
     name: &[u8],
     file: &[u8],
@@ -107,12 +109,13 @@ fn run_records(
     text: &mut [u8],
 ) -> Tally {
     let t = run(family, file, ieee, image, out, text);
-    tally::report(name, t);
+    tally::report(rt, name, t);
     t
 }
 
 // Reads a family's file, NAME.vec, and runs it. A file that is missing, or not read to its end, has no case.
 fn run_file(
+    rt: &HostRuntime,
     family: Family,
     ieee: &[u32; TABLE_ENTRIES],
     file: &mut [u8],
@@ -122,12 +125,13 @@ fn run_file(
 ) -> Tally {
     let mut name = [0u8; 16];
     let k = put_name(family, &mut name);
-    let r = file::read_family(&mut name, k, file);
+    let r = file::read_family(rt, &mut name, k, file);
     if !r.whole {
-        tally::not_run(front(&name, k));
+        tally::not_run(rt, front(&name, k));
         return tally::nothing();
     }
     run_records(
+        rt,
         family,
         front(&name, k),
         front(file, r.n),
@@ -139,24 +143,25 @@ fn run_file(
 }
 
 // Runs every family's file, and prints the line of all: how many cases, how many differ, how many files had any.
-fn run_files(file: &mut [u8], image: &mut [u8], out: &mut [u8], text: &mut [u8]) {
+fn run_files(rt: &HostRuntime, file: &mut [u8], image: &mut [u8], out: &mut [u8], text: &mut [u8]) {
     let ieee = sums::tables(sums::IEEE);
     let mut all = tally::nothing();
     let mut had = 0;
     let mut k = 0;
     while k < FAMILIES {
-        let t = run_file(family_of(k), &ieee, file, image, out, text);
+        let t = run_file(rt, family_of(k), &ieee, file, image, out, text);
         had = tally::with_cases(had, t);
         all = tally::both_of(all, t);
         k += 1;
     }
-    tally::report_all(all, had, FAMILIES as u64);
+    tally::report_all(rt, all, had, FAMILIES as u64);
 }
 
-fn main() {
-    let mut file = rooms::file_room();
-    let mut image = rooms::image_room();
-    let mut out = buffer_room();
+fn main(rt: HostRuntime) -> Result<(), AllocError> {
+    let mut file = rooms::file_room(rt.alloc())?;
+    let mut image = rooms::image_room(rt.alloc())?;
+    let mut out = buffer_room(rt.alloc())?;
     let mut text = rooms::label_room();
-    run_files(&mut file, &mut image, &mut out, &mut text);
+    run_files(&rt, &mut file, &mut image, &mut out, &mut text);
+    Ok(())
 }
