@@ -1,0 +1,13 @@
+-- `accesses::note` meets its contract: nothing is noted, or a word at the next place.
+use borrow.Author.Rules.{rules}
+use Rattle.accesses.proofs.Steps.{nothing_next, nothing_noted, word_next, word_noted, word_fits}
+use Rattle.accesses.proofs.note.Goals as goal
+
+pub bounds-out-k : goal.bounds-out-k
+bounds-out-k c = search (rules, word_fits)
+
+pub returns-in-Nothing : goal.returns-in-Nothing
+returns-in-Nothing c = search (rules, nothing_next, nothing_noted)
+
+pub returns-in-Word : goal.returns-in-Word
+returns-in-Word c = search (rules, word_next, word_noted)

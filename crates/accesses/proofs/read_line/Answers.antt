@@ -1,0 +1,13 @@
+-- `accesses::read_line` meets its contract: the line is spelt otherwise, or has no four digits, or says a read.
+use borrow.Author.Rules.{rules}
+use Rattle.accesses.proofs.Lines.{read_other, read_said, read_none}
+use Rattle.accesses.proofs.read_line.Goals as goal
+
+pub returns-then-not-same_text : goal.returns-then-not-same_text
+returns-then-not-same_text c = search (rules, read_other)
+
+pub returns-in-Is : goal.returns-in-Is
+returns-in-Is c = search (rules, read_said)
+
+pub returns-in-Not : goal.returns-in-Not
+returns-in-Not c = search (rules, read_none)

@@ -1,0 +1,40 @@
+-- `accesses::run_lines` meets its contract. The invariant: what is left of the run goes on from the world that the lent tables, the accelerators and the
+-- memories are, and the answers so far stand in the buffer.
+use mathlib.Core.Path.{ap}
+use borrow.Author.Rules.{rules}
+use Rattle.cart.specs.Run.{World}
+use Rattle.accesses.proofs.Runs.{running_none, running_at, reset_start, turn_fits, turn_more, ran_world, ran_out, ran_all}
+use Rattle.accesses.proofs.Lines.{next_end}
+use Rattle.accesses.proofs.run_lines.Goals as goal
+
+pub loop-lines-init : goal.loop-lines-init
+loop-lines-init c = search (rules, running_none, reset_start)
+
+pub says_at-s-requires : goal.says_at-s-requires
+says_at-s-requires c = (running_at _ _ _ _ _ _ _ _ _ _ c.loop-lines.invariant.5 (search rules), c.line_end-end.ensures)
+
+pub note-k-requires : goal.note-k-requires
+note-k-requires c =
+    let inv = c.loop-lines.invariant in
+    turn_fits _ _ _ _ _ _ _ _ _ _ _ _ _ _ _ _ inv.5 (search rules) _ c.says_at-s.ensures _ _ c.make-made.ensures.0 (search rules)
+
+pub loop-lines-preserved : goal.loop-lines-preserved
+loop-lines-preserved c =
+    let inv = c.loop-lines.invariant in (
+      (search rules),
+      (let saved = c in search rules),
+      (search rules),
+      inv.3,
+      inv.4,
+      (turn_more _ _ _ _ _ _ _ _ _ _ _ _ _ _ _ _ inv.5 (search rules) _ c.says_at-s.ensures _ _ _ _ _ _ _ _ _ c.make-made.ensures c.note-k.ensures (next_end _ _ _ _ c.line_end-end.ensures c.past_end-at.ensures)),
+    )
+
+pub returns : goal.returns
+returns c =
+    let inv = c.loop-lines.invariant in
+    let w = ran_world _ _ _ _ _ _ _ _ _ _ inv.5 (search rules) in (
+      ran_all _ _ _ _ _ _ _ _ _ _ inv.5 (search rules) _ _ c.no_refusal.ensures c.with_active.ensures,
+      ap (λ (x : World). x.ram) w,
+      ap (λ (x : World). x.flash) w,
+      ran_out _ _ _ _ _ _ _ _ _ _ inv.5 (search rules),
+    )
