@@ -1,6 +1,6 @@
 -- Each way out of a build: 21, the CFG's refusals, the rules', and the image pressed.
-use Rattle.std.specs.Prelude.{ℕ, ◌<◌, zero, suc, ◌≤◌, ◌%◌, List, [], ◌∷◌, ◌++◌, ◌≡◌, refl, ◌⊎◌, Bool, cond, length, take, eqb}
-use Rattle.std.proofs.Common.{◌∙◌, ap, sym, inl, inr, arith}
+use Rattle.std.specs.Prelude.{ℕ, ◌<◌, zero, suc, ◌≤◌, ◌%◌, List, [], ◌∷◌, ◌++◌, ◌≡◌, Bool, cond, length, take, eqb}
+use Rattle.std.proofs.Common.{◌∙◌, ap, sym, arith}
 use Rattle.std.proofs.Math.Bool.{true, false}
 use Rattle.std.proofs.Math.Dec.{ltb}
 use borrow.Author.Tests.{ne_eqb, ltb-false}
@@ -21,10 +21,9 @@ use Rattle.cfg.specs.Laws.Entries.{accepted_holds, Holds, all_typed}
 use Rattle.rules.specs.Rules.{line_rows, out_of_range, not_allowed, share_rows, shares_earlier, chapter_rows, breaks_plain, refusal_rows as ruleRows, refusal_of as ruleRefusal}
 use Rattle.rules.specs.Laws.Refusals.{each_refuses as rules-refuse, exactly as rules-exactly}
 use Rattle.rules.specs.Accepted.{Accepted}
-use Rattle.layout.specs.Layout.{needed}
 use Rattle.label.specs.Label.{wrong_label}
 use Rattle.build.specs.declared.Building.{Building}
-use Rattle.build.specs.Building.{image_on, pressed_image, building_of, built_of, room_rows, refusal_rows, refusal_of, refused, wrong_bin, too_large, too_short}
+use Rattle.build.specs.Building.{image_on, pressed_image, building_of, built_of, room_rows, refusal_of, refused, wrong_bin, too_large, too_short}
 use Rattle.build.specs.Code.Answers.{bare, Read, Answers, Pressed}
 
 -- the numbers of the CFG's refusals, and of the rules'

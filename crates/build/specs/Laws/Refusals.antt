@@ -22,7 +22,6 @@ use Rattle.rules.specs.Accepted.{Accepted}
 use Rattle.layout.specs.Layout.{needed, pages}
 use Rattle.plan.specs.Laws.Pages.{few_pages}
 use Rattle.label.specs.Label.{wrong_label}
-use Rattle.build.specs.declared.Building.{Building}
 use Rattle.build.specs.Building.{too_large, room_rows, refusal_rows, refusal_of, builds, building_of, built_of}
 
 -- what a build answers and leaves, for every BIN, CFG and buffer
