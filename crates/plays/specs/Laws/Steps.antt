@@ -1,5 +1,5 @@
 -- One access, by the machine and by the plain cartridge: a read is answered alike, and a write keeps the two tied.
-use Rattle.std.specs.Prelude.{ℕ, ◌≤◌, ◌*◌, ◌/◌, ◌%◌, ◌+◌, ◌<◌, List, ◌≡◌, Bool, cond, ◌&&◌, length, set, eqb, leb}
+use Rattle.std.specs.Prelude.{ℕ, ◌≤◌, ◌*◌, ◌/◌, ◌%◌, ◌+◌, ◌<◌, List, ◌≡◌, Bool, cond, ◌&&◌, set, eqb, leb}
 use Rattle.std.proofs.Common.{◌∙◌, sym}
 use Rattle.std.proofs.Math.Path.{ap, refl}
 use Rattle.std.proofs.Math.Bool.{false, true}
