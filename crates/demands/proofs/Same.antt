@@ -1,9 +1,8 @@
 -- Any two answers that the promise of a public function allows are equal (01, What the promises rule out).
-use mathlib.Core.Path.{◌≡◌, ap, ◌∙◌}
+use mathlib.Core.Path.{ap, ◌∙◌}
 use Rattle.basics.specs.Same.{OneAnswer, OneLent}
 use Rattle.build.specs.declared.Building.{Building}
 use Rattle.load.specs.declared.Loading.{Loading}
-use Rattle.demands.specs.declared.Title.{Title}
 use Rattle.demands.specs.Laws.Tied.{one_building, one_left, one_loading, one_stored}
 use Rattle.demands.proofs.press_and_load.Reads as press-and-load
 

@@ -9,7 +9,7 @@ use Rattle.load.specs.Load.{refusal_rows as loadRows, loading_of, load_ram_of, r
 use Rattle.lines.specs.declared.Line.{Line}
 use Rattle.cfg.specs.File.{refusal_rows as cfgRows, reading_of, refused as cfgRefused}
 use Rattle.rules.specs.Rules.{refusal_rows as ruleRows, refusal_of as ruledBy}
-use Rattle.save.specs.Writing.{Content, refusal_rows as writeRows, writing_of, written_of, answer_for}
+use Rattle.save.specs.Writing.{Content, refusal_rows as writeRows, writing_of, written_of}
 use Rattle.build.specs.Building.{refusal_rows as buildRows, building_of, built_of, refused as buildRefused}
 
 -- of a table of rows, refused so exactly when that row holds and none before it does; accepted exactly when no row holds

@@ -2,7 +2,6 @@
 use Rattle.std.specs.Prelude.{ℕ, ◌<◌, ◌/◌, ◌%◌, ◌+◌, List, ◌∷◌, [], ◌≡◌, refl, cond, true, length, get_or, eqb}
 use Rattle.std.proofs.Common.{arith, eqb-true, ne_eqb}
 use Rattle.basics.specs.Counts.{any, all, count}
-use Rattle.basics.specs.Refusals.{no_refusal}
 use Rattle.basics.specs.Tables.{made}
 use Rattle.basics.specs.Laws.Tables.{get_d_table}
 use Rattle.basics.specs.Laws.Counts.{all_at}
@@ -12,7 +11,6 @@ use Rattle.text.specs.Spelling.{same}
 use Rattle.lines.specs.declared.Line.{Line}
 use Rattle.lines.specs.Lines.{holds}
 use Rattle.lines.specs.Typed.{cons, nil}
-use Rattle.lines.specs.Bin.{bin_words}
 use Rattle.grammar.specs.Grammar.{rom, paged as pagedEntry, hex_from, dollar, one_digit, bits, ◌>>=◌, rom_line, paged_line, ram_line, mapping_line, memattr_line, heading_line, words_say}
 use Rattle.grammar.specs.Words.{cut}
 use Rattle.cfg.specs.File.{entries_of, reading_of, says_from, outside_from, entries_from}

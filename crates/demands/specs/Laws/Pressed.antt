@@ -8,7 +8,6 @@ use Rattle.basics.specs.Refusals.{no_refusal}
 use Rattle.basics.specs.Laws.Tests.{cases, true_is_not_false}
 use Rattle.places.specs.Limits.{lent, locutus_paragraphs}
 use Rattle.jlp.specs.Accelerators.{fresh_jlp}
-use Rattle.cart.specs.declared.Cartridge.{Cartridge}
 use Rattle.cart.specs.Run.{Access, answers}
 use Rattle.tables.specs.Tables.{cartridge_with}
 use Rattle.label.specs.Label.{label_blocks, wrong_label}
