@@ -1,5 +1,6 @@
 -- The demands' values.
 pub mod Demand1
+pub mod Machine
 pub mod Demand2
 pub mod Tied
 pub mod Pressed
@@ -9,3 +10,4 @@ pub mod Smallest
 pub mod Files
 pub mod Bench
 pub mod Collections
+pub mod Requests
