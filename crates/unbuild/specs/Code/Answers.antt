@@ -2,7 +2,6 @@
 use Rattle.std.specs.Prelude.{ℕ, List, [], ◌∷◌, ◌≡◌, Bool, ◌||◌, cond, eqb, ltb, length}
 use Rattle.basics.specs.Lists.{put_front}
 use Rattle.basics.specs.Refusals.{first_refusal, passes, refuse}
-use Rattle.basics.specs.Rows.{Row}
 use Rattle.basics.specs.declared.Refusal.{Refusal}
 use Rattle.places.specs.Limits.{bin_limit, lent_limit}
 use Rattle.load.specs.Load.{flash_asked, loading_of, refusal_by_size}

@@ -1,5 +1,5 @@
 -- 31, 32, 29, or both buffers written: an answer for each.
-use Rattle.std.specs.Prelude.{◌<◌, ◌≤◌, ℕ, List, [], ◌≡◌, Bool, ◌||◌, length}
+use Rattle.std.specs.Prelude.{◌<◌, ◌≤◌, ℕ, List, ◌≡◌, Bool, ◌||◌, length}
 use Rattle.std.proofs.Common.{◌∙◌, sym, le-ltb, lt-ltb}
 use Rattle.std.proofs.Math.Path.{refl}
 use Rattle.std.proofs.Math.Bool.{false, true}

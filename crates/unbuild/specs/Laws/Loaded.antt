@@ -1,5 +1,5 @@
 -- An image that loads and has JLP field 0, loaded into zeros and into ones with no flash: what is retraced of it is the plan behind it.
-use Rattle.std.specs.Prelude.{◌*◌, ◌+◌, ◌/◌, ◌<◌, ◌≤◌, ℕ, List, ◌≡◌, refl, Bool, ◌&&◌, cond, false, eqb, leb, get_or, length}
+use Rattle.std.specs.Prelude.{◌*◌, ◌+◌, ◌<◌, ◌≤◌, ℕ, List, ◌≡◌, refl, Bool, false, eqb, leb, get_or, length}
 use Rattle.std.proofs.Common.{◌∙◌, sym, arith}
 use Rattle.std.proofs.Math.Path.{ap, subst}
 use Rattle.std.proofs.Math.Bool.{not, true}
@@ -7,23 +7,19 @@ use borrow.Author.Tests.{eq-eqb, leb-true, lt-leb}
 use Rattle.basics.specs.Laws.Counts.{all_at, all_same}
 use Rattle.basics.specs.Laws.Tables.{length_table}
 use Rattle.basics.specs.Laws.Tests.{and_left, and_right, cases, not-false}
-use Rattle.basics.specs.Refusals.{first_refusal}
-use Rattle.basics.specs.Rows.{Row}
 use Rattle.basics.specs.Tables.{table}
 use Rattle.basics.specs.declared.Refusal.{Refusal}
 use Rattle.places.specs.Limits.{lent, lent_limit, line_limit, locutus_paragraphs}
 use Rattle.header.specs.Flags.{jlp_field}
-use Rattle.header.specs.Header.{flags_of, header_rows}
-use Rattle.cart.specs.declared.Cartridge.{Cartridge}
+use Rattle.header.specs.Header.{flags_of}
 use Rattle.tables.specs.Laws.Refusals.{lent_alike}
-use Rattle.tables.specs.Tables.{Tables, cartridge_of, mislent, tables, tables_in, tables_rows}
+use Rattle.tables.specs.Tables.{Tables, cartridge_of, mislent, tables, tables_in}
 use Rattle.blocks.specs.Images.{blocks_in, payload_of_tables}
 use Rattle.load.specs.Laws.Ram.{laid}
 use Rattle.load.specs.Laws.Refusals.{answer_refusal}
-use Rattle.load.specs.Load.{flash_asked, hunks_laid, load_ram_of, loading_of, loads, refusal_by_size, refusal_of, refusal_rows, walk_rows}
+use Rattle.load.specs.Load.{flash_asked, hunks_laid, load_ram_of, loading_of, loads, refusal_by_size, refusal_of}
 use Rattle.load.specs.declared.Loading.{Loading}
 use Rattle.plan.specs.Fewest.{fewest}
-use Rattle.plan.specs.Image.{covered_of}
 use Rattle.plan.specs.Plan.{Plan}
 use Rattle.behind.specs.Behind.{behind}
 use Rattle.behind.specs.Laws.Behind.{behind_valid}
@@ -31,20 +27,18 @@ use Rattle.canon.specs.Bin.{canonical_bin}
 use Rattle.canon.specs.Laws.Good.{length_lines}
 use Rattle.ledger.specs.Code.Lists.{listing_of}
 use Rattle.ledger.specs.Held.{plan_in, words_in}
-use Rattle.ledger.specs.declared.Listing.{Listing}
 use Rattle.retrace.specs.Code.Named.{named_in, word_named}
 use Rattle.retrace.specs.Code.Shown.{marked_in, sketch_of}
 use Rattle.retrace.specs.Laws.Behind.{marked_all}
-use Rattle.retrace.specs.declared.Sketch.{Sketch}
 use Rattle.rebuild.specs.Code.Retraced.{plan_named, retraced_of}
-use Rattle.rebuild.specs.Fits.{fits, lines_fit, names_fit, ram_fits, tables_fit}
+use Rattle.rebuild.specs.Fits.{fits, lines_fit, names_fit, ram_fits}
 use Rattle.rebuild.specs.Laws.Same.{bin_same, in_arrays}
 use Rattle.rebuild.specs.declared.Retraced.{Retraced}
-use Rattle.unbuild.specs.Behind.{bin_behind, cfg_behind, cfg_of, names_paragraph, plan_behind, rebuilds, unbuildable}
+use Rattle.unbuild.specs.Behind.{bin_behind, cfg_behind, names_paragraph, plan_behind, rebuilds, unbuildable}
 use Rattle.unbuild.specs.Code.Answers.{AnswersBy, bin_in, cfgIn}
 use Rattle.unbuild.specs.Content.{image_jlp, image_tables, loaded_word, names_word, whole_ram}
 use Rattle.unbuild.specs.Laws.Answers.{unfit-any}
-use Rattle.unbuild.specs.Laws.Named.{lent_whole, names_below}
+use Rattle.unbuild.specs.Laws.Named.{names_below}
 use Rattle.unbuild.specs.Laws.Two.{lent_ones, names_two, whole_ones}
 use Rattle.unbuild.specs.Laws.Written.{cfg_in}
 use Rattle.unbuild.specs.declared.Unbuilding.{Unbuilding}

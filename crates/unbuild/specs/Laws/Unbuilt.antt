@@ -7,7 +7,7 @@ use Rattle.std.proofs.Math.Dec.{eqb}
 use borrow.Author.Tests.{eqb-false, eqb-true, ne_eqb}
 use Rattle.basics.specs.Laws.Refusals.{refused_front, silent_behind}
 use Rattle.basics.specs.Laws.Tests.{cases}
-use Rattle.basics.specs.Refusals.{first_refusal, no_refusal, passes, refuse}
+use Rattle.basics.specs.Refusals.{first_refusal, passes, refuse}
 use Rattle.basics.specs.Rows.{Row}
 use Rattle.basics.specs.declared.Refusal.{Refusal}
 use Rattle.places.specs.Limits.{lent_limit}

@@ -1,5 +1,5 @@
 -- The CFG of the canonical lines that stand in an array is the canonical CFG.
-use Prim.Native.Nat.{◌%◌, ◌+◌, ◌-◌, ◌/◌, ◌<◌, ◌≤◌, min, suc, zero, ℕ}
+use Prim.Native.Nat.{◌%◌, ◌+◌, ◌-◌, ◌≤◌, min, suc, zero, ℕ}
 use mathlib.Core.List.{List, [], ◌++◌, ◌∷◌, append_assoc, map, map-append}
 use Rattle.std.proofs.Common.{◌∙◌, take-append-drop}
 use Rattle.std.specs.Prelude.{◌≡◌, refl, Bool, cond, false, true, take}
@@ -8,14 +8,12 @@ use native.Mathlib.Omega.{arith}
 use Rattle.std.proofs.Math.ListN.{drop, length, length-append}
 use Rattle.std.proofs.Math.Seq.{drop-append_seam, take-append_seam}
 use Rattle.places.specs.Limits.{flip_entries, line_limit, paragraphs}
-use Rattle.places.specs.Places.{page}
-use Rattle.lines.specs.declared.Entry.{Entry}
 use Rattle.lines.specs.declared.Line.{Line}
 use Rattle.print.specs.Cfg.{cfg_text}
 use Rattle.print.specs.Code.Texts.{page_digit}
-use Rattle.sheet.specs.Code.Sheets.{cfg_lines, cfg_of_lines, entries_in}
+use Rattle.sheet.specs.Code.Sheets.{cfg_of_lines, entries_in}
 use Rattle.plan.specs.Plan.{Plan, has_page}
-use Rattle.canon.specs.Canonical.{mapping_entries, memattr_entries, page_entry, ram_entry, rom_entry, starts_ram, starts_rom}
+use Rattle.canon.specs.Canonical.{mapping_entries, memattr_entries, page_entry, starts_ram, starts_rom}
 use Rattle.canon.specs.Laws.Lines.{canonical_lines, page_line, ram_line, rom_line}
 use Rattle.basics.specs.Listed.{listed}
 use Rattle.ledger.specs.Code.Lists.{listing_of, mapping_lines, rom_lines, shown}
