@@ -1,6 +1,5 @@
 -- Theorems over the definitions.
 pub mod Frames
 pub mod Images
-pub mod Judged
 pub mod Payloads
 pub mod ReadBack

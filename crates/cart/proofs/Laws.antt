@@ -14,7 +14,7 @@ use Rattle.cart.specs.declared.Cartridge.{Cartridge}
 use Rattle.cart.specs.declared.Rights.{Rights}
 use Rattle.cart.specs.declared.Taker.{Taker}
 use Rattle.cart.specs.Cells.{READ, paragraph, locate, rights_of, cell_at}
-use Rattle.cart.specs.Laws.Readable.{flip_readable}
+use Rattle.cart.proofs.Theorems.Readable.{flip_readable}
 use Rattle.cart.specs.Readable.{readable_in, readable_of, recounted}
 use Rattle.cart.specs.Laws.Writes.{by_mapping, by_permissions, by_ram, by_flash, by_readable, by_assigned}
 use Rattle.cart.specs.Writes.{taker_of, left_by, readable_by, assigned_by, leaves, assigned, leaves_readable}

@@ -2,8 +2,4 @@
 pub mod Reads
 pub mod Writes
 pub mod Banks
-pub mod Jlp
-pub mod Moves
-pub mod Readable
 pub mod Run
-pub mod Flash

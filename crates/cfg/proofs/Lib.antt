@@ -2,3 +2,4 @@ pub mod Scans
 pub mod Notes
 pub mod Answers
 pub mod Same
+pub mod Theorems

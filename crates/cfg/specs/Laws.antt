@@ -1,4 +1,3 @@
 -- Theorems over the definitions.
 pub mod Refusals
-pub mod Entries
 pub mod Examples

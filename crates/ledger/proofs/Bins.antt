@@ -21,7 +21,8 @@ use Rattle.places.specs.Limits.{chapter_pages, flip_entries, paragraph_size, par
 use Rattle.plan.specs.Plan.{has_page}
 use Rattle.canon.specs.Bin.{be16, canonical_bin, canonical_words, or_zero, page_place, paged_words, plain_place, rom_words, words_from}
 use Rattle.canon.specs.Canonical.{is_rom, page_words}
-use Rattle.canon.specs.Laws.Bin.{all_long, bin_size, length_bin, length_bytes, rising}
+use Rattle.canon.specs.Laws.Bin.{bin_size}
+use Rattle.canon.proofs.Theorems.Bin.{all_long, length_bin, length_bytes, rising}
 use Rattle.basics.specs.Laws.Listed.{length_more}
 use Rattle.basics.specs.Listed.{listed}
 use Rattle.ledger.specs.Held.{plan_in, words_in}

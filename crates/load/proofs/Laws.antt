@@ -34,7 +34,7 @@ use Rattle.blocks.specs.Frames.{frame_at}
 use Rattle.blocks.specs.Images.{blocks_in}
 use Rattle.blocks.specs.Judged.{judged_of}
 use Rattle.blocks.specs.Laws.Frames.{FrameIs, frame_held}
-use Rattle.blocks.specs.Laws.Judged.{standing, judged_standing, judged_within}
+use Rattle.blocks.proofs.Theorems.Judged.{standing, judged_standing, judged_within}
 use Rattle.load.specs.declared.Verdict.TheVariants.{Refused, Loads}
 use Rattle.load.specs.declared.Loading.{Loading}
 use Rattle.load.specs.declared.Step.TheVariants.{Ends, No, Next}

@@ -26,7 +26,7 @@ use Rattle.blocks.specs.Frames.{frame_at, on_frame}
 use Rattle.blocks.specs.Judged.{judge_rows}
 use Rattle.blocks.specs.Images.{blocks_in, judge_all, any_tables, hunks_in, word_count}
 use Rattle.blocks.specs.Laws.Frames.{framed_type}
-use Rattle.blocks.specs.Laws.Judged.{judge_refuses, Passed, passed}
+use Rattle.blocks.proofs.Theorems.Judged.{judge_refuses, Passed, passed}
 use Rattle.blocks.specs.Laws.Images.{At, at_start, Next as NextAt, at_next, Stops, at_over, at_cut, judge_append, any_tables_more, hunks_more, words_more}
 use Rattle.load.specs.declared.Step.{Step}
 use Rattle.load.specs.declared.Step.TheVariants.{Ends, No, Next}

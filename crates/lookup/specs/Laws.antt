@@ -4,4 +4,3 @@ pub mod Lookup
 pub mod Shown
 pub mod Found
 pub mod Standing
-pub mod Behind

@@ -28,7 +28,7 @@ use Rattle.blocks.specs.Blocks.{payload_in}
 use Rattle.blocks.specs.Frames.{frame_at}
 use Rattle.blocks.specs.Judged.{judged_of}
 use Rattle.blocks.specs.Laws.Frames.{FrameIs, frame_held}
-use Rattle.blocks.specs.Laws.Judged.{standing, judged_standing, judged_within}
+use Rattle.blocks.proofs.Theorems.Judged.{standing, judged_standing, judged_within}
 use Rattle.blocks.specs.Laws.Payloads.{payload_lent, payload_sum_lem}
 use Rattle.load.specs.Code.Passes.{judgement_of}
 use Rattle.recovery.specs.declared.Stopped.TheVariants.{Nowhere, At}

@@ -32,7 +32,7 @@ use Rattle.blocks.specs.Blocks.{type_of, size_said, payload_in, is_tables}
 use Rattle.blocks.specs.Frames.{frame_at, on_frame}
 use Rattle.blocks.specs.Images.{blocks_in, any_tables, payload_of_tables}
 use Rattle.blocks.specs.Laws.Frames.{framed_type}
-use Rattle.blocks.specs.Laws.Judged.{judge_refuses, Passed, passed}
+use Rattle.blocks.proofs.Theorems.Judged.{judge_refuses, Passed, passed}
 use Rattle.blocks.specs.Laws.Images.{At, at_start, Next, at_next, Stops as StopsAt, at_over, at_cut, any_tables_more}
 use Rattle.load.specs.Code.Passes.{judgement_of}
 use Rattle.recovery.specs.declared.Stopped.{Stopped}

@@ -34,7 +34,7 @@ use Rattle.save.specs.Chosen.{tables_block, hunk_block}
 use Rattle.save.specs.Writing.{Content, content, is_marked, marked, image_by, past, refusal_of, answer_for, writing_of, written_of}
 use Rattle.save.specs.Code.Writing.{block_limit, front_of, front_size, hunk_bytes, image_size, judged_by}
 use Rattle.save.specs.Laws.Chosen.{image_parts, length_image}
-use Rattle.save.specs.Laws.Refusals.{Accepted, accepted_so}
+use Rattle.save.proofs.Theorems.Refusals.{Accepted, accepted_so}
 
 -- past a RAM's end
 pub no_word : (ram : List ℕ) (at : ℕ) → length ram ≤ at → 0 ≡ get_or ram at 0

@@ -1,4 +1,3 @@
 -- Theorems over the definitions.
 pub mod Chosen
-pub mod Refusals
 pub mod Within

@@ -10,7 +10,8 @@ use Rattle.basics.specs.Lists.{put_front}
 use Rattle.basics.specs.Refusals.{no_refusal, refuse}
 use Rattle.basics.specs.declared.Refusal.{Refusal}
 use Rattle.places.specs.Limits.{bin_limit}
-use Rattle.canon.specs.Laws.Bin.{bin_size, length_bin}
+use Rattle.canon.specs.Laws.Bin.{bin_size}
+use Rattle.canon.proofs.Theorems.Bin.{length_bin}
 use Rattle.ledger.specs.Held.{plan_in, words_in}
 use Rattle.ledger.specs.declared.Listing.{Listing}
 use Rattle.retrace.specs.declared.Sketch.{Sketch}

@@ -17,7 +17,7 @@ use Rattle.lines.specs.Bin.{bin_words}
 use Rattle.cfg.specs.declared.Reading.{Reading}
 use Rattle.cfg.specs.File.{reading_of, entries_of, too_long, has_foreign, has_outside, no_entry, too_many, refusal_rows as cfgRows, refusal_of as cfgRefusal}
 use Rattle.cfg.specs.Laws.Refusals.{exactly, refusal_is}
-use Rattle.cfg.specs.Laws.Entries.{accepted_holds, Holds, all_typed}
+use Rattle.cfg.proofs.Theorems.Entries.{accepted_holds, Holds, all_typed}
 use Rattle.rules.specs.Rules.{line_rows, out_of_range, not_allowed, share_rows, shares_earlier, chapter_rows, breaks_plain, refusal_rows as ruleRows, refusal_of as ruleRefusal}
 use Rattle.rules.specs.Laws.Refusals.{each_refuses as rules-refuse, exactly as rules-exactly}
 use Rattle.rules.specs.Accepted.{Accepted}

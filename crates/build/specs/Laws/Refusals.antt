@@ -14,13 +14,13 @@ use Rattle.lines.specs.declared.Line.{Line}
 use Rattle.lines.specs.Bin.{bin_words}
 use Rattle.cfg.specs.File.{refusal_rows as cfgRows, entries_of, reading_of}
 use Rattle.cfg.specs.Laws.Refusals.{each_refuses as cfg-refuses, exactly}
-use Rattle.cfg.specs.Laws.Entries.{Holds, accepted_holds, all_typed}
+use Rattle.cfg.proofs.Theorems.Entries.{Holds, accepted_holds, all_typed}
 use Rattle.rules.specs.Rules.{refusal_rows as ruleRows}
 use Rattle.rules.specs.Laws.Refusals.{each_refuses as rules-refuse, exactly as rules-exactly}
 use Rattle.rules.specs.Laws.Rules.{Good}
 use Rattle.rules.specs.Accepted.{Accepted}
 use Rattle.layout.specs.Layout.{needed, pages}
-use Rattle.plan.specs.Laws.Pages.{few_pages}
+use Rattle.plan.proofs.Theorems.Pages.{few_pages}
 use Rattle.label.specs.Label.{wrong_label}
 use Rattle.build.specs.Building.{too_large, room_rows, refusal_rows, refusal_of, builds, building_of, built_of}
 

@@ -1,6 +1,6 @@
 -- `cart::readable_in` meets its contract. The loop's invariant: k is the count of the first i.
 use Rattle.std.proofs.Common.{rules}
-use Rattle.cart.specs.Laws.Readable.{readable_none, readable_next, readable_done}
+use Rattle.cart.proofs.Theorems.Readable.{readable_none, readable_next, readable_done}
 use Rattle.cart.proofs.readable_in.Goals as goal
 
 pub loop-i-init : goal.loop-i-init

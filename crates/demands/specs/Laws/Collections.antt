@@ -20,7 +20,7 @@ use Rattle.grammar.specs.Grammar.{rom, paged as pagedEntry, hex_from, dollar, on
 use Rattle.grammar.specs.Words.{cut}
 use Rattle.cfg.specs.File.{entries_of, reading_of, says_from, outside_from, entries_from, refusal_rows as cfgRows}
 use Rattle.cfg.specs.Laws.Refusals as Cfg
-use Rattle.cfg.specs.Laws.Entries.{Holds, accepted_holds, all_typed}
+use Rattle.cfg.proofs.Theorems.Entries.{Holds, accepted_holds, all_typed}
 use Rattle.rules.specs.Accepted.{Accepted}
 use Rattle.rules.specs.Chapters.{paged, uses, under, bare}
 use Rattle.rules.specs.Rules.{refusal_rows as ruleRows, refusal_of as ruledBy, touches_silent, plain_shape, shares, breaks_plain, page_shape}

@@ -1,8 +1,8 @@
 -- Demand 2, proved.
 use Rattle.std.specs.Prelude.{length}
-use Rattle.cart.specs.Laws.Flash.{as_rows}
-use Rattle.load.specs.Laws.Ram.{leaves}
-use Rattle.trip.specs.Laws.RoundTrip.{written_loads}
+use Rattle.cart.proofs.Theorems.Flash.{as_rows}
+use Rattle.load.proofs.Theorems.Ram.{leaves}
+use Rattle.trip.proofs.Theorems.RoundTrip.{written_loads}
 use Rattle.demands.specs.Demand2.{Demand2}
 
 pub demand_2 : Demand2

@@ -16,8 +16,8 @@ use Rattle.load.specs.declared.Loading.{Loading}
 use Rattle.load.specs.Load.{load_ram_of, loading_of}
 use Rattle.trip.specs.Smallest.{Alike}
 use Rattle.trip.specs.Laws.LoadImage.{Other, other_metadata}
-use Rattle.trip.specs.Laws.RoundTrip.{LoadsChosen, load_chosen}
-use Rattle.trip.specs.Laws.Smallest.{chosen_smallest}
+use Rattle.trip.proofs.Theorems.RoundTrip.{LoadsChosen, load_chosen}
+use Rattle.trip.proofs.Theorems.Smallest.{chosen_smallest}
 use Rattle.lines.specs.declared.Line.{Line}
 use Rattle.cfg.specs.File.{entries_of}
 use Rattle.rules.specs.Accepted.{Accepted}

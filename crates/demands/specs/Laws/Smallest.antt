@@ -1,6 +1,6 @@
 -- The fewest bytes, proved.
 use Rattle.std.specs.Prelude.{length}
-use Rattle.trip.specs.Laws.Smallest.{written_smallest}
+use Rattle.trip.proofs.Theorems.Smallest.{written_smallest}
 use Rattle.demands.specs.Smallest.{Smallest}
 use Rattle.demands.specs.Laws.Pressed.{pressed_smallest}
 

@@ -1,5 +1,5 @@
 -- `load::load` meets its contract: one law for the answer and one for the RAM, for each way out.
-use Rattle.load.specs.Laws.Passes.{head_answers, head_keeps, header_enough, walk_answers, walk_keeps, loads_tabled, done_so}
+use Rattle.load.proofs.Theorems.Passes.{head_answers, head_keeps, header_enough, walk_answers, walk_keeps, loads_tabled, done_so}
 use borrow.Author.Rules.{rules}
 use Rattle.load.proofs.load.Goals as goal
 

@@ -1,5 +1,5 @@
 -- `load::refusal_for` meets its contract: one law for each way out.
-use Rattle.load.specs.Laws.Passes.{refusal_head, header_enough, loads_tabled, refusal_walk, refusal_tables}
+use Rattle.load.proofs.Theorems.Passes.{refusal_head, header_enough, loads_tabled, refusal_walk, refusal_tables}
 use borrow.Author.Rules.{rules}
 use Rattle.load.proofs.refusal_for.Goals as goal
 

@@ -6,7 +6,7 @@ use Rattle.basics.specs.Laws.Tests.{cases}
 use Rattle.places.specs.Limits.{paragraphs, flip_entries}
 use Rattle.cart.specs.Readable.{readable_of}
 use Rattle.cart.specs.Run.{Access, World, after}
-use Rattle.cart.specs.Laws.Readable.{Counted, fresh_counted, after_counted, none_readable}
+use Rattle.cart.proofs.Theorems.Readable.{Counted, fresh_counted, after_counted, none_readable}
 use Rattle.tables.specs.Tables.{tables_in, cartridge_of}
 use Rattle.load.specs.Load.{loads, loading_of}
 

@@ -16,7 +16,7 @@ use Rattle.tables.specs.Laws.Refusals.{tables_refusing}
 use Rattle.blocks.specs.Blocks.{is_tables}
 use Rattle.blocks.specs.Judged.{judge_rows}
 use Rattle.blocks.specs.Images.{first_block, blocks_in, stop_of, is_cut, judge_all, any_tables, payload_of_tables}
-use Rattle.blocks.specs.Laws.Judged.{judge_refusing}
+use Rattle.blocks.proofs.Theorems.Judged.{judge_refusing}
 use Rattle.load.specs.Load.{walk_rows, refusal_rows, refusal_of, loads, loading_of, load_ram_of}
 
 -- each row refuses

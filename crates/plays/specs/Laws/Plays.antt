@@ -5,7 +5,7 @@ use Rattle.switches.specs.Banks.{BANKSW}
 use Rattle.jlp.specs.declared.Jlp.{Jlp}
 use Rattle.cart.specs.declared.Answer.{Answer}
 use Rattle.cart.specs.Run.{World, Access, step, Read, Write, Reset, said, after, answers}
-use Rattle.cart.specs.Laws.Flash.{off_keeps_flash}
+use Rattle.cart.proofs.Theorems.Flash.{off_keeps_flash}
 use Rattle.lines.specs.declared.Line.{Line}
 use Rattle.rules.specs.Laws.Rules.{Good, good}
 use Rattle.rules.specs.Accepted.{Accepted}

@@ -29,7 +29,7 @@ use Rattle.cart.specs.Reads.{silent, fetched, read_by}
 use Rattle.cart.specs.Writes.{flip_taker, taker_of, stored_word, stored, memories_by, leaves, leaves_ram, leaves_readable}
 use Rattle.cart.specs.Cartridges.{active_of, read_of, write_of, write_ram_of}
 use Rattle.cart.specs.Laws.Banks.{ordinary}
-use Rattle.cart.specs.Laws.Jlp.{unaccelerated_taker}
+use Rattle.cart.proofs.Theorems.Jlp.{unaccelerated_taker}
 use Rattle.lines.specs.declared.Line.{Line}
 use Rattle.lines.specs.declared.Width.TheVariants.{Sixteen, Eight}
 use Rattle.lines.specs.Lines.{line_at, layer, is_ram}

@@ -12,16 +12,16 @@ use Rattle.layout.specs.Drawing.{drawing_of}
 use Rattle.layout.specs.Layout.{covered, flip_table, mapping_table, pages, permissions_table}
 use Rattle.plan.specs.Fewest.{fewest}
 use Rattle.plan.specs.Image.{covered_of, flips_of, mapping_of, pages_of, permissions_of}
-use Rattle.plan.specs.Laws.Planned.{planned}
+use Rattle.plan.proofs.Theorems.Planned.{planned}
 use Rattle.plan.specs.OfLines.{plan_of}
 use Rattle.plan.specs.Plan.{Plan}
 use Rattle.plan.specs.Planned.{Planned}
 use Rattle.plan.specs.Valid.{Valid}
 use Rattle.behind.specs.Builds.{plan_tables}
-use Rattle.behind.specs.Laws.Alike.{Alike, base_alike, covered_alike, same_alike, tables_alike}
+use Rattle.behind.proofs.Theorems.Alike.{Alike, base_alike, covered_alike, same_alike, tables_alike}
 use Rattle.canon.specs.Laws.Lines.{canonical_lines}
-use Rattle.canon.specs.Laws.Made.{canonical_accepted}
-use Rattle.canon.specs.Laws.OfPlan.{plan_of_lines}
+use Rattle.canon.proofs.Theorems.Made.{canonical_accepted}
+use Rattle.canon.proofs.Theorems.OfPlan.{plan_of_lines}
 
 module _ (q : Plan) (w : ℕ → ℕ) (v : Valid q) (few : fewest q ≤ line_limit) where
   abbrev lines : List Line

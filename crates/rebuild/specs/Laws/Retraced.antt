@@ -18,8 +18,8 @@ use Rattle.plan.specs.Fewest.{fewest}
 use Rattle.plan.specs.Image.{covered_of, pages_of, ram_covered_of}
 use Rattle.plan.specs.Plan.{Plan}
 use Rattle.plan.specs.Valid.{Valid}
-use Rattle.behind.specs.Laws.Behind.{behind_valid}
-use Rattle.canon.specs.Laws.Good.{length_lines}
+use Rattle.behind.proofs.Theorems.Behind.{behind_valid}
+use Rattle.canon.proofs.Theorems.Good.{length_lines}
 use Rattle.canon.specs.Laws.Lines.{canonical_lines}
 use Rattle.canon.specs.Made.{blank_in}
 use Rattle.ledger.specs.Code.Lists.{listing_of, no_line, shown}

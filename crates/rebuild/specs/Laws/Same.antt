@@ -19,8 +19,8 @@ use Rattle.plan.specs.Image.{base, page_at, ram_covered_of}
 use Rattle.plan.specs.Plan.{Plan, has_page, kinds}
 use Rattle.plan.specs.Valid.{allowed, is_ram_kind, may_flip}
 use Rattle.behind.specs.Behind.{behind, chapter_behind, has_entries}
-use Rattle.behind.specs.Laws.Alike.{page_same, ram_alike, same_alike}
-use Rattle.behind.specs.Laws.Fewer.{kind_at_lem, page_at_lem}
+use Rattle.behind.proofs.Theorems.Alike.{page_same, ram_alike, same_alike}
+use Rattle.behind.proofs.Theorems.Fewer.{kind_at_lem, page_at_lem}
 use Rattle.behind.specs.Laws.Star.{Same}
 use Rattle.canon.specs.Bin.{canonical_bin, canonical_words}
 use Rattle.canon.specs.Canonical.{is_rom, mapping_entries, page_entry, page_offset, page_start, page_words, ram_entry, ram_width, reach, rom_entry, starts_ram, starts_rom}

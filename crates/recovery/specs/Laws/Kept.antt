@@ -16,7 +16,7 @@ use Rattle.blocks.specs.declared.Judged.{Judged}
 use Rattle.blocks.specs.Blocks.{type_of, payload_in, is_tables, is_hunk, Block}
 use Rattle.blocks.specs.Judged.{is_encrypted, wrong_sum, wrong_metadata, wrong_tables, wrong_hunk, break_in, judge_rows, judged_of}
 use Rattle.blocks.specs.Images.{judge_all, any_tables, payload_of_tables}
-use Rattle.blocks.specs.Laws.Judged.{standing, judged_standing, passed}
+use Rattle.blocks.proofs.Theorems.Judged.{standing, judged_standing, passed}
 use Rattle.recovery.specs.Salvage.{number_for, left_out, kept, drops_from, block_rows, kept_rows}
 
 -- ---- the number that a block is refused with, at any place

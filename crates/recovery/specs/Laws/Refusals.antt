@@ -25,7 +25,7 @@ use Rattle.tables.specs.Tables.{tables_in, flash_words}
 use Rattle.tables.specs.Laws.Refusals.{tables_refusing}
 use Rattle.blocks.specs.Blocks.{payload_in, is_tables}
 use Rattle.blocks.specs.Images.{first_block, blocks_in, payload_of_tables}
-use Rattle.blocks.specs.Laws.Judged.{judge_refusing}
+use Rattle.blocks.proofs.Theorems.Judged.{judge_refusing}
 use Rattle.recovery.specs.Salvage.{left_out, salvage_of, block_rows, kept_rows, blocks_rows, image_rows, refusal_rows, image_refusal, refusal_of, salvaged, fitted, salvaging_of, written_of}
 use Rattle.recovery.specs.Laws.Salvage.{Salvages, salvages}
 

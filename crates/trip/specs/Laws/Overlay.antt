@@ -14,7 +14,7 @@ use Rattle.places.specs.Limits.{locutus_paragraphs}
 use Rattle.hunk.specs.Hunk.{Hunk}
 use Rattle.blocks.specs.Images.{overlay}
 use Rattle.blocks.specs.Laws.Images.{overlay_more}
-use Rattle.load.specs.Laws.Ram.{length_overlay}
+use Rattle.load.proofs.Theorems.Ram.{length_overlay}
 use Rattle.save.specs.Chosen.{paragraph_hunk, chosen}
 use Rattle.save.specs.Laws.Chosen.{chosen_off, chosen_on, Lies}
 use Rattle.trip.specs.Trip.{Overlaid}

@@ -23,7 +23,7 @@ use Rattle.load.specs.Load.{flash_asked, loading_of}
 use Rattle.lines.specs.Bin.{bin_words}
 use Rattle.lines.specs.declared.Line.{Line}
 use Rattle.cfg.specs.File.{refusal_rows as cfgRows, entries_of, reading_of}
-use Rattle.cfg.specs.Laws.Entries.{Holds, accepted_holds, all_typed}
+use Rattle.cfg.proofs.Theorems.Entries.{Holds, accepted_holds, all_typed}
 use Rattle.cfg.specs.Laws.Refusals.{each_refuses as cfg-refuses, exactly as cfg-exactly}
 use Rattle.rules.specs.Accepted.{Accepted}
 use Rattle.rules.specs.Laws.Refusals.{each_refuses as rules-refuse, exactly as rules-exactly}
@@ -33,21 +33,22 @@ use Rattle.layout.specs.Laws.Uses.{covered_inside}
 use Rattle.layout.specs.Layout.{covered, line_held, needed}
 use Rattle.plan.specs.Fewest.{fewest}
 use Rattle.plan.specs.Image.{covered_of, flips_of, mapping_of, pages_of, permissions_of, ram_covered_of}
-use Rattle.plan.specs.Laws.Planned.{planned}
+use Rattle.plan.proofs.Theorems.Planned.{planned}
 use Rattle.plan.specs.OfLines.{plan_of}
 use Rattle.plan.specs.Plan.{Plan}
 use Rattle.plan.specs.Planned.{Planned}
 use Rattle.plan.specs.Valid.{Valid}
 use Rattle.behind.specs.Builds.{Builds, plan_tables}
-use Rattle.behind.specs.Laws.Alike.{Alike, base_alike, covered_alike, ram_alike, same_alike}
-use Rattle.behind.specs.Laws.Behind.{behind_valid}
-use Rattle.behind.specs.Laws.Exactly.{fewest_behind, pages_behind}
+use Rattle.behind.proofs.Theorems.Alike.{Alike, base_alike, covered_alike, ram_alike, same_alike}
+use Rattle.behind.proofs.Theorems.Behind.{behind_valid}
+use Rattle.behind.proofs.Theorems.Exactly.{fewest_behind, pages_behind}
 use Rattle.canon.specs.Bin.{canonical_bin}
-use Rattle.canon.specs.Laws.Bin.{bin_size, length_bin}
-use Rattle.canon.specs.Laws.Good.{length_lines}
+use Rattle.canon.specs.Laws.Bin.{bin_size}
+use Rattle.canon.proofs.Theorems.Bin.{length_bin}
+use Rattle.canon.proofs.Theorems.Good.{length_lines}
 use Rattle.canon.specs.Laws.Lines.{canonical_lines}
-use Rattle.canon.specs.Laws.Made.{canonical_accepted, exactly_made, lines_build, plan_made, ram_some}
-use Rattle.canon.specs.Laws.OfPlan.{plan_of_lines}
+use Rattle.canon.proofs.Theorems.Made.{canonical_accepted, exactly_made, lines_build, plan_made, ram_some}
+use Rattle.canon.proofs.Theorems.OfPlan.{plan_of_lines}
 use Rattle.canon.specs.Made.{Made, blank_in}
 use Rattle.build.specs.Building.{pressed_image, too_large}
 use Rattle.rebuild.specs.Fits.{agree, fits, lines_fit, names_fit, ram_fits, tables_fit}

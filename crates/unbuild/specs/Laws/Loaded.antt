@@ -15,16 +15,16 @@ use Rattle.header.specs.Header.{flags_of}
 use Rattle.tables.specs.Laws.Refusals.{lent_alike}
 use Rattle.tables.specs.Tables.{Tables, cartridge_of, mislent, tables, tables_in}
 use Rattle.blocks.specs.Images.{blocks_in, payload_of_tables}
-use Rattle.load.specs.Laws.Ram.{laid}
+use Rattle.load.proofs.Theorems.Ram.{laid}
 use Rattle.load.specs.Laws.Refusals.{answer_refusal}
 use Rattle.load.specs.Load.{flash_asked, hunks_laid, load_ram_of, loading_of, loads, refusal_by_size, refusal_of}
 use Rattle.load.specs.declared.Loading.{Loading}
 use Rattle.plan.specs.Fewest.{fewest}
 use Rattle.plan.specs.Plan.{Plan}
 use Rattle.behind.specs.Behind.{behind}
-use Rattle.behind.specs.Laws.Behind.{behind_valid}
+use Rattle.behind.proofs.Theorems.Behind.{behind_valid}
 use Rattle.canon.specs.Bin.{canonical_bin}
-use Rattle.canon.specs.Laws.Good.{length_lines}
+use Rattle.canon.proofs.Theorems.Good.{length_lines}
 use Rattle.ledger.specs.Code.Lists.{listing_of}
 use Rattle.ledger.specs.Held.{plan_in, words_in}
 use Rattle.retrace.specs.Code.Named.{named_in, word_named}

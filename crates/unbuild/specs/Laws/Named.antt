@@ -7,7 +7,7 @@ use Rattle.basics.specs.Laws.Tests.{and_left, and_right, and_true, cases, compar
 use Rattle.places.specs.Limits.{lent, lent_limit}
 use Rattle.hunk.specs.Hunk.{Hunk}
 use Rattle.blocks.specs.Images.{blocks_in, hunks_in}
-use Rattle.load.specs.Laws.Ram.{leaves}
+use Rattle.load.proofs.Theorems.Ram.{leaves}
 use Rattle.load.specs.Leaves.{Leaves, named, names}
 use Rattle.load.specs.Load.{flash_asked, loading_of, load_ram_of}
 use Rattle.save.specs.Chosen.{chosen, paragraph_hunk}

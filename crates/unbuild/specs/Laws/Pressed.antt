@@ -26,7 +26,7 @@ use Rattle.save.specs.Chosen.{Sized, chosen, hunk_block, image_with, tables_bloc
 use Rattle.save.specs.Laws.Chosen.{Lies, chosen_each}
 use Rattle.trip.specs.Laws.LoadImage.{hunks_all, hunks_back, image_blocks}
 use Rattle.trip.specs.Laws.Overlay.{EachLies}
-use Rattle.trip.specs.Laws.RoundTrip.{LoadsChosen, load_chosen}
+use Rattle.trip.proofs.Theorems.RoundTrip.{LoadsChosen, load_chosen}
 use Rattle.lines.specs.declared.Line.{Line}
 use Rattle.cfg.specs.File.{entries_of}
 use Rattle.rules.specs.Accepted.{Accepted}

@@ -15,18 +15,18 @@ use Rattle.lines.specs.declared.Entry.{Entry}
 use Rattle.lines.specs.declared.Line.{Line}
 use Rattle.cfg.specs.File.{entries_of, refusal_rows}
 use Rattle.print.specs.Cfg.{InMapping, InMemattr, lines_in, memattr_at, numbered}
-use Rattle.print.specs.Laws.Lines.{told_mapping, told_memattr}
-use Rattle.print.specs.Laws.ReadBack.{ReadsBack, reads_back, written_silent}
+use Rattle.print.proofs.Theorems.Lines.{told_mapping, told_memattr}
+use Rattle.print.proofs.Theorems.ReadBack.{ReadsBack, reads_back, written_silent}
 use Rattle.print.specs.Laws.Shown.{AllWritten}
 use Rattle.plan.specs.Fewest.{fewest}
 use Rattle.plan.specs.Plan.{Plan, has_page}
 use Rattle.plan.specs.Valid.{Valid}
 use Rattle.canon.specs.Canonical.{is_rom, mapping_entries, memattr_entries, page_entry, page_offset, page_words, ram_entry, rom_entry, starts_ram, starts_rom}
-use Rattle.canon.specs.Laws.Bin.{page_rise, rising}
-use Rattle.canon.specs.Laws.Good.{length_lines}
+use Rattle.canon.proofs.Theorems.Bin.{page_rise, rising}
+use Rattle.canon.proofs.Theorems.Good.{length_lines}
 use Rattle.canon.specs.Laws.Lines.{canonical_lines, line, page_line, ram_line, rom_line}
 use Rattle.basics.specs.Laws.Listed.{each_listed, length_listed}
-use Rattle.canon.specs.Laws.OfPlan.{OfRun, ram_of_lem, rom_of_lem}
+use Rattle.canon.proofs.Theorems.OfPlan.{OfRun, ram_of_lem, rom_of_lem}
 use Rattle.basics.specs.Listed.{listed}
 use Rattle.unbuild.specs.Behind.{cfg_of}
 

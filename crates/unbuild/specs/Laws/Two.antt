@@ -5,7 +5,7 @@ use Rattle.std.proofs.lemmas.List.{get_or-replicate, length-replicate}
 use Rattle.basics.specs.Laws.Tests.{cases}
 use Rattle.places.specs.Limits.{lent, lent_limit}
 use Rattle.blocks.specs.Images.{blocks_in, hunks_in}
-use Rattle.load.specs.Laws.Ram.{leaves}
+use Rattle.load.proofs.Theorems.Ram.{leaves}
 use Rattle.load.specs.Leaves.{Leaves}
 use Rattle.load.specs.Load.{load_ram_of, loading_of}
 use Rattle.unbuild.specs.Content.{names_word, whole_ram}

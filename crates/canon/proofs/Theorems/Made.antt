@@ -35,25 +35,25 @@ use Rattle.layout.specs.Drawing.{word_at}
 use Rattle.layout.specs.Layout.{covered, layer_held, line_held, page_of, pages, paragraph_held, slot_of_page, used, written_by, written_of}
 use Rattle.plan.specs.Fewest.{fewest, starts}
 use Rattle.plan.specs.Image.{base, holds_ram, page_at, ram_covered_of}
-use Rattle.plan.specs.Laws.Planned.{planned}
-use Rattle.plan.specs.Laws.Tables.{page_page, plain_page}
+use Rattle.plan.proofs.Theorems.Planned.{planned}
+use Rattle.plan.proofs.Theorems.Tables.{page_page, plain_page}
 use Rattle.plan.specs.OfLines.{plan_of}
 use Rattle.plan.specs.Plan.{Plan, kinds}
 use Rattle.plan.specs.Planned.{Planned}
 use Rattle.plan.specs.Valid.{Valid, is_ram_kind}
 use Rattle.behind.specs.Behind.{behind}
 use Rattle.behind.specs.Builds.{Builds}
-use Rattle.behind.specs.Laws.Alike.{Alike, base_alike, covered_alike, page_same, same_alike, tables_alike}
-use Rattle.behind.specs.Laws.Behind.{behind_valid}
-use Rattle.behind.specs.Laws.Exactly.{exactly}
-use Rattle.behind.specs.Laws.Fewer.{kind_at_lem}
+use Rattle.behind.proofs.Theorems.Alike.{Alike, base_alike, covered_alike, page_same, same_alike, tables_alike}
+use Rattle.behind.proofs.Theorems.Behind.{behind_valid}
+use Rattle.behind.proofs.Theorems.Exactly.{exactly}
+use Rattle.behind.proofs.Theorems.Fewer.{kind_at_lem}
 use Rattle.canon.specs.Bin.{canonical_bin}
 use Rattle.canon.specs.Canonical.{ram_entry, run_at, starts_ram}
-use Rattle.canon.specs.Laws.Bin.{Wants, all_in, all_typed, all_wants, bin_words_lem, layer_page}
-use Rattle.canon.specs.Laws.Good.{good_lines, length_lines}
+use Rattle.canon.proofs.Theorems.Bin.{Wants, all_in, all_typed, all_wants, bin_words_lem, layer_page}
+use Rattle.canon.proofs.Theorems.Good.{good_lines, length_lines}
 use Rattle.canon.specs.Laws.Judged.{judged_silent}
 use Rattle.canon.specs.Laws.Lines.{canonical_numbered, canonical_lines}
-use Rattle.canon.specs.Laws.OfPlan.{OfRun, plan_of_lines, ram_of_lem}
+use Rattle.canon.proofs.Theorems.OfPlan.{OfRun, plan_of_lines, ram_of_lem}
 use Rattle.canon.specs.Laws.Some.{plan_some}
 use Rattle.canon.specs.Made.{Made, blank_in}
 

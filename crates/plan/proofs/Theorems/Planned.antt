@@ -4,9 +4,9 @@ use Rattle.lines.specs.declared.Line.{Line}
 use Rattle.rules.specs.Accepted.{Accepted}
 use Rattle.rules.specs.Laws.Rules.{good}
 use Rattle.plan.specs.Planned.{Planned}
-use Rattle.plan.specs.Laws.Tables.{mapping_is, permissions_is, flips_is, pages_is}
-use Rattle.plan.specs.Laws.Covered.{covered_is, ram_is}
-use Rattle.plan.specs.Laws.Valid.{plan_valid}
+use Rattle.plan.proofs.Theorems.Tables.{mapping_is, permissions_is, flips_is, pages_is}
+use Rattle.plan.proofs.Theorems.Covered.{covered_is, ram_is}
+use Rattle.plan.proofs.Theorems.Valid.{plan_valid}
 use Rattle.plan.specs.Laws.Fewest.{plan_fewest}
 
 pub planned : {bin : List ℕ} {lines : List Line} → Accepted bin lines → Planned lines

@@ -22,8 +22,8 @@ use Rattle.plan.specs.Image.{size, base, pages_of}
 use Rattle.plan.specs.Fewest.{starts, fewest}
 use Rattle.plan.specs.OfLines.{plan_of}
 use Rattle.plan.specs.Laws.Runs.{starts_of}
-use Rattle.plan.specs.Laws.Tables.{pages_is}
-use Rattle.plan.specs.Laws.Valid.{plan_valid}
+use Rattle.plan.proofs.Theorems.Tables.{pages_is}
+use Rattle.plan.proofs.Theorems.Valid.{plan_valid}
 use Rattle.plan.specs.Laws.Fewest.{plan_fewest}
 
 -- a paragraph that may have a kind is in none of the silent chapters

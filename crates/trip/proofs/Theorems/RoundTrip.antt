@@ -20,7 +20,7 @@ use Rattle.save.specs.declared.Writing.{Writing}
 use Rattle.save.specs.Chosen.{chosen, image_with, image_for, Sized}
 use Rattle.save.specs.Writing.{Content, is_marked, paragraph_of, image_by, writing_of, written_of}
 use Rattle.save.specs.Laws.Chosen.{Lies, chosen_each, length_chosen}
-use Rattle.save.specs.Laws.Refusals.{Accepted, accepted_so}
+use Rattle.save.proofs.Theorems.Refusals.{Accepted, accepted_so}
 use Rattle.trip.specs.Trip.{answer_of, Overlaid, ComesBack}
 use Rattle.trip.specs.Laws.LoadImage.{Other, image_answers, image_lays}
 use Rattle.trip.specs.Laws.Overlay.{EachLies, laid_back}

@@ -25,7 +25,7 @@ use Rattle.plan.specs.Laws.Runs.{Starts, starts_is, starts_of}
 use Rattle.plan.specs.OfLines.{plan_of}
 use Rattle.plan.specs.Plan.{Plan, has_page, kinds}
 use Rattle.plan.specs.Valid.{Valid, allowed, is_ram_kind, quiet}
-use Rattle.behind.specs.Laws.Fewer.{kind_at_lem, page_at_lem}
+use Rattle.behind.proofs.Theorems.Fewer.{kind_at_lem, page_at_lem}
 use Rattle.behind.specs.Laws.Star.{Same}
 use Rattle.canon.specs.Canonical.{ram_width, run_at, starts_ram, starts_rom}
 use Rattle.canon.specs.Laws.Lines.{all_append, all_listed, canonical_lines, listed_some, page_line, ram_line, rom_line, some_append}

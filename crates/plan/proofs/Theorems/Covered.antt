@@ -28,7 +28,7 @@ use Rattle.layout.specs.Layout.{used, page_of, pages, slot_of_page, line_held, c
 use Rattle.plan.specs.Valid.{is_ram_kind}
 use Rattle.plan.specs.Image.{page_at, base, holds_plain, holds_page, holds_ram, covered_of, ram_covered_of}
 use Rattle.plan.specs.OfLines.{plan_of}
-use Rattle.plan.specs.Laws.Tables.{used_is, base_is, plain_page, page_page}
+use Rattle.plan.proofs.Theorems.Tables.{used_is, base_is, plain_page, page_page}
 
 -- the line behind a paragraph, by the slot of its page
 module _ (lines : List Line) (p s : ℕ) (below : s < 272) (on : used lines s ≡ true) (page : count (used lines) s ≡ p / 16) where

@@ -16,7 +16,7 @@ use Rattle.rules.specs.Laws.Rules.{Good, Used, Flips, used_at, found_open, found
 use Rattle.plan.specs.Plan.{range_is, is_bare}
 use Rattle.plan.specs.Valid.{Valid, quiet, may_flip, allowed}
 use Rattle.plan.specs.OfLines.{plan_of}
-use Rattle.plan.specs.Laws.Tables.{pages_are, range_is_lem}
+use Rattle.plan.proofs.Theorems.Tables.{pages_are, range_is_lem}
 
 entry_allowed : (p : ℕ) (e : Entry) → quiet p ≡ false → allowed p (kind_by e) ≡ true
 unfolding allowed

@@ -10,8 +10,8 @@ use Rattle.switches.specs.Flips.{first_k}
 use Rattle.plan.specs.Fewest.{fewest, starts}
 use Rattle.plan.specs.Laws.Runs.{Laid, begun, kept, laid_starts, more}
 use Rattle.plan.specs.Plan.{Plan, has_page, kinds}
-use Rattle.behind.specs.Laws.Alike.{moved_count}
-use Rattle.behind.specs.Laws.Chapter.{Full, full_is, plain_not}
+use Rattle.behind.proofs.Theorems.Alike.{moved_count}
+use Rattle.behind.proofs.Theorems.Chapter.{Full, full_is, plain_not}
 use Rattle.behind.specs.Laws.Counts.{count_all}
 use Rattle.behind.specs.Laws.Star.{full, star}
 

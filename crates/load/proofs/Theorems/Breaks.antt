@@ -29,7 +29,7 @@ use Rattle.blocks.specs.Images.{first_block, blocks_in, stop_of, is_cut, judge_a
 use Rattle.blocks.specs.Laws.Images.{judge_append, next_blocks, reading}
 use Rattle.load.specs.Load.{walk_rows, refusal_rows, loading_of}
 use Rattle.load.specs.Laws.Refusals.{refused_exactly}
-use Rattle.load.specs.Laws.Passes.{payload_stands}
+use Rattle.load.proofs.Theorems.Passes.{payload_stands}
 
 -- the payload of a hunk for m words of RAM breaks at its byte k: at its first, where it is cut before any data block, or at the first byte of a data
 -- block that is cut, reserved, or has a word outside, with whole ones before it whose words lie inside

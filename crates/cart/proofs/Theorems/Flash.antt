@@ -29,7 +29,7 @@ use Rattle.cart.specs.Writes.{window_taker, mapped_taker, taker_of, memories_by,
 use Rattle.cart.specs.Cartridges.{active_of, write_of}
 use Rattle.cart.specs.Run.{Access, Read, Write, Reset, World, step, said, after, answers}
 use Rattle.cart.specs.PlainRun.{PlainWorld, plain_by, plain_step, plain_said, plain_after, plain_answers, shown_world, AsRows}
-use Rattle.cart.specs.Laws.Jlp.{mapped_by_tables, tables_flash}
+use Rattle.cart.proofs.Theorems.Jlp.{mapped_by_tables, tables_flash}
 
 -- the command that an access asks for: a write, while the accelerators are on
 abbrev pub command_by : World → Access → Command

@@ -9,9 +9,9 @@ use Rattle.plan.specs.Plan.{Plan}
 use Rattle.plan.specs.Valid.{Valid}
 use Rattle.behind.specs.Behind.{behind}
 use Rattle.behind.specs.Builds.{Builds, plan_tables}
-use Rattle.behind.specs.Laws.Alike.{base_alike, covered_alike, ram_alike, tables_alike}
-use Rattle.behind.specs.Laws.Behind.{behind_alike, behind_star, behind_valid, lines_same, star_some}
-use Rattle.behind.specs.Laws.Fewer.{star_fewer}
+use Rattle.behind.proofs.Theorems.Alike.{base_alike, covered_alike, ram_alike, tables_alike}
+use Rattle.behind.proofs.Theorems.Behind.{behind_alike, behind_star, behind_valid, lines_same, star_some}
+use Rattle.behind.proofs.Theorems.Fewer.{star_fewer}
 use Rattle.behind.specs.Laws.Star.{star}
 
 -- the plan behind the image of a plan takes no more lines

@@ -27,16 +27,16 @@ use Rattle.blocks.specs.Laws.Images.{Read, reading}
 use Rattle.load.specs.Load.{refusal_of, loads, loading_of, load_ram_of}
 use Rattle.load.specs.Leaves.{Filled, Leaves}
 use Rattle.load.specs.Laws.Refusals.{answer_refusal}
-use Rattle.load.specs.Laws.Ram.{leaves}
+use Rattle.load.proofs.Theorems.Ram.{leaves}
 use Rattle.save.specs.Chosen.{chosen, tables_block, hunk_block, image_with, image_for, Sized}
 use Rattle.save.specs.Laws.Chosen.{Lies, chosen_each, length_with}
 use Rattle.save.specs.declared.Writing.{Writing}
 use Rattle.save.specs.Writing.{Content, is_marked, paragraph_of, image_by, writing_of, written_of}
-use Rattle.save.specs.Laws.Refusals.{Accepted}
+use Rattle.save.proofs.Theorems.Refusals.{Accepted}
 use Rattle.trip.specs.Smallest.{Recoded, SameBlocks, none, same, coded, Alike}
 use Rattle.trip.specs.Laws.LoadImage.{Other, hunks_all, hunks_behind, image_blocks, image_lays}
 use Rattle.trip.specs.Laws.Overlay.{EachLies}
-use Rattle.trip.specs.Laws.RoundTrip.{accepted, marked_lie, image_front, supported_in}
+use Rattle.trip.proofs.Theorems.RoundTrip.{accepted, marked_lie, image_front, supported_in}
 use Rattle.trip.specs.Laws.Rising.{Rising, SamePlaces, none as no-places, also as and-places, told, rising_chosen}
 
 -- the bytes of blocks that stand one after the other

@@ -26,17 +26,17 @@ use Rattle.rules.specs.Laws.Rules.{Good, Separate, done, next}
 use Rattle.rules.specs.Rules.{breaks_plain, meets, shares}
 use Rattle.plan.specs.Fewest.{fewest, starts}
 use Rattle.plan.specs.Laws.Runs.{starts_is}
-use Rattle.plan.specs.Laws.Tables.{pages_are, range_is_lem}
+use Rattle.plan.proofs.Theorems.Tables.{pages_are, range_is_lem}
 use Rattle.plan.specs.OfLines.{plan_of}
 use Rattle.plan.specs.Plan.{Plan, has_page, has_pages, is_bare, kinds, range_is}
 use Rattle.plan.specs.Valid.{Valid, is_ram_kind, may_flip, quiet}
-use Rattle.behind.specs.Laws.Alike.{paged_same, range_same}
-use Rattle.behind.specs.Laws.Chapter.{has_pages_lem}
+use Rattle.behind.proofs.Theorems.Alike.{paged_same, range_same}
+use Rattle.behind.proofs.Theorems.Chapter.{has_pages_lem}
 use Rattle.behind.specs.Laws.Star.{Same}
 use Rattle.canon.specs.Canonical.{is_rom, starts_ram, starts_rom}
 use Rattle.canon.specs.Laws.Lines.{all_append, all_listed, canonical_lines, page_line, ram_line, rom_line}
 use Rattle.basics.specs.Laws.Listed.{length_listed}
-use Rattle.canon.specs.Laws.OfPlan.{Of, OfPage, OfRun, each_of, kind_allowed, kind_loud, kind_some, page_of, plan_of_lines, ram_above, ram_of_lem, rom_of_lem}
+use Rattle.canon.proofs.Theorems.OfPlan.{Of, OfPage, OfRun, each_of, kind_allowed, kind_loud, kind_some, page_of, plan_of_lines, ram_above, ram_of_lem, rom_of_lem}
 use Rattle.basics.specs.Listed.{listed}
 
 -- shapes

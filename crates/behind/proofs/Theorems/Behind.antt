@@ -19,10 +19,10 @@ use Rattle.plan.specs.Plan.{Chapter, Plan, has_page, has_pages, has_plain, is_ba
 use Rattle.plan.specs.Valid.{Valid, ValidAt, allowed, may_flip, quiet}
 use Rattle.behind.specs.Behind.{base_behind, behind, behind_at, chapter_behind, has_entries, hidden, kind_shown}
 use Rattle.behind.specs.Builds.{plan_tables}
-use Rattle.behind.specs.Laws.Alike.{Alike, alike_join, same_alike, star_alike}
-use Rattle.behind.specs.Laws.Chapter.{found_same, plain_of, range_of}
+use Rattle.behind.proofs.Theorems.Alike.{Alike, alike_join, same_alike, star_alike}
+use Rattle.behind.proofs.Theorems.Chapter.{found_same, plain_of, range_of}
 use Rattle.behind.specs.Laws.Counts.{any_one, not_any}
-use Rattle.behind.specs.Laws.Fewer.{page_at_lem}
+use Rattle.behind.proofs.Theorems.Fewer.{page_at_lem}
 use Rattle.behind.specs.Laws.Star.{Same, full, holds_any, star}
 
 -- the words of a chapter lie in its Locutus pages

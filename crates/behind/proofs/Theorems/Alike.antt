@@ -15,7 +15,7 @@ use Rattle.switches.specs.Laws.Flips.{first_small}
 use Rattle.plan.specs.Image.{base, chapter_flip, chapter_mapping, chapter_permissions, covered_of, holds_page, holds_plain, holds_ram, page_at, ram_covered_of, size, turns}
 use Rattle.plan.specs.Plan.{Chapter, Plan, has_pages, has_plain, is_under, range_is}
 use Rattle.behind.specs.Builds.{plan_tables}
-use Rattle.behind.specs.Laws.Chapter.{Full, full_is, has_pages_lem, plain_not, plain_of, range_of}
+use Rattle.behind.proofs.Theorems.Chapter.{Full, full_is, has_pages_lem, plain_not, plain_of, range_of}
 use Rattle.behind.specs.Laws.Counts.{count_all}
 use Rattle.behind.specs.Laws.Star.{Same, full, holds_any, moved, star_at}
 

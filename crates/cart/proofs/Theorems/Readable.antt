@@ -20,7 +20,7 @@ use Rattle.cart.specs.Readable.{readable_in, readable_of, recounted}
 use Rattle.cart.specs.Writes.{taker_of, left_by, readable_by, leaves, leaves_readable}
 use Rattle.cart.specs.Cartridges.{active_of, fresh, no_cartridge}
 use Rattle.cart.specs.Run.{Access, Read, Write, Reset, World, step, after}
-use Rattle.cart.specs.Laws.Moves.{Fits, takes_within}
+use Rattle.cart.proofs.Theorems.Moves.{Fits, takes_within}
 
 -- the counting loop: none, one more, done
 pub readable_none : (m : List ℕ) (a : ℕ) → 0 ≡ readable_in m a 0

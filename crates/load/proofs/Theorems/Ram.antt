@@ -19,7 +19,7 @@ use Rattle.blocks.specs.Images.{first_block, blocks_in, judge_all, hunks_in, ove
 use Rattle.load.specs.Load.{refusal_of, loads, loading_of, load_ram_of, hunks_laid}
 use Rattle.load.specs.Leaves.{names, named, Filled, Leaves}
 use Rattle.load.specs.Laws.Refusals.{answer_refusal, Accepted, accepted}
-use Rattle.load.specs.Laws.Passes.{judged_hunk, stored_over}
+use Rattle.load.proofs.Theorems.Passes.{judged_hunk, stored_over}
 
 pub length_overlay : (hs : List Hunk) (ram : List ℕ) → length (overlay hs ram) ≡ length ram
 unfolding overlay

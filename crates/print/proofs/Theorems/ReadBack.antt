@@ -24,7 +24,7 @@ use Rattle.grammar.specs.declared.Section.{Section}
 use Rattle.grammar.specs.declared.Section.TheVariants.{Mapping, Memattr, Nowhere}
 use Rattle.cfg.specs.File.{entries_from, entries_of, has_foreign, has_outside, no_entry, outside_from, outside_line, refusal_rows, says_from, says_of, too_long, too_many}
 use Rattle.print.specs.Cfg.{cfg_text, entry_line, line_text, lines_in, memattr_at, numbered, section_text}
-use Rattle.print.specs.Laws.Lines.{Told, entries_claimed, entry_lines, entry_says, line_first, none_outside}
+use Rattle.print.proofs.Theorems.Lines.{Told, entries_claimed, entry_lines, entry_says, line_first, none_outside}
 use Rattle.print.specs.Laws.Shown.{Shown, AllWritten, none_foreign, shown_text, written_line}
 
 -- a section: its lines, what they say, the section behind it, and the number of the line behind it

@@ -1,0 +1,5 @@
+-- Theorems over the definitions of specs/. They stand here so that a must-fail edit of a definition is refused by them.
+pub mod Bin
+pub mod Good
+pub mod Made
+pub mod OfPlan

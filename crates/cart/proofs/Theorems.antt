@@ -1,0 +1,5 @@
+-- Theorems over the definitions of specs/. They stand here so that a must-fail edit of a definition is refused by them.
+pub mod Flash
+pub mod Jlp
+pub mod Moves
+pub mod Readable
