@@ -3,4 +3,3 @@ pub mod Refusals
 pub mod Image
 pub mod Press
 pub mod Label
-pub mod Answers

@@ -2,6 +2,3 @@
 pub mod Shown
 pub mod Held
 pub mod Tabled
-pub mod Steps
-pub mod Plays
-pub mod Corollaries

@@ -1,6 +1,6 @@
 -- `build::build` meets its contract: each way out by its law.
 use mathlib.Core.Path.{sym, ◌∙◌}
-use Rattle.build.specs.Laws.Answers.{refused-bin}
+use Rattle.build.proofs.Theorems.Answers.{refused-bin}
 use Rattle.build.proofs.build.Goals as goal
 
 pub returns-then-is_wrong : goal.returns-then-is_wrong

@@ -1,6 +1,6 @@
 -- `build::build_lines` meets its contract: each way out by its law.
 use borrow.Author.Rules.{rules}
-use Rattle.build.specs.Laws.Answers.{refused-lines, accepts, pressed}
+use Rattle.build.proofs.Theorems.Answers.{refused-lines, accepts, pressed}
 use Rattle.build.proofs.build_lines.Goals as goal
 
 pub returns-then-j-ne0 : goal.returns-then-j-ne0

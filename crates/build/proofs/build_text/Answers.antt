@@ -1,5 +1,5 @@
 -- `build::build_text` meets its contract: each way out by its law.
-use Rattle.build.specs.Laws.Answers.{refused-cfg, read-so}
+use Rattle.build.proofs.Theorems.Answers.{refused-cfg, read-so}
 use borrow.Author.Rules.{rules}
 use Rattle.build.proofs.build_text.Goals as goal
 

@@ -29,7 +29,7 @@ use Rattle.build.specs.Laws.Refusals.{lines_accepted, words_fit, label_right}
 use Rattle.build.specs.Laws.Image.{sized, within_limit, supported, lie}
 use Rattle.plays.specs.Loaded.{Loaded}
 use Rattle.plays.specs.Plain.{plain_answers, fresh}
-use Rattle.plays.specs.Laws.Plays.{plays}
+use Rattle.plays.proofs.Theorems.Plays.{plays}
 use Rattle.demands.specs.Pressing.{Pressing, Pressed, world_of}
 
 -- the image of a BIN and a CFG that are accepted, over a RAM of the words needed

@@ -29,8 +29,8 @@ use Rattle.cart.specs.Readable.{readable_in, readable_of}
 use Rattle.cart.specs.Run as Run
 use Rattle.cart.specs.Run.{World, Access, after}
 use Rattle.cart.specs.Laws.Banks.{stays_clear}
-use Rattle.cart.specs.Laws.Flash.{off_keeps_flash}
-use Rattle.cart.specs.Laws.Moves.{at_most_16}
+use Rattle.cart.proofs.Theorems.Flash.{off_keeps_flash}
+use Rattle.cart.proofs.Theorems.Moves.{at_most_16}
 use Rattle.cart.specs.Cartridges.{active_of}
 use Rattle.load.specs.Load.{loading_of}
 use Rattle.load.specs.Laws.Refusals as Load
@@ -45,7 +45,7 @@ use Rattle.build.specs.declared.Building.{Building}
 use Rattle.build.specs.Building.{builds, building_of, refused, refusal_of}
 use Rattle.build.specs.Laws.Refusals.{lines_accepted}
 use Rattle.plays.specs.Laws.Tabled.{tabled_start}
-use Rattle.plays.specs.Laws.Steps.{tabled_unbanked}
+use Rattle.plays.proofs.Theorems.Steps.{tabled_unbanked}
 use Rattle.accesses.specs.Runs.{run_of, ran_of}
 use Rattle.accesses.specs.Laws.Refusals as Lists
 use Rattle.accesses.specs.Laws.Runs as Runs

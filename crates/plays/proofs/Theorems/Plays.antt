@@ -12,7 +12,7 @@ use Rattle.rules.specs.Accepted.{Accepted}
 use Rattle.plays.specs.Plain.{Plain, plain_step, plain_said, plain_answers, fresh}
 use Rattle.plays.specs.Laws.Tabled.{Tabled, tabled_reset, tabled_start}
 use Rattle.plays.specs.Laws.Held.{Held, held_start}
-use Rattle.plays.specs.Laws.Steps.{tabled_unbanked, tables_after, ram_after_lem, read_alike}
+use Rattle.plays.proofs.Theorems.Steps.{tabled_unbanked, tables_after, ram_after_lem, read_alike}
 use Rattle.plays.specs.Loaded.{Loaded, loaded}
 
 -- the tables are those of the page numbers, and each word of a line is at its place

@@ -1,0 +1,4 @@
+-- Theorems over the definitions of specs/. They stand here so that a must-fail edit of a definition is refused by them.
+pub mod Corollaries
+pub mod Plays
+pub mod Steps
