@@ -3,7 +3,7 @@
 
     tests/names.py
 
-In README.md and docs/, `crate/File.name` must be a name in crates/crate/specs/File.antt, `crate/File` such a file, `crate::name` a function,
+In README.md and docs/, `crate/File.name` must be a name in crates/crate/specs/File.antt (in proofs/ for File in Theorems/), `crate/File` such a file, `crate::name` a function,
 type or constant of the crate's source, `crate/edit` a must-fail edit, and a path of the repository must exist. Words in backquotes of any
 other form are not looked at. The last line counts; the exit status is 1 if something is not there."""
 import pathlib, re, sys
@@ -20,8 +20,9 @@ def text_of(*parts):
 
 def spec_is_there(crate, inside):
     parts, _, name = inside.partition(".")
-    specs = ROOT / "crates" / crate / "specs"
-    text = text_of("crates", crate, "specs", parts + ".antt")
+    folder = "proofs" if parts.split("/")[0] == "Theorems" else "specs"
+    specs = ROOT / "crates" / crate / folder
+    text = text_of("crates", crate, folder, parts + ".antt")
     if text is None:
         return (specs / parts).is_dir() and not name
     return not name or all(re.search(rf"(?<![\w-]){re.escape(n)}(?![\w-])", text) for n in name.split("."))
