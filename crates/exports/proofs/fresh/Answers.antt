@@ -6,14 +6,10 @@ use borrow.Author.Rules.{rules}
 use Rattle.jlp.specs.declared.Jlp.{Jlp}
 use Rattle.cart.specs.declared.Cartridge.{Cartridge}
 use Rattle.cart.specs.Cartridges.{fresh}
-use Rattle.exports.proofs.fresh.Statement.{statement}
-use Rattle.exports.proofs.fresh.Tie as tie
+use Rattle.exports.proofs.fresh.Goals as goal
 
 made_of : (j k : Jlp) (c : Cartridge) (m p f : List ℕ) → j ≡ k → c ≡ fresh j m p f → c ≡ fresh k m p f
 made_of j k c m p f e g = g ∙ ap (λ (i : Jlp). fresh i m p f) e
 
-returns : tie.Need-returns
+pub returns : goal.returns
 returns c = search (rules, made_of)
-
-pub fresh-spec : {M : Type 1} → statement M
-fresh-spec = tie.close (tie.spec (λ c κs. search rules) (λ c κs. search rules) returns)

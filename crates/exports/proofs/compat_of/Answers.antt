@@ -6,14 +6,10 @@ use borrow.Author.Rules.{rules}
 use Rattle.header.specs.declared.Compat.{Compat}
 use Rattle.header.specs.Flags.{number_of}
 use Rattle.exports.specs.Loads.{fields_of}
-use Rattle.exports.proofs.compat_of.Statement.{statement}
-use Rattle.exports.proofs.compat_of.Tie as tie
+use Rattle.exports.proofs.compat_of.Goals as goal
 
 numbered : (c : Compat) (t : ℕ) → t ≡ number_of c.tutorvision → c.intellivoice ∷ c.ecs ∷ c.intellivision2 ∷ c.keyboard ∷ t ∷ [] ≡ fields_of c
 numbered c t e = rw e
 
-returns : tie.Need-returns
+pub returns : goal.returns
 returns c = search (rules, numbered)
-
-pub compat-of-spec : {M : Type 1} → statement M
-compat-of-spec = tie.close (tie.spec (λ c κs. search rules) returns)

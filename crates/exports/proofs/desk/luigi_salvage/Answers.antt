@@ -1,0 +1,9 @@
+-- `exports::desk::luigi_salvage` meets its contract: it answers what the salvage answers.
+use mathlib.Core.Path.{◌∙◌, ap}
+use Rattle.exports.specs.Desk.{salvaged_as}
+use Rattle.exports.proofs.desk.luigi_salvage.Goals as goal
+
+pub returns : goal.returns
+returns c =
+    let salvage = c.salvage in
+    (c.salvaged_as.ensures ∙ ap salvaged_as salvage.ensures.0, salvage.ensures.1)

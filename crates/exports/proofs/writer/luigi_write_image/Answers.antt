@@ -1,0 +1,10 @@
+-- `exports::writer::luigi_write_image` meets its contract: it answers what the writer answers, with the marks of the bytes.
+use mathlib.Core.Path.{◌∙◌, ap}
+use Rattle.exports.specs.Images.{image_as}
+use Rattle.exports.proofs.writer.luigi_write_image.Goals as goal
+
+pub returns : goal.returns
+returns c =
+    let write = c.write in
+    let from = c.marks_from-m.ensures in
+    (rw from at (c.image_as.ensures ∙ ap image_as write.ensures.0), rw from at write.ensures.1)
