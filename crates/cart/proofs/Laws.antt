@@ -16,7 +16,7 @@ use Rattle.cart.specs.declared.Taker.{Taker}
 use Rattle.cart.specs.Cells.{READ, paragraph, locate, rights_of, cell_at}
 use Rattle.cart.proofs.Theorems.Readable.{flip_readable}
 use Rattle.cart.specs.Readable.{readable_in, readable_of, recounted}
-use Rattle.cart.specs.Laws.Writes.{by_mapping, by_permissions, by_ram, by_flash, by_readable, by_assigned}
+use Rattle.cart.specs.Laws.Writes.{window_ram, window_registers, jlp_takes, jlp_passes, by_mapping, by_permissions, by_ram, by_flash, by_readable, by_assigned}
 use Rattle.cart.specs.Writes.{taker_of, left_by, readable_by, assigned_by, leaves, assigned, leaves_readable}
 use Rattle.cart.specs.Cartridges.{assembled, initial_of, active_of, fresh, with_active, written_of, reset_of}
 
@@ -80,3 +80,6 @@ module _ (j : Jlp) (a : Active) (flips : List ℕ) (at : Console) (v : ℕ) (t :
   given_assigned x g = by_assigned j a flips at v t t h refl x g
 
 pub ruleset given = (given_mapping, given_permissions, given_readable, given_assigned, by_ram, by_flash)
+
+-- who takes a write: the accelerators, in their window, or the next
+pub ruleset accelerates = (window_ram, window_registers, jlp_takes, jlp_passes)

@@ -26,7 +26,7 @@ use Rattle.cart.specs.Reads.{silent, silence, heard, fetched, read_by}
 use Rattle.cart.specs.Writes.{stored, taker_of, memories_by, leaves, leaves_ram, leaves_flash, assigned, leaves_readable}
 use Rattle.cart.specs.Laws.Writes.{by_mapping, by_permissions, by_ram, by_flash, by_readable, by_assigned}
 use Rattle.direct.specs.Direct.{window_reach, read_reach, asks_more, write_reach, asked, hears, is_done, keeps}
-use Rattle.direct.specs.Laws.Direct.{Left}
+use Rattle.direct.proofs.Theorems.Direct.{Left}
 
 -- in the window, its RAM and a register
 module _ (at : Console) (b : Bool) (e : b ≡ in_ram at) where

@@ -1,3 +1,2 @@
 -- The short ways to the RAM.
 pub mod Direct
-pub mod Laws

@@ -1,5 +1,5 @@
 -- `cart::window_taker` meets its contract: the RAM, or the registers.
-use Rattle.cart.specs.Laws.Writes.{accelerates}
+use Rattle.cart.proofs.Laws.{accelerates}
 use Rattle.cart.proofs.window_taker.Goals as goal
 
 pub returns-then-in_ram : goal.returns-then-in_ram

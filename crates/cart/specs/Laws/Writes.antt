@@ -120,8 +120,6 @@ module _ (j : Jlp) (a : Active) (flips : List ℕ) (at : Console) (v : ℕ) (b :
   pub jlp_passes : (t : Taker) → b ≡ false → t ≡ mapped_taker a flips at v → t ≡ taker_of j a flips at v
   jlp_passes t f g = rw (← e, f) g
 
-pub ruleset accelerates = (window_ram, window_registers, jlp_takes, jlp_passes)
-
 -- what a taker leaves and answers, by the case w that the code has found it to be
 module _ (t w : Taker) (e : t ≡ w) where
   pub shift_assigned : (x : ℕ) → x ≡ assigned_by w → x ≡ assigned_by t

@@ -21,7 +21,7 @@ use Rattle.registers.specs.Words.{words_of, jlp_from}
 use Rattle.registers.specs.Code.Tidy.{Tidy}
 use Rattle.registers.specs.Laws.Words.{from_tidied, written_again}
 use Rattle.direct.specs.Direct.{asked, hears, read_reach, is_done, keeps, write_reach}
-use Rattle.direct.specs.Laws.Direct.{read_direct, Left, stored_left, asked_left}
+use Rattle.direct.proofs.Theorems.Direct.{read_direct, Left, stored_left, asked_left}
 use Rattle.exports.specs.Runs.{answered, address, carried, written, writes, assigned_at, numbered}
 
 pub heard_direct : (j : Jlp) (a : Active) (at : Console) (ram : List ℕ) (o : Bool) (n : ℕ) → o ≡ j.on → n ≡ hears (read_reach o a at) ram → (n ≡ asked → ⊥) → n ≡ heard (read_by j a ram at)

@@ -1,7 +1,7 @@
 -- `exports::lent::luigi_write` meets its contract: the short way, and the long one from the RAM that it has left, with tidy words.
 use Rattle.switches.specs.Flips.{active}
 use Rattle.registers.specs.Laws.Words.{tidy_now}
-use Rattle.direct.specs.Laws.Direct.{stored_left, asked_left}
+use Rattle.direct.proofs.Theorems.Direct.{stored_left, asked_left}
 use Rattle.exports.specs.Laws.Runs.{left_from}
 use Rattle.exports.proofs.lent.luigi_write.Goals as goal
 
