@@ -7,7 +7,8 @@ use Rattle.exports.proofs.luigi_reads_by_value.Given as goal
 
 abbrev pub invariant-loop-i : goal.invariant-loop-i
 invariant-loop-i l =
-    (l.i ≤ l.i-end) × (l.i-end ≤ length l.at) × (l.i-end ≤ length l.out) × (length l.out ≡ length l.initial.out) × (l.out ≡ answered l.c.jlp l.c.mapping l.c.permissions l.ram l.at l.i l.initial.out)
+    (l.i ≤ l.i-end) × (l.i-end ≤ length l.at) × (l.i-end ≤ length l.out) × (length l.out ≡ length l.initial.out)
+    × (l.out ≡ answered l.c.jlp l.c.mapping l.c.permissions l.ram l.at l.i l.initial.out)
 
 abbrev pub decreases-loop-i : goal.decreases-loop-i
 decreases-loop-i l = l.i-end - l.i

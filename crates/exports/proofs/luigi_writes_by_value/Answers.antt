@@ -10,10 +10,12 @@ use Rattle.exports.specs.Runs.{written}
 use Rattle.exports.specs.Laws.Runs.{cartridge_none, ram_none, flash_none, cartridge_one, ram_one, flash_one}
 use Rattle.exports.proofs.luigi_writes_by_value.Goals as goal
 
-ram_last : (c d : Cartridge) (ram flash at v m : List ℕ) (i n : ℕ) → c ≡ d → i ≡ n → m ≡ (written c ram flash at v i).ram → m ≡ (written d ram flash at v n).ram
+ram_last : (c d : Cartridge) (ram flash at v m : List ℕ) (i n : ℕ)
+    → c ≡ d → i ≡ n → m ≡ (written c ram flash at v i).ram → m ≡ (written d ram flash at v n).ram
 ram_last c d ram flash at v m i n p q e = rw (← p, ← q) e
 
-flash-last : (c d : Cartridge) (ram flash at v m : List ℕ) (i n : ℕ) → c ≡ d → i ≡ n → m ≡ (written c ram flash at v i).flash → m ≡ (written d ram flash at v n).flash
+flash-last : (c d : Cartridge) (ram flash at v m : List ℕ) (i n : ℕ)
+    → c ≡ d → i ≡ n → m ≡ (written c ram flash at v i).flash → m ≡ (written d ram flash at v n).flash
 flash-last c d ram flash at v m i n p q e = rw (← p, ← q) e
 
 pub loop-i-init : goal.loop-i-init

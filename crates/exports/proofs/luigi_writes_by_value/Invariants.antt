@@ -7,8 +7,10 @@ use Rattle.exports.proofs.luigi_writes_by_value.Given as goal
 
 abbrev pub invariant-loop-i : goal.invariant-loop-i
 invariant-loop-i l =
-    (l.i ≤ l.i-end) × (l.i-end ≤ length l.at) × (l.i-end ≤ length l.value) × (length l.ram ≡ length l.initial.ram) × (length l.flash ≡ length l.initial.flash) × (l.c ≡ (written l.initial.c l.initial.ram l.initial.flash l.at l.value l.i).cartridge)
-    × (l.ram ≡ (written l.initial.c l.initial.ram l.initial.flash l.at l.value l.i).ram) × (l.flash ≡ (written l.initial.c l.initial.ram l.initial.flash l.at l.value l.i).flash)
+    (l.i ≤ l.i-end) × (l.i-end ≤ length l.at) × (l.i-end ≤ length l.value) × (length l.ram ≡ length l.initial.ram) × (length l.flash ≡ length l.initial.flash)
+    × (l.c ≡ (written l.initial.c l.initial.ram l.initial.flash l.at l.value l.i).cartridge)
+    × (l.ram ≡ (written l.initial.c l.initial.ram l.initial.flash l.at l.value l.i).ram)
+    × (l.flash ≡ (written l.initial.c l.initial.ram l.initial.flash l.at l.value l.i).flash)
 
 abbrev pub decreases-loop-i : goal.decreases-loop-i
 decreases-loop-i l = l.i-end - l.i

@@ -7,7 +7,8 @@ use Rattle.exports.proofs.lent.luigi_read.Goals as goal
 pub returns-then-n-ne-ASKED : goal.returns-then-n-ne-ASKED
 returns-then-n-ne-ASKED c =
     let given = c.args in
-    heard_direct (jlp_from given.accelerators.now) (active given.mapping.now given.permissions.now) _ given.ram.now _ _ c.is_on-on.ensures c.hear-n.ensures c.if-n-ne-ASKED.true
+    heard_direct (jlp_from given.accelerators.now) (active given.mapping.now given.permissions.now) _ given.ram.now _ _
+    c.is_on-on.ensures c.hear-n.ensures c.if-n-ne-ASKED.true
 
 pub returns : goal.returns
 returns c = c.read.ensures
