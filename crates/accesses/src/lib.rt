@@ -353,7 +353,7 @@ fn run_lines(
     let mut at = 0;
     let mut lines = 0;
     let mut k = 0;
-    while lines < n {
+    'lines: while lines < n {
         lines += 1;
         let end = text::line_end(list, at);
         let s = says_at(list, at, end);

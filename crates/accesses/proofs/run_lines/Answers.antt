@@ -7,20 +7,20 @@ use Rattle.accesses.proofs.Runs.{running_none, running_at, reset_start, turn_fit
 use Rattle.accesses.proofs.Lines.{next_end}
 use Rattle.accesses.proofs.run_lines.Goals as goal
 
-pub loop-lines-init : goal.loop-lines-init
-loop-lines-init c = search (rules, running_none, reset_start)
+pub lines-init : goal.lines-init
+lines-init c = search (rules, running_none, reset_start)
 
 pub says_at-s-requires : goal.says_at-s-requires
-says_at-s-requires c = (running_at _ _ _ _ _ _ _ _ _ _ c.loop-lines.invariant.5 (search rules), c.line_end-end.ensures)
+says_at-s-requires c = (running_at _ _ _ _ _ _ _ _ _ _ c.lines.invariant.5 (search rules), c.line_end-end.ensures)
 
 pub note-k-requires : goal.note-k-requires
 note-k-requires c =
-    let inv = c.loop-lines.invariant in
+    let inv = c.lines.invariant in
     turn_fits _ _ _ _ _ _ _ _ _ _ _ _ _ _ _ _ inv.5 (search rules) _ c.says_at-s.ensures _ _ c.make-made.ensures.0 (search rules)
 
-pub loop-lines-preserved : goal.loop-lines-preserved
-loop-lines-preserved c =
-    let inv = c.loop-lines.invariant in (
+pub lines-preserved : goal.lines-preserved
+lines-preserved c =
+    let inv = c.lines.invariant in (
       (search rules),
       (let saved = c in search rules),
       (search rules),
@@ -31,7 +31,7 @@ loop-lines-preserved c =
 
 pub returns : goal.returns
 returns c =
-    let inv = c.loop-lines.invariant in
+    let inv = c.lines.invariant in
     let w = ran_world _ _ _ _ _ _ _ _ _ _ inv.5 (search rules) in (
       ran_all _ _ _ _ _ _ _ _ _ _ inv.5 (search rules) _ _ c.no_refusal.ensures c.with_active.ensures,
       ap (λ (x : World). x.ram) w,
