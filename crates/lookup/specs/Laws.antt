@@ -3,4 +3,3 @@ pub mod Texts
 pub mod Lookup
 pub mod Shown
 pub mod Found
-pub mod Standing
