@@ -26,7 +26,8 @@ lines-preserved c =
       (search rules),
       inv.3,
       inv.4,
-      (turn_more _ _ _ _ _ _ _ _ _ _ _ _ _ _ _ _ inv.5 (search rules) _ c.says_at-s.ensures _ _ _ _ _ _ _ _ _ c.make-made.ensures c.note-k.ensures (next_end _ _ _ _ c.line_end-end.ensures c.past_end-at.ensures)),
+      (turn_more _ _ _ _ _ _ _ _ _ _ _ _ _ _ _ _ inv.5 (search rules) _ c.says_at-s.ensures _ _ _ _ _ _ _ _ _ c.make-made.ensures c.note-k.ensures
+          (next_end _ _ _ _ c.line_end-end.ensures c.past_end-at.ensures)),
     )
 
 pub returns : goal.returns

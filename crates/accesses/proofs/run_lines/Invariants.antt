@@ -16,8 +16,10 @@ use Rattle.accesses.proofs.run_lines.Given as goal
 
 abbrev pub invariant-lines : goal.invariant-lines
 invariant-lines l =
-    (length l.ram ≡ length l.initial.ram) × (length l.flash ≡ length l.initial.flash) × (length l.out ≡ length l.initial.out) × (Fits w64 l.n) × (l.start ≡ readable_of l.c.initial_permissions)
-    × Running (world l.c l.initial.flash l.initial.ram) (take l.n (accesses_of l.list)) l.initial.out l.n l.list l.at l.lines l.k (tabled (initial_of l.c) (active l.mapping l.permissions) l.c.flips l.readable l.j l.flash l.ram) l.out
+    (length l.ram ≡ length l.initial.ram) × (length l.flash ≡ length l.initial.flash) × (length l.out ≡ length l.initial.out)
+    × (Fits w64 l.n) × (l.start ≡ readable_of l.c.initial_permissions)
+    × Running (world l.c l.initial.flash l.initial.ram) (take l.n (accesses_of l.list)) l.initial.out l.n l.list l.at l.lines l.k
+    (tabled (initial_of l.c) (active l.mapping l.permissions) l.c.flips l.readable l.j l.flash l.ram) l.out
 
 abbrev pub decreases-lines : goal.decreases-lines
 decreases-lines l = l.n - l.lines
