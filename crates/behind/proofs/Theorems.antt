@@ -2,5 +2,6 @@
 pub mod Alike
 pub mod Behind
 pub mod Chapter
+pub mod Examples
 pub mod Exactly
 pub mod Fewer

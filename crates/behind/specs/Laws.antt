@@ -1,4 +1,3 @@
 -- Theorems over the definitions.
 pub mod Counts
 pub mod Star
-pub mod Examples
