@@ -3,14 +3,7 @@ use Prim.Native.Nat.{ℕ, ◌+◌}
 use mathlib.Core.Path.{sym}
 use lib.ListN.{length-replicate}
 use Rattle.places.specs.Limits.{image_limit}
-use Rattle.unpress.proofs.image_room.Statement.{statement}
-use Rattle.unpress.proofs.image_room.Tie as tie
+use Rattle.unpress.proofs.image_room.Goals as goal
 
-returns : tie.Need-returns
+pub returns : goal.returns
 returns c = sym (length-replicate {A = ℕ} (image_limit + 1) 0)
-
-pub image-room-spec : {M : Type 1} → statement M
-image-room-spec =
-    tie.close
-    (tie.spec
-    returns)
