@@ -1,5 +1,4 @@
 -- Theorems over the definitions.
-pub mod Refusals
 pub mod Image
 pub mod Press
 pub mod Label

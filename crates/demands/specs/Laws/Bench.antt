@@ -26,7 +26,7 @@ use Rattle.label.specs.Label.{wrong_label}
 use Rattle.build.specs.declared.Building.{Building}
 use Rattle.build.specs.Building.{wrong_bin, too_large, too_short, pressed_image, room_rows, refusal_rows, refusal_of, built, tables_for}
 use Rattle.build.specs.Laws.Image.{within_limit}
-use Rattle.build.specs.Laws.Refusals as Build
+use Rattle.build.proofs.Theorems.Refusals as Build
 use Rattle.plays.specs.Plain.{plain_answers, fresh}
 use Rattle.demands.specs.Pressing.{Pressing, Pressed}
 use Rattle.demands.specs.Bench.{Bench, Case, six, Six, seven, Seven, seven_accesses}

@@ -16,7 +16,7 @@ use Rattle.rules.specs.Rules.{refusal_rows as ruleRows, refusal_of as ruledBy}
 use Rattle.rules.specs.Laws.Refusals as Rules
 use Rattle.save.proofs.Theorems.Refusals as Save
 use Rattle.build.specs.Building.{builds, building_of, refused as buildRefused}
-use Rattle.build.specs.Laws.Refusals as Build
+use Rattle.build.proofs.Theorems.Refusals as Build
 use Rattle.demands.specs.Demand1.{Refused, Demand1}
 
 -- all else is zero

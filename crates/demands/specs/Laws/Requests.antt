@@ -43,7 +43,7 @@ use Rattle.rules.specs.Laws.Rules.{good}
 use Rattle.layout.specs.Layout.{cartridge_of}
 use Rattle.build.specs.declared.Building.{Building}
 use Rattle.build.specs.Building.{builds, building_of, refused, refusal_of}
-use Rattle.build.specs.Laws.Refusals.{lines_accepted}
+use Rattle.build.proofs.Theorems.Refusals.{lines_accepted}
 use Rattle.plays.specs.Laws.Tabled.{tabled_start}
 use Rattle.plays.proofs.Theorems.Steps.{tabled_unbanked}
 use Rattle.accesses.specs.Runs.{run_of, ran_of}

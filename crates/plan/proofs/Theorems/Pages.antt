@@ -24,7 +24,7 @@ use Rattle.plan.specs.OfLines.{plan_of}
 use Rattle.plan.specs.Laws.Runs.{starts_of}
 use Rattle.plan.proofs.Theorems.Tables.{pages_is}
 use Rattle.plan.proofs.Theorems.Valid.{plan_valid}
-use Rattle.plan.specs.Laws.Fewest.{plan_fewest}
+use Rattle.plan.proofs.Theorems.Fewest.{plan_fewest}
 
 -- a paragraph that may have a kind is in none of the silent chapters
 pub record Loud (p : ℕ) : Type 0 where

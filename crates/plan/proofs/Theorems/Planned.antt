@@ -7,7 +7,7 @@ use Rattle.plan.specs.Planned.{Planned}
 use Rattle.plan.proofs.Theorems.Tables.{mapping_is, permissions_is, flips_is, pages_is}
 use Rattle.plan.proofs.Theorems.Covered.{covered_is, ram_is}
 use Rattle.plan.proofs.Theorems.Valid.{plan_valid}
-use Rattle.plan.specs.Laws.Fewest.{plan_fewest}
+use Rattle.plan.proofs.Theorems.Fewest.{plan_fewest}
 
 pub planned : {bin : List ℕ} {lines : List Line} → Accepted bin lines → Planned lines
 planned {lines = lines} a =
