@@ -1,3 +1,4 @@
 pub mod Sources
 pub mod Loads
 pub mod Same
+pub mod Theorems

@@ -24,10 +24,10 @@ use Rattle.rebuild.specs.declared.Retraced.{Retraced}
 use Rattle.unbuild.specs.Behind.{bin_behind, cfg_behind, unbuildable}
 use Rattle.unbuild.specs.Code.Answers.{Answered, AnswersBy, Plain, bare, bin_in, cfgIn, refusalAccelerated}
 use Rattle.unbuild.specs.Content.{image_jlp, image_tables, whole_ram}
-use Rattle.unbuild.specs.Laws.Loaded.{answers_loaded, laid_ones, refusal_alike, tables_loaded}
+use Rattle.unbuild.proofs.Theorems.Loaded.{answers_loaded, laid_ones, refusal_alike, tables_loaded}
 use Rattle.unbuild.specs.Laws.Named.{lent_whole}
 use Rattle.unbuild.specs.Laws.Two.{whole_ones}
-use Rattle.unbuild.specs.Laws.Unbuilt.{answered, answered_load, load_passes}
+use Rattle.unbuild.proofs.Theorems.Unbuilt.{answered, answered_load, load_passes}
 use Rattle.unbuild.specs.declared.Unbuilding.{Unbuilding}
 
 pub whole_zeros : (r : List ℕ) → r ≡ replicate lent_limit 0 → r ≡ whole_ram

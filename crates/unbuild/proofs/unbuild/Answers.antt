@@ -1,5 +1,5 @@
 -- `unbuild::unbuild` meets its contract: there are accelerators, or there are none.
-use Rattle.unbuild.specs.Laws.Unbuilt.{answered_accelerated}
+use Rattle.unbuild.proofs.Theorems.Unbuilt.{answered_accelerated}
 use Rattle.unbuild.proofs.unbuild.Goals as goal
 
 pub returns-then-jlp_of-ne0 : goal.returns-then-jlp_of-ne0

@@ -14,7 +14,7 @@ use Rattle.canon.specs.Bin.{canonical_bin}
 use Rattle.canon.specs.Laws.Same.{bin_same}
 use Rattle.unbuild.specs.Behind.{bin_behind, cfg_behind, cfg_of, plan_behind, rebuilds, unbuildable}
 use Rattle.unbuild.specs.Content.{SameContent, loaded_word, names_word}
-use Rattle.unbuild.specs.Laws.Exactly.{named_is}
+use Rattle.unbuild.proofs.Theorems.Exactly.{named_is}
 
 module _ (s t : List ℕ) (same : SameContent s t) where
   plan_same : plan_behind s ≡ plan_behind t

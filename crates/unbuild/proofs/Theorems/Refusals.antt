@@ -11,7 +11,7 @@ use Rattle.places.specs.Limits.{lent_limit}
 use Rattle.load.specs.Laws.Refusals.{loads_exactly, rows_refusing}
 use Rattle.load.specs.Load.{flash_asked, loading_of, rows_by_size}
 use Rattle.unbuild.specs.Behind.{unbuildable}
-use Rattle.unbuild.specs.Laws.Exactly.{Buildable, buildable_exactly, unbuildable_exactly}
+use Rattle.unbuild.proofs.Theorems.Exactly.{Buildable, buildable_exactly, unbuildable_exactly}
 use Rattle.unbuild.specs.Unbuild.{bin_after, bin_too_long, cfg_after, either_short, refusal_of, refusal_rows, unbuilding_of}
 
 pub record Answers (s bin cfg : List ℕ) : Type 0 where

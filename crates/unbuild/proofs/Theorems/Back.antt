@@ -18,7 +18,7 @@ use Rattle.cfg.specs.File.{entries_of}
 use Rattle.build.specs.Building.{building_of, builds, built_of, pressed_image, refusal_of, too_large, too_short, wrong_bin}
 use Rattle.unbuild.specs.Behind.{bin_behind, cfg_behind, plan_behind, rebuilds, unbuildable}
 use Rattle.unbuild.specs.Content.{SameContent}
-use Rattle.unbuild.specs.Laws.Exactly.{Apart, canonical_apart, canonical_source}
+use Rattle.unbuild.proofs.Theorems.Exactly.{Apart, canonical_apart, canonical_source}
 use Rattle.unbuild.specs.Laws.Pressed.{no_label}
 
 pub record BackAgain (s out : List ℕ) : Type 0 where
