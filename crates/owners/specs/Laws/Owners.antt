@@ -67,7 +67,8 @@ least_or f g (l ∷ ls) =
 
 module _ (n : ℕ) (claims : ℕ → Entry → Bool) where
   -- a place that a line claims is nobody's among lines with which it has none in common
-  free : (l : Entry) {ls : List Line} → All (λ m. meet_in n claims l m ≡ false) ls → (p : ℕ) → p < n → claims p l ≡ true → first_has (λ m. m.source) (claims p) ls ≡ 0
+  free : (l : Entry) {ls : List Line} → All (λ m. meet_in n claims l m ≡ false) ls → (p : ℕ) → p < n → claims p l ≡ true
+      → first_has (λ m. m.source) (claims p) ls ≡ 0
   free l nil p h c = refl
   free l (cons {l = m} {ls = ls} q qs) p h c =
       cases (claims p m.entry)

@@ -8,7 +8,10 @@ write_number-requires c =
     let begins = c.requires.slots.1 in
     let within = c.requires.p_lt_cells.0 in
     record {
-      number_le_line_limit = (held_few _ _ _ _ _ _ begins within c.held_at-number.ensures, held_start _ _ _ _ _ _ begins within c.held_at-number.ensures _ c.address_at-a.ensures);
+      number_le_line_limit = (
+        held_few _ _ _ _ _ _ begins within c.held_at-number.ensures,
+        held_start _ _ _ _ _ _ begins within c.held_at-number.ensures _ c.address_at-a.ensures,
+      );
       paragraph_size_in_bounds = search rules;
     }
 
