@@ -1,0 +1,10 @@
+-- `salvages::put_drops` is safe and ends: as many lines as places, and the buffer keeps its length.
+use Prim.Native.Nat.{◌≤◌, ◌-◌}
+use lib.ListN.{length}
+use Rattle.vectors_desk.proofs.salvages.put_drops.Given as goal
+
+abbrev pub invariant-loop-i : goal.invariant-loop-i
+invariant-loop-i l = l.i ≤ length l.places
+
+abbrev pub decreases-loop-i : goal.decreases-loop-i
+decreases-loop-i l = length l.places - l.i
