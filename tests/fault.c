@@ -27,19 +27,20 @@ static long answer(long r)
     return r;
 }
 
-/* A proved program runs by the kit's loader: its file is ld-linux.. */
+/* A proved program stands in a folder target/bin. */
 static int is_program(void)
 {
     static int known = -1;
     if (known < 0) {
         char path[4096];
-        long n = raw(SYS_READLINK, (long)"/proc/self/exe", (long)path, sizeof path - 1), i = 0, last = 0;
-        for (; i < n; i++)
-            if (path[i] == '/') last = i + 1;
-        const char *want = "ld-linux";
-        known = n > 0;
-        for (i = 0; want[i]; i++)
-            if (last + i >= n || path[last + i] != want[i]) known = 0;
+        long n = raw(SYS_READLINK, (long)"/proc/self/exe", (long)path, sizeof path - 1), i = 0, k = 0;
+        const char *want = "/target/bin/";
+        known = 0;
+        for (i = 0; i < n && !known; i++) {
+            for (k = 0; want[k] && i + k < n && path[i + k] == want[k]; k++)
+                ;
+            known = !want[k];
+        }
     }
     return known;
 }
