@@ -65,7 +65,9 @@ module _ (s : List ℕ) where
 
   pub has_zero : (i : ℕ) → i < length s → get_or s i 0 ≡ 0 → false ≡ is_name s
   unfolding is_name
-  has_zero i h e = cases (all (length s) sound) (λ q. true_is_not_false (all_at (length s) sound q i h) (simp (eq-eqb _ _ e))) (λ q. sym (and_false (ltb (length s) 4096) (all (length s) (sound)) q))
+  has_zero i h e =
+      cases (all (length s) sound) (λ q. true_is_not_false (all_at (length s) sound q i h) (simp (eq-eqb _ _ e)))
+      (λ q. sym (and_false (ltb (length s) 4096) (all (length s) (sound)) q))
 
   pub name_good : (i : ℕ) → length s < 4096 → i ≤ length s → length s ≤ i → all i sound ≡ true → true ≡ is_name s
   unfolding is_name
@@ -90,25 +92,30 @@ unfolding joined
 hex_none tag out l = record { up = omega arith; fits = l; long = refl; wrote = wrote_none out }
 
 pub hex_more :
-    (tag out₀ out : List ℕ) (i b x y : ℕ) → Hexing tag out₀ out i → i < length tag → b ≡ get_or tag i 0 → x ≡ hex_digit_ascii (b / 16 % 16) → y ≡ hex_digit_ascii (b % 16)
+    (tag out₀ out : List ℕ) (i b x y : ℕ) → Hexing tag out₀ out i → i < length tag → b ≡ get_or tag i 0
+    → x ≡ hex_digit_ascii (b / 16 % 16) → y ≡ hex_digit_ascii (b % 16)
     → Hexing tag out₀ (set (set out (2 * i) x) (2 * i + 1) y) (i + 1)
 unfolding joined
 hex_more tag out₀ out i b x y c h eb ex ey =
     let w : List ℕ = joined hex_of (take i tag) in
     let l : length w ≡ 2 * i = length_hex (take i tag) ∙ ap (λ (n : ℕ). 2 * n) (length-take-le i tag c.up) in
     let room : 2 * i + 1 < length out₀ = omega (arith, c.fits) in
-    let one : Wrote out₀ (set out (2 * i) x) (w ++ (hex_digit_ascii (b / 16 % 16) ∷ [])) = wrote_set out₀ out w (2 * i) x (hex_digit_ascii (b / 16 % 16)) c.wrote (sym l) (omega arith) ex in
+    let one : Wrote out₀ (set out (2 * i) x) (w ++ (hex_digit_ascii (b / 16 % 16) ∷ [])) =
+    wrote_set out₀ out w (2 * i) x (hex_digit_ascii (b / 16 % 16)) c.wrote (sym l) (omega arith) ex in
     let two : Wrote out₀ (set (set out (2 * i) x) (2 * i + 1) y) ((w ++ (hex_digit_ascii (b / 16 % 16) ∷ [])) ++ (hex_digit_ascii (b % 16) ∷ [])) =
-    wrote_set out₀ (set out (2 * i) x) (w ++ (hex_digit_ascii (b / 16 % 16) ∷ [])) (2 * i + 1) y (hex_digit_ascii (b % 16)) one (omega (arith, length-append w (hex_digit_ascii (b / 16 % 16) ∷ []))) room ey in
+    wrote_set out₀ (set out (2 * i) x) (w ++ (hex_digit_ascii (b / 16 % 16) ∷ [])) (2 * i + 1) y (hex_digit_ascii (b % 16)) one
+    (omega (arith, length-append w (hex_digit_ascii (b / 16 % 16) ∷ []))) room ey in
     let t : take (i + 1) tag ≡ take i tag ++ (b ∷ []) = rw (add-one, eb) (take-suc tag i 0 h) in
     let e : (w ++ (hex_digit_ascii (b / 16 % 16) ∷ [])) ++ (hex_digit_ascii (b % 16) ∷ []) ≡ joined hex_of (take (i + 1) tag) =
-    append_assoc w (hex_digit_ascii (b / 16 % 16) ∷ []) (hex_digit_ascii (b % 16) ∷ []) ∙ sym (joined_append hex_of (take i tag) (b ∷ [])) ∙ ap (joined hex_of) (sym t) in
+    append_assoc w (hex_digit_ascii (b / 16 % 16) ∷ []) (hex_digit_ascii (b % 16) ∷ [])
+    ∙ sym (joined_append hex_of (take i tag) (b ∷ [])) ∙ ap (joined hex_of) (sym t) in
     record { up = omega arith; fits = c.fits; long = simp length-set c.long; wrote = rw e at two }
 
 pub hex_all : (tag out₀ out : List ℕ) (i : ℕ) → Hexing tag out₀ out i → length tag ≤ i → out ≡ joined hex_of tag
 hex_all tag out₀ out i c h =
     let t : take i tag ≡ tag = take_all i tag h in
-    wrote_all out₀ out (joined hex_of (take i tag)) c.wrote (ap (λ (x : List ℕ). length (joined hex_of x)) t ∙ length_hex tag ∙ sym c.fits) ∙ ap (joined hex_of) t
+    wrote_all out₀ out (joined hex_of (take i tag)) c.wrote (ap (λ (x : List ℕ). length (joined hex_of x)) t ∙ length_hex tag ∙ sym c.fits)
+    ∙ ap (joined hex_of) t
 
 -- no input before place i is the file
 module _ (seen : Seen) (inputs : List Seen) where

@@ -1,22 +1,16 @@
 -- A part's name: its pieces one behind the other in the buffer, or nothing where they do not fit.
 use Prim.Native.Nat.{ℕ, ◌+◌, ◌-◌, ◌≤◌, ◌<◌}
-use mathlib.Core.List.{List, ◌++◌, append_assoc, append-nil}
+use mathlib.Core.List.{List, ◌++◌, append_assoc}
 use mathlib.Core.Path.{◌≡◌, sym, ap, ◌∙◌}
 use native.Mathlib.Omega.{arith}
-use lib.ListN.{length, take, drop, length-append, drop_of_length-le}
-use lib.Seq.{take_all, length-take-le}
+use lib.ListN.{length, take, drop, length-append}
+use lib.Seq.{length-take-le}
 use borrow.Author.Tests.{lt-ltb, le-ltb}
 use borrow.Rule.Slice.PartMut.{put_mid}
 use Rattle.basics.specs.Lists.{joined}
 use Rattle.basics.specs.Laws.Wrote.{Wrote, wrote_part, wrote_all}
 use Rattle.files.specs.Names.{hex_of, folder_of, mark, part_of, part_length, part_in}
 use Rattle.files.proofs.Loops.{length_hex}
-
--- a text copied over a part of just its size
-pub copied : (out text out' : List ℕ) → length out ≡ length text → out' ≡ take (length text) text ++ drop (length text) out → out' ≡ text
-copied out text out' l e =
-    let k : length out ≤ length text = omega arith in
-    e ∙ ap (λ (x : List ℕ). x ++ drop (length text) out) (take_all (length text) text (omega arith)) ∙ ap (λ (x : List ℕ). text ++ x) (drop_of_length-le out k) ∙ append-nil text
 
 module _ (name : List ℕ) (k : ℕ) (is : k ≡ folder_of name) where
   -- its three pieces
@@ -34,7 +28,8 @@ module _ (name : List ℕ) (k : ℕ) (is : k ≡ folder_of name) where
       let three : Wrote out (put_mid (k + 7) (k + 31 - (k + 7)) (put_mid k (k + 7 - k) (p ++ drop k out) q) r) ((take k name ++ mark) ++ joined hex_of tag) =
       wrote_part out _ (take k name ++ mark) (k + 7) (k + 31 - (k + 7)) r (joined hex_of tag) two (sym m) (omega arith) (omega arith) er in
       let n : length ((take k name ++ mark) ++ joined hex_of tag) ≡ length out = length-append (take k name ++ mark) (joined hex_of tag) ∙ omega arith in
-      wrote_all out _ ((take k name ++ mark) ++ joined hex_of tag) three n ∙ append_assoc (take k name) mark (joined hex_of tag) ∙ ap (λ (j : ℕ). take j name ++ (mark ++ joined hex_of tag)) is
+      wrote_all out _ ((take k name ++ mark) ++ joined hex_of tag) three n ∙ append_assoc (take k name) mark (joined hex_of tag)
+      ∙ ap (λ (j : ℕ). take j name ++ (mark ++ joined hex_of tag)) is
 
   -- where it does not fit, and where it does
   pub short_length : (room : ℕ) → room < k + 31 → 0 ≡ part_length name room

@@ -1,6 +1,6 @@
-// The map of an image, which is the argument: sixteen chapters of sixteen paragraphs with a sign for what shows there at power-on, the pages of each chapter that
-// has some, then `words=`, `jlp=` and `flash=`. Or `result=refused` with number and place, where the load refuses; or `result=stopped` with the file and
-// the reason.
+// The map of an image, which is the argument: sixteen chapters of sixteen paragraphs with a sign for what shows there at power-on, the pages of
+// each chapter that has some, then `words=`, `jlp=` and `flash=`. Or `result=refused` with number and place, where the load refuses; or
+// `result=stopped` with the file and the reason.
 #![tactic(auto)]
 
 ghost use Rattle.std.specs.Prelude.{◌≡◌, ◌+◌, ◌<◌, vec_len, IfOk};

@@ -20,5 +20,8 @@ put_part-requires c = (search rules, search rules, simp length-take (omega arith
 
 pub returns : goal.returns
 returns c =
-    let folder = c.folder-k in
-    (whole_length _ _ folder.ensures.0 _ (omega arith), whole_out _ _ folder.ensures.0 _ _ _ (omega arith) c.put_part.ensures, counted _ _ (simp (length-append, length-drop, c.put_part.auto.out, length-take) (omega arith)))
+    let folder = c.folder-k in (
+      whole_length _ _ folder.ensures.0 _ (omega arith),
+      whole_out _ _ folder.ensures.0 _ _ _ (omega arith) c.put_part.ensures,
+      counted _ _ (simp (length-append, length-drop, c.put_part.auto.out, length-take) (omega arith)),
+    )
