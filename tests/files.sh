@@ -416,10 +416,8 @@ a_file_system_that_cannot_sync() {
     is_image out new
     no_part
 }
-# The library of today's kit loses the error of a close (docs/PORT.md), so that no program can tell it.
+# Today's library loses the error of a close, so that no program can tell it and this case is wrong (docs/PORT.md).
 a_close_that_fails() {
-    skipped="an error of a close is lost"
-    return
     press_with close:3:5
     stopped 'out cannot be written whole (the disk reports an error)'
 }

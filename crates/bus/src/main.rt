@@ -3,11 +3,10 @@
 // refuses; or `result=stopped` with the file and the reason.
 #![tactic(auto)]
 
-ghost use Rattle.std.specs.Prelude.{◌≡◌, ◌≤◌, vec_len, IfOk};
+ghost use Rattle.std.specs.Prelude.{◌≡◌, ◌≤◌, length};
 
 use basics::Refusal;
 use cart::Cartridge;
-use std::alloc::{AllocError, Global};
 use std::env::FillError;
 use std::rt::Env;
 
@@ -16,17 +15,17 @@ const LIST_LIMIT: usize = 4194304;
 
 // Room for one byte more than a list may have, so that a longer one is seen to be longer. The image stands in it first: once it is loaded it is not
 // asked again.
-fn file_room(alloc: Global) -> Result<Vec<u8>, AllocError>
-    ensures { IfOk result (λ v. 4194305 ≡ vec_len v) }
+fn file_room() -> [u8; 4194305]
+    ensures { 4194305 ≡ length result }
 {
-    vec![in alloc; 0; 4194305]
+    [0; 4194305]
 }
 
 // Room for the answers of any list: a read takes 15 bytes with the end of its line.
-fn answer_room(alloc: Global) -> Result<Vec<u32>, AllocError>
-    ensures { IfOk result (λ v. 279620 ≡ vec_len v) }
+fn answer_room() -> [u32; 279620]
+    ensures { 279620 ≡ length result }
 {
-    vec![in alloc; 0; 279620]
+    [0; 279620]
 }
 
 // A limit that is given, or that what is given is none.
@@ -179,11 +178,10 @@ fn play(rt: &HostRuntime, file: &mut [u8], ram: &mut [u16], flash: &mut [u16], o
     run_file(rt, file, c, ram, &mut flash[..f], out);
 }
 
-fn main(rt: HostRuntime) -> Result<(), AllocError> {
-    let mut file = file_room(rt.alloc())?;
-    let mut answers = answer_room(rt.alloc())?;
+fn main(rt: HostRuntime) {
+    let mut file = file_room();
+    let mut answers = answer_room();
     let mut ram = lending::blank_ram();
     let mut flash = lending::erased_flash();
     play(&rt, &mut file, &mut ram, &mut flash, &mut answers);
-    Ok(())
 }

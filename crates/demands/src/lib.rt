@@ -39,7 +39,7 @@ pub fn press_and_load(
     flash: &[u16],
 ) -> Title
     ensures { Pressed (record {
-      bin = bin.entry.now;
+      bin = bin.now;
       cfg = cfg.now;
       label = label.now;
       out = out.old;

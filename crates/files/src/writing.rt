@@ -175,7 +175,7 @@ fn fill(file: &mut File, bytes: &[u8], old: Seen) -> Stop {
     sync(file)
 }
 
-// Fills the part file and closes it, whatever happens.
+// Fills the part file and closes it, whatever happens; the library loses an error of the close. There is a file wherever nothing has stopped.
 fn fill_and_close(file: Option<File>, bytes: &[u8], old: Seen) -> Stop {
     match file {
         Some(mut file) => fill(&mut file, bytes, old),

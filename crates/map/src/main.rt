@@ -3,14 +3,13 @@
 // `result=stopped` with the file and the reason.
 #![tactic(auto)]
 
-ghost use Rattle.std.specs.Prelude.{◌≡◌, ◌+◌, ◌<◌, vec_len, IfOk};
+ghost use Rattle.std.specs.Prelude.{◌≡◌, ◌+◌, ◌<◌, length};
 ghost use Rattle.places.specs.Limits.{chapters, image_limit};
 
 use basics::Refusal;
 use cart::Cartridge;
 use chart::{Leaf, Shown};
 use places::{CHAPTER_PAGES, CHAPTER_PARAGRAPHS, CHAPTERS, FLIP_ENTRIES, IMAGE_LIMIT};
-use std::alloc::{AllocError, Global};
 
 // The lengths of a chapter's line and of a line of pages, and where their first sign and their first page stand.
 const CHAPTER_LINE: usize = 37;
@@ -24,10 +23,10 @@ const PAGES_AT: usize = 4;
 // Room for one byte more than an image may have, so that a longer one is seen to be longer.
 const FILE_ROOM: usize = IMAGE_LIMIT + 1;
 
-fn file_room(alloc: Global) -> Result<Vec<u8>, AllocError>
-    ensures { IfOk result (λ v. image_limit + 1 ≡ vec_len v) }
+fn file_room() -> [u8; FILE_ROOM]
+    ensures { image_limit + 1 ≡ length result }
 {
-    vec![in alloc; 0; FILE_ROOM]
+    [0; FILE_ROOM]
 }
 
 fn refused(rt: &HostRuntime, r: Refusal) {
@@ -167,10 +166,9 @@ fn map(rt: &HostRuntime, file: &mut [u8], ram: &mut [u16], flash: &[u16]) {
     show(rt, loading.cartridge, loading.words as u64);
 }
 
-fn main(rt: HostRuntime) -> Result<(), AllocError> {
-    let mut file = file_room(rt.alloc())?;
+fn main(rt: HostRuntime) {
+    let mut file = file_room();
     let mut ram = lending::blank_ram();
     let flash = lending::erased_flash();
     map(&rt, &mut file, &mut ram, &flash);
-    Ok(())
 }

@@ -2,7 +2,7 @@
 // a line for each family, and the first case that differs; the last line says whether every file was there and had cases.
 #![tactic(auto)]
 
-ghost use Rattle.std.specs.Prelude.{◌≡◌, ◌+◌, vec_len, IfOk};
+ghost use Rattle.std.specs.Prelude.{◌≡◌, ◌+◌, length};
 ghost use Rattle.places.specs.Limits.{lent_limit};
 
 use cases::fill::put;
@@ -10,7 +10,6 @@ use cases::record::{end_of, front};
 use cases::tally::Tally;
 use cases::{file, rooms, tally};
 use places::LENT_LIMIT;
-use std::alloc::{AllocError, Global};
 use sums::TABLE_ENTRIES;
 
 mod card;
@@ -36,18 +35,18 @@ pub enum Family {
 const FAMILIES: usize = 9;
 
 // Room for any buffer or built image, and for any RAM or flash.
-fn buffer_room(alloc: Global) -> Result<Vec<u8>, AllocError>
-    ensures { IfOk result (λ v. 1200000 ≡ vec_len v) }
+fn buffer_room() -> [u8; 1200000]
+    ensures { 1200000 ≡ length result }
 {
-    vec![in alloc; 0; 1200000]
+    [0; 1200000]
 }
 
 const WORD_ROOM: usize = LENT_LIMIT + 257;
 
-fn word_room(alloc: Global) -> Result<Vec<u16>, AllocError>
-    ensures { IfOk result (λ v. lent_limit + 257 ≡ vec_len v) }
+fn word_room() -> [u16; WORD_ROOM]
+    ensures { lent_limit + 257 ≡ length result }
 {
-    vec![in alloc; 0; WORD_ROOM]
+    [0; WORD_ROOM]
 }
 
 // Whether the record, its length and its fields, agrees.
@@ -190,14 +189,13 @@ fn run_files(
     tally::report_all(rt, all, had, FAMILIES as u64);
 }
 
-fn main(rt: HostRuntime) -> Result<(), AllocError> {
-    let mut file = rooms::file_room(rt.alloc())?;
-    let mut a = rooms::image_room(rt.alloc())?;
-    let mut b = buffer_room(rt.alloc())?;
-    let mut ram = word_room(rt.alloc())?;
-    let mut flash = word_room(rt.alloc())?;
+fn main(rt: HostRuntime) {
+    let mut file = rooms::file_room();
+    let mut a = rooms::image_room();
+    let mut b = buffer_room();
+    let mut ram = word_room();
+    let mut flash = word_room();
     let first = checksums::vectors();
     tally::report(&rt, b"001", first);
     run_files(&rt, first, &mut file, &mut a, &mut b, &mut ram, &mut flash);
-    Ok(())
 }

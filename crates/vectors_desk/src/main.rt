@@ -2,7 +2,7 @@
 // labels, salvage, lists of accesses, back to BIN and CFG. It prints what `vectors` prints of the other families.
 #![tactic(auto)]
 
-ghost use Rattle.std.specs.Prelude.{◌≡◌, vec_len, IfOk};
+ghost use Rattle.std.specs.Prelude.{◌≡◌, length};
 ghost use Rattle.places.specs.Limits.{image_limit};
 
 use cases::fill::put;
@@ -10,7 +10,6 @@ use cases::record::{end_of, front};
 use cases::tally::Tally;
 use cases::{file, rooms, tally};
 use places::IMAGE_LIMIT;
-use std::alloc::{AllocError, Global};
 use sums::TABLE_ENTRIES;
 
 mod back;
@@ -31,10 +30,10 @@ pub enum Family {
 const FAMILIES: usize = 6;
 
 // Room for any buffer.
-fn buffer_room(alloc: Global) -> Result<Vec<u8>, AllocError>
-    ensures { IfOk result (λ v. image_limit ≡ vec_len v) }
+fn buffer_room() -> [u8; IMAGE_LIMIT]
+    ensures { image_limit ≡ length result }
 {
-    vec![in alloc; 0; IMAGE_LIMIT]
+    [0; IMAGE_LIMIT]
 }
 
 // Whether the record, its length and its fields, agrees.
@@ -157,11 +156,10 @@ fn run_files(rt: &HostRuntime, file: &mut [u8], image: &mut [u8], out: &mut [u8]
     tally::report_all(rt, all, had, FAMILIES as u64);
 }
 
-fn main(rt: HostRuntime) -> Result<(), AllocError> {
-    let mut file = rooms::file_room(rt.alloc())?;
-    let mut image = rooms::image_room(rt.alloc())?;
-    let mut out = buffer_room(rt.alloc())?;
+fn main(rt: HostRuntime) {
+    let mut file = rooms::file_room();
+    let mut image = rooms::image_room();
+    let mut out = buffer_room();
     let mut text = rooms::label_room();
     run_files(&rt, &mut file, &mut image, &mut out, &mut text);
-    Ok(())
 }

@@ -1,0 +1,8 @@
+-- `cases::rooms::file_room` meets its contract: a repeat has as many elements as it says, and none of them is counted here.
+use Prim.Native.Nat.{ℕ}
+use mathlib.Core.Path.{sym}
+use lib.ListN.{length-replicate}
+use Rattle.cases.proofs.rooms.file_room.Goals as goal
+
+pub returns : goal.returns
+returns c = sym (length-replicate {A = ℕ} 1000001 0)

@@ -1,0 +1,9 @@
+-- `vectors::word_room` meets its contract: a repeat has as many elements as it says, and none of them is counted here.
+use Prim.Native.Nat.{ℕ, ◌+◌}
+use mathlib.Core.Path.{sym}
+use lib.ListN.{length-replicate}
+use Rattle.places.specs.Limits.{lent_limit}
+use Rattle.vectors.proofs.word_room.Goals as goal
+
+pub returns : goal.returns
+returns c = sym (length-replicate {A = ℕ} (lent_limit + 257) 0)
