@@ -7,6 +7,7 @@ pub mod Counts
 pub mod Joined
 pub mod Rows
 pub mod Refusals
+pub mod Outcomes
 pub mod Numbered
 pub mod Stands
 pub mod Wrote

@@ -4,13 +4,28 @@
 ghost use Rattle.std.specs.Prelude.{◌/◌, ◌%◌, ◌<◌, ◌≤◌, min, ◌≡◌, ◌&&◌, ◌||◌, length, get_or};
 ghost use Rattle.basics.specs.Bytes.{at16, bytes16};
 ghost use Rattle.basics.specs.Lists.{put_front};
-ghost use Rattle.basics.specs.Refusals.{refuse, no_refusal};
+ghost use Rattle.basics.specs.Refusals.{refuse, no_refusal, declined};
 
-// A refusal: a number of 01's table, and its place; 0 and 0 where nothing is refused.
-#[derive(Clone, Copy)]
+// A refusal: a number of 01's table, and its place. It is the error of every function that may refuse.
+#[derive(Clone, Copy, PartialEq, Eq)]
 pub struct Refusal {
     pub number: u32,
     pub place: usize,
+}
+
+// The refusal of a function that writes into a lent buffer, and the length that it needs there: 0 but at 29.
+#[derive(Clone, Copy, PartialEq, Eq)]
+pub struct Declined {
+    pub refusal: Refusal,
+    pub length: usize,
+}
+
+impl From<Refusal> for Declined {
+    ghost from_gives = { λ r d. d ≡ declined r 0 };
+
+    fn from(refusal: Refusal) -> Declined {
+        Declined { refusal, length: 0 }
+    }
 }
 
 pub fn refuse(number: u32, place: usize) -> Refusal
@@ -55,7 +70,7 @@ pub fn high(w: u16) -> u8
 pub fn byte_at(s: &[u8], at: usize) -> u8
     ensures { result ≡ get_or s.now at 0 }
 {
-    if at < s.len() { s[at] } else { 0 }
+    s.get(at).copied().unwrap_or(0)
 }
 
 // The word at a place, its lower byte first; 0 for what lies past the end.
@@ -65,7 +80,7 @@ pub fn word_at(s: &[u8], at: usize) -> u16
     if s.len() <= at {
         return 0;
     }
-    wide16(s[at]) + 256 * wide16(byte_at(s, at + 1))
+    u16::from_le_bytes([s[at], byte_at(s, at + 1)])
 }
 
 pub fn least(a: usize, b: usize) -> usize
@@ -93,11 +108,7 @@ pub fn put_bytes(out: &mut [u8], bytes: &[u8])
     if out.len() < bytes.len() {
         return;
     }
-    let mut i = 0;
-    while i < bytes.len() {
-        out[i] = bytes[i];
-        i += 1;
-    }
+    out[..bytes.len()].copy_from_slice(bytes);
 }
 
 pub fn put_words(out: &mut [u8], words: &[u16])
@@ -106,11 +117,8 @@ pub fn put_words(out: &mut [u8], words: &[u16])
     if out.len() / 2 < words.len() {
         return;
     }
-    let mut i = 0;
-    while i < words.len() {
-        let w = words[i];
-        out[2 * i] = low(w);
-        out[2 * i + 1] = high(w);
-        i += 1;
+    for i in 0..words.len() {
+        out[2 * i] = low(words[i]);
+        out[2 * i + 1] = high(words[i]);
     }
 }

@@ -1,5 +1,4 @@
 -- `basics::put_words` meets its contract. The loop's invariant: the first i words are put, two bytes each.
-use Prim.Native.Nat.{◌-◌}
 use native.Mathlib.Omega.{arith}
 use lib.ListN.{length-set}
 use borrow.Author.Rules.{rules}
