@@ -3,6 +3,7 @@ pub mod Tests
 pub mod Lists
 pub mod Bytes
 pub mod Tables
+pub mod Filling
 pub mod Counts
 pub mod Joined
 pub mod Rows
