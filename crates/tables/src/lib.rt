@@ -11,6 +11,7 @@ use basics::{Refusal, byte_at, put_bytes, put_words, word_at};
 use cart::Cartridge;
 use jlp::Jlp;
 use places::{CHAPTER_PAGES, PARAGRAPHS};
+use std::array;
 
 // Where the permissions and the flips stand behind the mapping, and the bytes of all three.
 pub const PERMISSIONS_AT: usize = 2 * PARAGRAPHS;
@@ -24,22 +25,14 @@ fn words_at(t: &[u8], at: usize) -> [u16; PARAGRAPHS]
     requires { at ≤ tables_size }
     ensures { result ≡ words_at t.now at }
 {
-    let mut w = [0u16; PARAGRAPHS];
-    for i in 0..PARAGRAPHS {
-        w[i] = word_at(t, at + 2 * i);
-    }
-    w
+    array::from_fn(|i| word_at(t, at + 2 * i))
 }
 
 fn bytes_at(t: &[u8], at: usize) -> [u8; PARAGRAPHS]
     requires { at ≤ tables_size }
     ensures { result ≡ bytes_at t.now at }
 {
-    let mut w = [0u8; PARAGRAPHS];
-    for i in 0..PARAGRAPHS {
-        w[i] = byte_at(t, at + i);
-    }
-    w
+    array::from_fn(|i| byte_at(t, at + i))
 }
 
 // The sectors of flash that flags give: field 2 or 3 has some.
