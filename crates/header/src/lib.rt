@@ -3,7 +3,7 @@
 
 ghost use Rattle.std.specs.Prelude.{◌≤◌, ◌≡◌, length};
 ghost use Rattle.basics.specs.Lists.{put_front};
-ghost use Rattle.header.specs.Header.{header_size, flags_size, uid_size, header_of, wrong_length, wrong_magic, wrong_version, wrong_header_sum, header_refusal};
+ghost use Rattle.header.specs.Header.{header_size, flags_size, uid_size, header_of, flags_of, wrong_length, wrong_magic, wrong_version, wrong_header_sum, header_refusal};
 ghost use Rattle.header.specs.Flags.{jlp_field, flash_size, setting_of, stated_at, number_of, compat_of, no_compat};
 
 use basics::{Refusal, byte_at, put_bytes};
@@ -58,16 +58,12 @@ pub struct Compat {
 fn setting_of(bits: u8) -> TutorVision
     ensures { result ≡ setting_of bits }
 {
-    if bits == 0 {
-        return TutorVision::Incompatible;
+    match bits {
+        0 => TutorVision::Incompatible,
+        1 => TutorVision::Tolerates,
+        2 => TutorVision::Enhanced,
+        _ => TutorVision::Requires,
     }
-    if bits == 1 {
-        return TutorVision::Tolerates;
-    }
-    if bits == 2 {
-        return TutorVision::Enhanced;
-    }
-    TutorVision::Requires
 }
 
 // What two bits say of the TutorVision at a version of the compatibility fields.
@@ -93,6 +89,13 @@ pub fn number_of(t: TutorVision) -> u8
     }
 }
 
+// Returns the 16 flag bytes of an image, or as many of them as an image that ends earlier has.
+pub fn flags_of(s: &[u8]) -> &[u8]
+    ensures { result.now ≡ flags_of s.now }
+{
+    &s[FLAGS_AT.min(s.len())..UID_AT.min(s.len())]
+}
+
 // The JLP field.
 pub fn jlp_field(flags: &[u8]) -> u8
     ensures { result ≡ jlp_field flags.now }
@@ -104,7 +107,7 @@ pub fn jlp_field(flags: &[u8]) -> u8
 pub fn flash_size(flags: &[u8]) -> u16
     ensures { result ≡ flash_size flags.now }
 {
-    byte_at(flags, 2) as u16 / 64 + 4 * (byte_at(flags, 3) as u16)
+    u16::from(byte_at(flags, 2)) / 64 + 4 * u16::from(byte_at(flags, 3))
 }
 
 pub fn compat_of(flags: &[u8]) -> Compat
@@ -138,7 +141,7 @@ pub fn no_compat() -> Compat
 fn wrong_length(s: &[u8]) -> bool
     ensures { result ≡ wrong_length s.now }
 {
-    basics::either(s.len() < HEADER_SIZE, IMAGE_LIMIT < s.len())
+    s.len() < HEADER_SIZE || IMAGE_LIMIT < s.len()
 }
 
 fn wrong_magic(s: &[u8]) -> bool
@@ -162,8 +165,7 @@ fn wrong_sum(s: &[u8]) -> bool
     requires { header_size ≤ length s.now }
     ensures { result ≡ wrong_header_sum s.now }
 {
-    let sum = sums::dowcrc_short(&s[..SUM_AT]);
-    sum != s[SUM_AT]
+    sums::dowcrc_short(&s[..SUM_AT]) != s[SUM_AT]
 }
 
 // The refusal of an image's header; none where it is good.
@@ -185,9 +187,15 @@ pub fn check(s: &[u8]) -> Refusal
     basics::no_refusal()
 }
 
-// The header, at the front of a buffer that has room for it: each field into its own part, then their checksum.
-fn put_header(out: &mut [u8], flags: &[u8], uid: &[u8])
-    requires { (length flags.now ≡ flags_size) × (length uid.now ≡ uid_size) }
+// Returns the number of bytes in the header of these flags and this UID.
+pub fn size(flags: &[u8; FLAGS_SIZE], uid: &[u8; UID_SIZE]) -> usize
+    ensures { (result ≡ length (header_of flags.now uid.now)) × (result ≡ header_size) }
+{
+    HEADER_SIZE
+}
+
+// Writes the header at the front of a buffer that has room for it: each field in its own part, then their checksum.
+pub fn write(out: &mut [u8], flags: &[u8; FLAGS_SIZE], uid: &[u8; UID_SIZE])
     ensures { out.new ≡ put_front (header_of flags.now uid.now) out.old }
 {
     if out.len() < HEADER_SIZE {
@@ -198,26 +206,5 @@ fn put_header(out: &mut [u8], flags: &[u8], uid: &[u8])
     put_bytes(&mut out[FLAGS_AT..UID_AT], flags);
     put_bytes(&mut out[UID_AT..RESERVED_AT], uid);
     put_bytes(&mut out[RESERVED_AT..SUM_AT], &RESERVED);
-    let sum = sums::dowcrc_short(&out[..SUM_AT]);
-    out[SUM_AT] = sum;
-}
-
-// How many bytes the header of these flags and this UID has.
-fn size_of(flags: &[u8], uid: &[u8]) -> usize
-    requires { (length flags.now ≡ flags_size) × (length uid.now ≡ uid_size) }
-    ensures { (result ≡ length (header_of flags.now uid.now)) × (result ≡ header_size) }
-{
-    HEADER_SIZE
-}
-
-pub fn size(flags: &[u8; FLAGS_SIZE], uid: &[u8; UID_SIZE]) -> usize
-    ensures { (result ≡ length (header_of flags.now uid.now)) × (result ≡ header_size) }
-{
-    size_of(flags, uid)
-}
-
-pub fn write(out: &mut [u8], flags: &[u8; FLAGS_SIZE], uid: &[u8; UID_SIZE])
-    ensures { out.new ≡ put_front (header_of flags.now uid.now) out.old }
-{
-    put_header(out, flags, uid)
+    out[SUM_AT] = sums::dowcrc_short(&out[..SUM_AT]);
 }

@@ -1,9 +1,9 @@
--- `header::put_header` meets its contract: five fields in their parts, then the checksum of what stands there.
+-- `header::write` meets its contract: five fields in their parts, then the checksum of what stands there.
 use native.Mathlib.Omega.{arith}
 use lib.ListN.{length-take, length-set}
 use borrow.Author.Rules.{rules}
 use Rattle.header.proofs.Laws.{no_room, header_written}
-use Rattle.header.proofs.put_header.Goals as goal
+use Rattle.header.proofs.write.Goals as goal
 
 pub returns-then-out-lt-HEADER_SIZE : goal.returns-then-out-lt-HEADER_SIZE
 returns-then-out-lt-HEADER_SIZE c = search (rules, no_room)
