@@ -1,3 +1,4 @@
 -- Theorems over the definitions.
 pub mod Bytes
 pub mod Lines
+pub mod Spelling

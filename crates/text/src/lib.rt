@@ -18,67 +18,52 @@ pub struct Reader<'a> {
 pub fn is_cr_lf(b: u8, next: u8) -> bool
     ensures { result ≡ cr_lf b next }
 {
-    basics::both(b == b'\r', next == b'\n')
+    b == b'\r' && next == b'\n'
 }
 
 // Whether a byte may stand in a text, with `next` behind it.
 pub fn is_allowed(b: u8, next: u8) -> bool
     ensures { result ≡ allowed b next }
 {
-    let printed = basics::both(0x20 <= b, b <= 0x7E);
-    let blank = basics::either(printed, b == b'\t');
-    let end = basics::either(blank, b == b'\n');
-    basics::either(end, is_cr_lf(b, next))
+    (0x20..=0x7E).contains(&b) || b == b'\t' || b == b'\n' || is_cr_lf(b, next)
 }
 
 // The place of the first byte that may not stand where it does, or the text's length.
 pub fn first_foreign(text: &[u8]) -> usize
     ensures { result ≡ first_foreign text.now }
 {
-    let mut i = 0;
-    while i < text.len() {
+    for i in 0..text.len() {
         if !is_allowed(text[i], basics::byte_at(text, i + 1)) {
             return i;
         }
-        i += 1;
     }
-    i
+    text.len()
 }
 
 // The number of the line that a byte stands on, from 1.
 pub fn line_of(text: &[u8], at: usize) -> usize
     ensures { result ≡ line_of text.now at }
 {
-    let mut n = 1;
-    let mut i = 0;
-    while i < at {
-        if basics::byte_at(text, i) == b'\n' {
-            n += 1;
-        }
-        i += 1;
-    }
-    n
+    1 + text[..at.min(text.len())].iter().filter(|b| **b == b'\n').count()
 }
 
 // Whether a line ends at a byte, with `next` behind it.
 pub fn is_end(b: u8, next: u8) -> bool
     ensures { result ≡ ends b next }
 {
-    basics::either(b == b'\n', is_cr_lf(b, next))
+    b == b'\n' || is_cr_lf(b, next)
 }
 
 // The line cutter: where the line that stands at `at` ends.
 pub fn line_end(text: &[u8], at: usize) -> usize
     ensures { result ≡ line_end text.now at }
 {
-    let mut i = at;
-    while i < text.len() {
+    for i in at..text.len() {
         if is_end(text[i], basics::byte_at(text, i + 1)) {
             return i;
         }
-        i += 1;
     }
-    i
+    at.max(text.len())
 }
 
 // Where the line after one that ends at `end` starts.
@@ -105,17 +90,7 @@ pub fn next_line(text: &[u8], at: usize) -> usize
 pub fn same_text(s: &[u8], t: &[u8]) -> bool
     ensures { result ≡ same s.now t.now }
 {
-    let mut i = 0;
-    while i < s.len() {
-        if t.len() <= i {
-            return false;
-        }
-        if s[i] != t[i] {
-            return false;
-        }
-        i += 1;
-    }
-    i == t.len()
+    s == t
 }
 
 // A hex digit's value, in either case; 16 for any other byte. A row for each digit is looked up in a table, and no test is guessed.

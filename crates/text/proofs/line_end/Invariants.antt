@@ -1,7 +1,7 @@
 -- `text::line_end` meets its contract. The invariant: the line goes on at i, or ends there.
-use Prim.Native.Nat.{◌+◌, ◌-◌}
+use Prim.Native.Nat.{◌+◌}
 use mathlib.Core.Path.{◌≡◌}
-use lib.ListN.{length, drop}
+use lib.ListN.{drop}
 use Rattle.text.specs.Bytes.{until}
 use Rattle.text.specs.Lines.{ends, line_end}
 use Rattle.text.proofs.line_end.Given as goal
@@ -9,5 +9,3 @@ use Rattle.text.proofs.line_end.Given as goal
 abbrev pub invariant-loop-i : goal.invariant-loop-i
 invariant-loop-i l = line_end l.text l.at ≡ l.i + until ends (drop l.i l.text)
 
-abbrev pub decreases-loop-i : goal.decreases-loop-i
-decreases-loop-i l = length l.text - l.i

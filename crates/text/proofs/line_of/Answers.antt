@@ -1,19 +1,16 @@
--- `text::line_of` meets its contract. The invariant: n is 1 + the LFs before i; there are no more than the text has bytes.
+-- `text::line_of` meets its contract: the LFs among the first bytes are those before the place.
+use Prim.Native.Nat.{ℕ, ◌+◌, min}
+use mathlib.Core.Path.{◌≡◌, refl, ap, ◌∙◌}
 use borrow.Author.Rules.{rules}
-use native.Mathlib.Omega.{arith}
-use Rattle.text.proofs.Tests.{line_start, line_few, line_more, line_same, line_all}
+use lib.Dec.{eqb}
+use lib.ListN.{take, length}
+use Rattle.std.specs.List.{count_by}
+use Rattle.basics.specs.Laws.Lists.{take_min}
+use Rattle.text.specs.Bytes.{lf}
+use Rattle.text.proofs.Tests.{count_front}
 use Rattle.text.proofs.line_of.Goals as goal
-use Rattle.text.proofs.line_of.Goals.{then-byte_at-eq10, else-byte_at-eq10}
-
-pub loop-i-init : goal.loop-i-init
-loop-i-init c = search (rules, line_start)
-
-pub overflow_add-n : goal.overflow_add-n
-overflow_add-n c = omega (arith, line_few c.args.text.now _ _ c.loop-i.invariant.1)
-
-pub loop-i-preserved : goal.loop-i-preserved
-loop-i-preserved c =
-    elim c.if-byte_at-eq10.branch [ then-byte_at-eq10 w ↦ search (rules, line_more) | else-byte_at-eq10 w ↦ search (rules, line_same) ]
 
 pub returns : goal.returns
-returns c = search (rules, line_all)
+returns c =
+    let e : c.count.result ≡ count_by (λ b. eqb b lf) (take (min c.args.at (length c.args.text.now)) c.args.text.now) = search rules in
+    ap (λ (n : ℕ). 1 + n) (e ∙ ap (count_by (λ b. eqb b lf)) (take_min _ c.args.at c.args.text.now refl) ∙ count_front (λ b. eqb b lf) refl c.args.text.now c.args.at)
