@@ -9,11 +9,12 @@ ghost use Rattle.layout.specs.Code.Survey.{Few, used_in, paged_in, kind_in, unde
 
 use crate::cells::{cells_of, place_of};
 use crate::pages::number;
-use basics::{both, either, least};
+use basics::least;
 use lines::{Line, kind_of};
 use places::{
     CELLS, CHAPTER_PAGES, CHAPTER_PARAGRAPHS, CHAPTERS, LAYERS, LINE_LIMIT, PARAGRAPHS, SLOTS,
 };
+use std::array;
 
 #[derive(Clone, Copy)]
 pub(crate) struct Survey {
@@ -32,28 +33,18 @@ fn is_used(numbers: &[u8; CELLS], x: usize, t: usize) -> bool
     requires { (x < chapters) × (t < layers) }
     ensures { result ≡ used_in numbers.now x t }
 {
-    let mut r = false;
-    let mut k = 0;
-    while k < CHAPTER_PARAGRAPHS {
-        r = either(
-            numbers[PARAGRAPHS * t + (CHAPTER_PARAGRAPHS * x + k)] != 0,
-            r,
-        );
-        k += 1;
+    for k in 0..CHAPTER_PARAGRAPHS {
+        if numbers[PARAGRAPHS * t + (CHAPTER_PARAGRAPHS * x + k)] != 0 {
+            return true;
+        }
     }
-    r
+    false
 }
 
 fn used_of(numbers: &[u8; CELLS]) -> [bool; SLOTS]
     ensures { result ≡ table slots (λ s. used_in numbers.now (s / layers) (s % layers)) }
 {
-    let mut used = [false; SLOTS];
-    let mut s = 0;
-    while s < SLOTS {
-        used[s] = is_used(numbers, s / LAYERS, s % LAYERS);
-        s += 1;
-    }
-    used
+    array::from_fn(|s| is_used(numbers, s / LAYERS, s % LAYERS))
 }
 
 // Whether chapter x has PAGE lines.
@@ -61,25 +52,18 @@ fn is_paged(used: &[bool; SLOTS], x: usize) -> bool
     requires { x < chapters }
     ensures { result ≡ paged_in used.now x }
 {
-    let mut r = false;
-    let mut y = 0;
-    while y < CHAPTER_PAGES {
-        r = either(used[LAYERS * x + (y + 1)], r);
-        y += 1;
+    for y in 0..CHAPTER_PAGES {
+        if used[LAYERS * x + (y + 1)] {
+            return true;
+        }
     }
-    r
+    false
 }
 
 fn paged_of(used: &[bool; SLOTS]) -> [bool; CHAPTERS]
     ensures { result ≡ table chapters (paged_in used.now) }
 {
-    let mut paged = [false; CHAPTERS];
-    let mut x = 0;
-    while x < CHAPTERS {
-        paged[x] = is_paged(used, x);
-        x += 1;
-    }
-    paged
+    array::from_fn(|x| is_paged(used, x))
 }
 
 // The kind of a line that may be none.
@@ -97,16 +81,7 @@ fn kinds_of(numbers: &[u8; CELLS], lines: [Line; LINE_LIMIT]) -> [u8; PARAGRAPHS
     requires { Few numbers.now }
     ensures { result ≡ table paragraphs (kind_in lines numbers.now) }
 {
-    let mut kinds = [0u8; PARAGRAPHS];
-    let mut p = 0;
-    while p < PARAGRAPHS {
-        let number = numbers[p];
-        let i = place_of(number);
-        let l = lines[i];
-        kinds[p] = kind_if(number, l);
-        p += 1;
-    }
-    kinds
+    array::from_fn(|p| kind_if(numbers[p], lines[place_of(numbers[p])]))
 }
 
 // Whether plain ROM covers the flippable range of chapter x.
@@ -114,26 +89,18 @@ fn is_under(kinds: &[u8; PARAGRAPHS], x: usize) -> bool
     requires { x < chapters }
     ensures { result ≡ under_in kinds.now x }
 {
-    let first = switches::first_k(x);
-    let mut r = true;
-    let mut k = 0;
-    while k < CHAPTER_PARAGRAPHS {
-        r = both(either(k < first, kinds[CHAPTER_PARAGRAPHS * x + k] == 1), r);
-        k += 1;
+    for k in switches::first_k(x)..CHAPTER_PARAGRAPHS {
+        if kinds[CHAPTER_PARAGRAPHS * x + k] != 1 {
+            return false;
+        }
     }
-    r
+    true
 }
 
 fn under_of(kinds: &[u8; PARAGRAPHS]) -> [bool; CHAPTERS]
     ensures { result ≡ table chapters (under_in kinds.now) }
 {
-    let mut under = [false; CHAPTERS];
-    let mut x = 0;
-    while x < CHAPTERS {
-        under[x] = is_under(kinds, x);
-        x += 1;
-    }
-    under
+    array::from_fn(|x| is_under(kinds, x))
 }
 
 pub(crate) fn survey_of(count: u32, lines: [Line; LINE_LIMIT]) -> Survey
