@@ -1,48 +1,21 @@
 -- One law for each return, its premises as the code's tests and calls give them.
-use Prim.Native.Nat.{ℕ, ◌≤◌, ◌<◌, ◌/◌, ◌%◌, ◌-◌}
+use Prim.Native.Nat.{ℕ, ◌≤◌, ◌<◌, ◌-◌}
 use mathlib.Core.Path.{◌≡◌, ◌∙◌, sym, ap, refl}
 use mathlib.Core.List.{List, ◌∷◌, ◌++◌, [], append_assoc}
-use mathlib.Core.Bool.{Bool, true, false, not}
+use mathlib.Core.Bool.{true, false, not}
 use native.Mathlib.Omega.{arith}
-use native.Mathlib.Nat.{div-one}
 use lib.ListN.{length, get_or, take, set, length-append}
 use lib.Seq.{take_at}
-use lib.Dec.{ltb, eqb}
-use borrow.Author.Tests.{ltb-false, eq-eqb, ne_eqb}
+use lib.Dec.{eqb}
+use borrow.Author.Tests.{eq-eqb, ne_eqb}
 use borrow.Rule.Slice.PartMut.{put_mid}
-use Rattle.basics.specs.declared.Refusal.{Refusal}
-use Rattle.basics.specs.Refusals.{refuse, no_refusal}
 use Rattle.basics.specs.Lists.{part, put_front}
 use Rattle.basics.specs.Laws.Counts.{any_of}
-use Rattle.basics.specs.Laws.Tests.{or_false_left}
 use Rattle.basics.specs.Laws.Wrote.{Wrote, wrote_none, wrote_set}
 use Rattle.basics.specs.Laws.Puts.{put_short, put_wrote, wrote_put}
 use Rattle.sums.specs.Crc.{dowcrc_of}
-use Rattle.header.specs.Header.{magic, version, reserved, version_at, flags_at, uid_at, reserved_at, sum_at, header_size, flags_size, uid_size, head_of, header_of, wrong_length, wrong_magic, wrong_version, wrong_header_sum, header_rows, header_refusal}
-use Rattle.header.specs.declared.TutorVision.{TutorVision}
-use Rattle.header.specs.declared.TutorVision.TheVariants.{NotStated}
-use Rattle.header.specs.Flags.{jlp_field, setting_of, stated_at, compat_of}
+use Rattle.header.specs.Header.{magic, version, reserved, version_at, flags_at, uid_at, reserved_at, sum_at, header_size, flags_size, uid_size, head_of, header_of, wrong_magic}
 use Rattle.header.specs.Laws.Header.{length_head, length_header}
-
--- the JLP field, from its byte
-pub field_byte : (flags : List ℕ) (x : ℕ) → x ≡ get_or flags 2 0 → x % 4 ≡ jlp_field flags
-field_byte flags x e = simp (← e, div-one)
-
--- the compatibility fields, from two bytes
-pub compat_bytes : (flags : List ℕ) (x y : ℕ) → x ≡ get_or flags 0 0 → y ≡ get_or flags 1 0 → (t : TutorVision) → t ≡ stated_at (y % 4) (y / 4 % 4)
-    → record { intellivoice = x % 4; ecs = x / 4 % 4; intellivision2 = x / 16 % 4; keyboard = x / 64 % 4; tutorvision = t } ≡ compat_of flags
-unfolding compat_of
-compat_bytes flags x y e f t g = simp (← e, ← f, div-one, g)
-
--- not stated at version 0, and a setting at any other
-module _ (version bits : ℕ) where
-  pub stated_none : version ≡ 0 → NotStated ≡ stated_at version bits
-  unfolding stated_at
-  stated_none e = rw (eq-eqb _ _ e)
-
-  pub stated_some : (version ≡ 0 → ⊥) → (t : TutorVision) → t ≡ setting_of bits → t ≡ stated_at version bits
-  unfolding stated_at
-  stated_some n t e = e ∙ rw (ne_eqb _ _ n)
 
 -- a byte that differs from the magic number's, and one more that agrees
 pub differs : (s : List ℕ) (i x : ℕ) → i < version_at → x ≡ get_or s i 0 → (x ≡ get_or magic i 0 → ⊥) → true ≡ wrong_magic s
@@ -50,44 +23,6 @@ differs s i x h e d = sym (any_of version_at _ i h (rw (← e, ne_eqb _ _ d)))
 
 pub agrees : (s : List ℕ) (i x : ℕ) → x ≡ get_or s i 0 → x ≡ get_or magic i 0 → not (eqb (get_or s i 0) (get_or magic i 0)) ≡ false
 agrees s i x e d = rw (← e, eq-eqb _ _ d)
-
--- the version, and the checksum of what stands before it
-pub version_tested : (s : List ℕ) (x : ℕ) → x ≡ get_or s version_at 0 → not (eqb x version) ≡ wrong_version s
-version_tested s x e = rw e
-
-pub sum_tested : (s : List ℕ) (x : ℕ) → x ≡ dowcrc_of (take sum_at s) → not (eqb x (get_or s sum_at 0)) ≡ wrong_header_sum s
-sum_tested s x e = rw e
-
--- a header that is not too short has its checksum
-pub long_enough : (s : List ℕ) (b : Bool) → b ≡ wrong_length s → b ≡ false → header_size ≤ length s
-long_enough s b e h = ltb-false (length s) header_size (or_false_left (ltb (length s) header_size) _ (sym e ∙ h))
-
--- the check: a row that holds with none before it
-module _ (s : List ℕ) (r : Refusal) (b₁ : Bool) (e₁ : b₁ ≡ wrong_length s) where
-  pub check_length : b₁ ≡ true → r ≡ refuse 1 0 → r ≡ header_refusal s
-  unfolding header_rows
-  check_length h e = rw (← e₁, h) e
-
-  module _ (h₁ : b₁ ≡ false) (b₂ : Bool) (e₂ : b₂ ≡ wrong_magic s) where
-    pub check_magic : b₂ ≡ true → r ≡ refuse 2 0 → r ≡ header_refusal s
-    unfolding header_rows
-    check_magic h e = rw (← e₁, h₁, ← e₂, h) e
-
-    module _ (h₂ : b₂ ≡ false) (b₃ : Bool) (e₃ : b₃ ≡ wrong_version s) where
-      pub check_version : b₃ ≡ true → r ≡ refuse 3 0 → r ≡ header_refusal s
-      unfolding header_rows
-      check_version h e = rw (← e₁, h₁, ← e₂, h₂, ← e₃, h) e
-
-      module _ (h₃ : b₃ ≡ false) (b₄ : Bool) (e₄ : b₄ ≡ wrong_header_sum s) where
-        pub check_sum : b₄ ≡ true → r ≡ refuse 4 0 → r ≡ header_refusal s
-        unfolding header_rows
-        check_sum h e = rw (← e₁, h₁, ← e₂, h₂, ← e₃, h₃, ← e₄, h) e
-
-        pub check_good : b₄ ≡ false → r ≡ no_refusal → r ≡ header_refusal s
-        unfolding header_rows
-        check_good h e = rw (← e₁, h₁, ← e₂, h₂, ← e₃, h₃, ← e₄, h) e
-
-pub ruleset checks = (check_length, check_magic, check_version, check_sum, check_good)
 
 -- a buffer without room for a header, and one with: five fields in their parts, then the checksum of what stands there
 module _ (out flags uid : List ℕ) (ef : length flags ≡ flags_size) (eu : length uid ≡ uid_size) where

@@ -55,6 +55,7 @@ pub struct Compat {
 }
 
 // The setting that two bits name.
+#[tactic(auto, unfolding(crate::specs::Flags::setting_of))]
 fn setting_of(bits: u8) -> TutorVision
     ensures { result ≡ setting_of bits }
 {
@@ -67,6 +68,7 @@ fn setting_of(bits: u8) -> TutorVision
 }
 
 // What two bits say of the TutorVision at a version of the compatibility fields.
+#[tactic(auto, unfolding(crate::specs::Flags::stated_at))]
 fn stated_at(version: u8, bits: u8) -> TutorVision
     ensures { result ≡ stated_at version bits }
 {
@@ -110,6 +112,7 @@ pub fn flash_size(flags: &[u8]) -> u16
     u16::from(byte_at(flags, 2)) / 64 + 4 * u16::from(byte_at(flags, 3))
 }
 
+#[tactic(auto, unfolding(crate::specs::Flags::compat_of))]
 pub fn compat_of(flags: &[u8]) -> Compat
     ensures { result ≡ compat_of flags.now }
 {
@@ -168,7 +171,8 @@ fn wrong_sum(s: &[u8]) -> bool
     sums::dowcrc_short(&s[..SUM_AT]) != s[SUM_AT]
 }
 
-// The refusal of an image's header; none where it is good.
+// Checks an image's header: refusals 1 to 4, in their order.
+#[tactic(auto, unfolding(crate::specs::Header::header_rows))]
 pub fn check(s: &[u8]) -> Refusal
     ensures { result ≡ header_refusal s.now }
 {

@@ -1,13 +1,10 @@
 -- One law for each return, its premises as the code's tests and calls give them.
-use Prim.Native.Nat.{ℕ, ◌%◌, ◌<◌, ◌≤◌, ◌-◌}
-use mathlib.Core.Bool.{Bool, true, false, not, ◌||◌}
-use mathlib.Core.Path.{◌≡◌, refl, sym, ap, ◌∙◌}
+use Prim.Native.Nat.{ℕ, ◌<◌, ◌≤◌, ◌-◌}
+use mathlib.Core.Bool.{Bool, true, false, ◌||◌}
+use mathlib.Core.Path.{◌≡◌, refl, sym}
 use mathlib.Core.List.{List, ◌++◌, [], append_assoc}
-use native.Mathlib.Nat.{div-one}
 use native.Mathlib.Omega.{arith}
-use lib.ListN.{length, get_or, length-append}
-use lib.Dec.{eqb, ltb}
-use borrow.Author.Tests.{ne_eqb, eq-eqb, lt-leb, le-leb, lt-ltb, le-ltb}
+use lib.ListN.{length, length-append}
 use borrow.Rule.Slice.PartMut.{put_mid}
 use Rattle.basics.specs.Lists.{part, put_front}
 use Rattle.basics.specs.Bytes.{bytes16}
@@ -17,63 +14,8 @@ use Rattle.basics.specs.Laws.Puts.{put_short, put_wrote, wrote_put}
 use Rattle.basics.specs.declared.Refusal.{Refusal}
 use Rattle.basics.specs.Refusals.{refuse, no_refusal}
 use Rattle.places.specs.Limits.{paragraphs}
-use Rattle.header.specs.Flags.{jlp_field, flash_size}
-use Rattle.flash.specs.Flash.{sector_limit}
-use Rattle.jlp.specs.declared.Jlp.{Jlp}
-use Rattle.jlp.specs.Window.{ram_words}
-use Rattle.jlp.specs.Accelerators.{fresh_jlp}
-use Rattle.tables.specs.Tables.{tables, permissions_at, flips_at, tables_size, tables_payload, sectors_of, jlp_of, unsupported, lacks_ram, flash_words, oversized, mislent, tables_rows, tables_refusal, flips_one}
+use Rattle.tables.specs.Tables.{tables, permissions_at, flips_at, tables_size, tables_payload, unsupported, lacks_ram, oversized, mislent, tables_rows, tables_refusal}
 use Rattle.tables.specs.Laws.Tables.{length_tables}
-
--- by the field: a flash or none
-module _ (flags : List ℕ) (x : ℕ) (ex : x ≡ jlp_field flags) where
-  pub no_sectors : x < 2 → 0 ≡ sectors_of flags
-  no_sectors h = rw (← ex, lt-leb _ _ h)
-
-  pub its_sectors : (n : ℕ) → n ≡ flash_size flags → 2 ≤ x → n ≡ sectors_of flags
-  its_sectors n e h = rw (← ex, le-leb _ _ h) e
-
-  pub jlp_is : (n : ℕ) (j : Jlp) → n ≡ sectors_of flags → j ≡ fresh_jlp x n → j ≡ jlp_of flags
-  jlp_is n j e f = f ∙ ap (λ (k : ℕ). fresh_jlp k n) ex ∙ ap (fresh_jlp (jlp_field flags)) e
-
-  -- 13: no flash, too many sectors, and the words lent
-  pub not_asked : (f : ℕ) → x < 2 → false ≡ (oversized flags || mislent flags f)
-  unfolding oversized mislent
-  not_asked f h = rw (← ex, lt-leb _ _ h)
-
-  module _ (f n : ℕ) (en : n ≡ flash_size flags) (h : 2 ≤ x) where
-    pub size_over : sector_limit < n → true ≡ (oversized flags || mislent flags f)
-    unfolding oversized
-    size_over l = rw (← ex, le-leb _ _ h, ← en, lt-ltb _ _ l)
-
-    pub lent_decides : (w : ℕ) → n ≤ sector_limit → w ≡ flash_words flags → not (eqb f w) ≡ (oversized flags || mislent flags f)
-    unfolding oversized mislent
-    lent_decides w l e = rw (← ex, le-leb _ _ h, ← en, le-ltb _ _ l) (rw (e, en))
-
-  -- 11
-  pub no_jlp : (m : ℕ) → x ≡ 0 → false ≡ lacks_ram flags m
-  unfolding lacks_ram
-  no_jlp m h = rw (← ex, eq-eqb _ _ h)
-
-  pub words_decide : (m : ℕ) → (x ≡ 0 → ⊥) → ltb m ram_words ≡ lacks_ram flags m
-  unfolding lacks_ram
-  words_decide m h = rw (← ex, ne_eqb _ _ h)
-
-pub ruleset sectors = (no_sectors, its_sectors)
-
-pub ruleset thirteens = (not_asked, size_over, lent_decides)
-
--- 10: the flag, and the flips where it is not set
-module _ (flags flips : List ℕ) (y : ℕ) (ey : y ≡ get_or flags 4 0) where
-  pub mapper_set : y % 2 ≡ 1 → true ≡ unsupported flags flips
-  unfolding unsupported
-  mapper_set h = simp (← ey, div-one, eq-eqb _ _ h)
-
-  pub flips_decide : (c : Bool) → (y % 2 ≡ 1 → ⊥) → c ≡ flips_one flips → c ≡ unsupported flags flips
-  unfolding unsupported
-  flips_decide c no-mapper ec = simp (← ey, div-one, ne_eqb _ _ no-mapper, ec)
-
-pub ruleset tens = (mapper_set, flips_decide)
 
 -- the rows
 module _ (flags flips : List ℕ) (m f : ℕ) (r : Refusal) (b : Bool) (eb : b ≡ unsupported flags flips) where

@@ -53,13 +53,16 @@ pub fn jlp_of(flags: &[u8]) -> Jlp
 }
 
 // The cartridge of these accelerators and a tables block's payload.
+#[tactic(auto, unfolding(crate::specs::Tables::cartridge_of, crate::specs::Tables::tables_in))]
 pub fn cartridge_of(j: Jlp, t: &[u8]) -> Cartridge
     ensures { result ≡ cartridge_of j t.now }
 {
-    let mapping = words_at(t, 0);
-    let permissions = bytes_at(t, PERMISSIONS_AT);
-    let flips = words_at(t, FLIPS_AT);
-    cart::fresh(j, mapping, permissions, flips)
+    cart::fresh(
+        j,
+        words_at(t, 0),
+        bytes_at(t, PERMISSIONS_AT),
+        words_at(t, FLIPS_AT),
+    )
 }
 
 // The cartridge of a refused load.
@@ -71,27 +74,7 @@ pub fn no_cartridge() -> Cartridge
     cart::fresh(jlp::fresh(0, 0), words, bytes, words)
 }
 
-// The tables, at the front of a buffer that has room for them: each into its own part.
-fn put_tables(out: &mut [u8], mapping: &[u16], permissions: &[u8], flips: &[u16])
-    requires { (length mapping.now ≡ paragraphs) × (length permissions.now ≡ paragraphs) × (length flips.now ≡ paragraphs) }
-    ensures { out.new ≡ put_front (tables_payload (tables mapping.now permissions.now flips.now)) out.old }
-{
-    if out.len() < TABLES_SIZE {
-        return;
-    }
-    put_words(&mut out[0..PERMISSIONS_AT], mapping);
-    put_bytes(&mut out[PERMISSIONS_AT..FLIPS_AT], permissions);
-    put_words(&mut out[FLIPS_AT..TABLES_SIZE], flips);
-}
-
-// How many bytes the payload of these tables has.
-fn size_of(mapping: &[u16], permissions: &[u8], flips: &[u16]) -> usize
-    requires { (length mapping.now ≡ paragraphs) × (length permissions.now ≡ paragraphs) × (length flips.now ≡ paragraphs) }
-    ensures { (result ≡ length (tables_payload (tables mapping.now permissions.now flips.now))) × (result ≡ tables_size) }
-{
-    TABLES_SIZE
-}
-
+// Returns the number of bytes in the payload of these tables.
 pub fn size<'a>(
     mapping: &[u16; PARAGRAPHS],
     permissions: &'a [u8; PARAGRAPHS],
@@ -99,9 +82,10 @@ pub fn size<'a>(
 ) -> usize
     ensures { (result ≡ length (tables_payload (tables mapping.now permissions.now flips.now))) × (result ≡ tables_size) }
 {
-    size_of(mapping, permissions, flips)
+    TABLES_SIZE
 }
 
+// Writes the tables at the front of a buffer that has room for them: each into its own part.
 pub fn write<'a>(
     out: &mut [u8],
     mapping: &[u16; PARAGRAPHS],
@@ -110,7 +94,12 @@ pub fn write<'a>(
 )
     ensures { out.new ≡ put_front (tables_payload (tables mapping.now permissions.now flips.now)) out.old }
 {
-    put_tables(out, mapping, permissions, flips)
+    if out.len() < TABLES_SIZE {
+        return;
+    }
+    put_words(&mut out[0..PERMISSIONS_AT], mapping);
+    put_bytes(&mut out[PERMISSIONS_AT..FLIPS_AT], permissions);
+    put_words(&mut out[FLIPS_AT..TABLES_SIZE], flips);
 }
 
 // PFE in chapter 1.
@@ -126,43 +115,35 @@ fn has_flip(flips: &[u16; PARAGRAPHS]) -> bool
 }
 
 // Refusal 10.
+#[tactic(auto, unfolding(crate::specs::Tables::unsupported))]
 fn is_unsupported(flags: &[u8], flips: &[u16; PARAGRAPHS]) -> bool
     ensures { result ≡ unsupported flags.now flips.now }
 {
-    if byte_at(flags, 4) % 2 == 1 {
-        return true;
-    }
-    has_flip(flips)
+    byte_at(flags, 4) % 2 == 1 || has_flip(flips)
 }
 
 // Refusal 11.
+#[tactic(auto, unfolding(crate::specs::Tables::lacks_ram))]
 fn lacks_ram(flags: &[u8], m: usize) -> bool
     ensures { result ≡ lacks_ram flags.now m }
 {
-    if header::jlp_field(flags) == 0 {
-        return false;
-    }
-    m < jlp::RAM_WORDS
+    header::jlp_field(flags) != 0 && m < jlp::RAM_WORDS
 }
 
 // The words of the flash that the size asks.
 pub fn flash_words(flags: &[u8]) -> usize
     ensures { result ≡ flash_words flags.now }
 {
-    flash::SECTOR_WORDS * header::flash_size(flags) as usize
+    flash::SECTOR_WORDS * usize::from(header::flash_size(flags))
 }
 
 // Refusal 13.
+#[tactic(auto, unfolding(crate::specs::Tables::oversized, crate::specs::Tables::mislent))]
 fn misfits(flags: &[u8], f: usize) -> bool
     ensures { result ≡ (oversized flags.now || mislent flags.now f) }
 {
-    if header::jlp_field(flags) < 2 {
-        return false;
-    }
-    if flash::SECTOR_LIMIT < header::flash_size(flags) as usize {
-        return true;
-    }
-    f != flash_words(flags)
+    header::jlp_field(flags) >= 2
+        && (flash::SECTOR_LIMIT < usize::from(header::flash_size(flags)) || f != flash_words(flags))
 }
 
 // What is refused of flags and flip table, with m words of RAM and f of flash lent.

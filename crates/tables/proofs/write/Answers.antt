@@ -1,7 +1,7 @@
--- `tables::put_tables` meets its contract: three tables in their parts.
+-- `tables::write` meets its contract: three tables in their parts.
 use borrow.Author.Rules.{rules}
 use Rattle.tables.proofs.Laws.{no_room, tables_written}
-use Rattle.tables.proofs.put_tables.Goals as goal
+use Rattle.tables.proofs.write.Goals as goal
 
 pub returns-then-out-lt-TABLES_SIZE : goal.returns-then-out-lt-TABLES_SIZE
 returns-then-out-lt-TABLES_SIZE c = search (rules, no_room)
