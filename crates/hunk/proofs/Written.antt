@@ -1,5 +1,5 @@
 -- A payload as it is put in place: the address, a data block, the data blocks of all cuts.
-use Prim.Native.Nat.{ℕ, ◌+◌, ◌*◌, ◌-◌, ◌≤◌, ◌<◌, ◌%◌, ◌/◌, ◌^◌, min}
+use Prim.Native.Nat.{ℕ, ◌+◌, ◌*◌, ◌-◌, ◌≤◌, ◌<◌, ◌%◌, ◌^◌, min}
 use mathlib.Core.List.{List, [], ◌∷◌, ◌++◌, append-nil, append_assoc}
 use mathlib.Core.Path.{◌≡◌, refl, ◌∙◌, ap, ap₂, sym}
 use native.Mathlib.Omega.{arith}
@@ -22,21 +22,6 @@ use Rattle.hunk.specs.Cuts.{data_words, cuts_of}
 use Rattle.hunk.specs.Hunk.{hunk, hunk_payload, payload_size}
 use Rattle.hunk.specs.Laws.Cuts.{Piece, cuts_none, cuts_more}
 use Rattle.hunk.specs.Laws.Sizes.{piece_smallest, length_data, length_payload, cuts_most, size_most}
-
--- the address
-pub address_put : (out : List ℕ) (a : ℕ) → length out ≡ 3 → set (set (set out 0 (a % 256)) 1 (a / 256 % 256)) 2 (a / 65536) ≡ le24 a
-address_put [] a e = absurd (omega arith)
-address_put (x ∷ []) a e = absurd (omega arith)
-address_put (x ∷ y ∷ []) a e = absurd (omega arith)
-address_put (x ∷ y ∷ z ∷ w ∷ r) a e = absurd (omega arith)
-address_put (x ∷ y ∷ z ∷ []) a e = let d : a / 65536 ≡ a / 256 / 256 = omega arith in rw d
-
--- a word
-pub last_put : (out : List ℕ) (w lo hi : ℕ) → length out ≡ 2 → lo ≡ w % 256 → hi ≡ w / 256 → set (set out 0 lo) 1 hi ≡ le16 w
-last_put [] w lo hi e el eh = absurd (omega arith)
-last_put (x ∷ []) w lo hi e el eh = absurd (omega arith)
-last_put (x ∷ y ∷ z ∷ r) w lo hi e el eh = absurd (omega arith)
-last_put (x ∷ y ∷ []) w lo hi e el eh = rw (el, eh)
 
 -- the words before the last, and the last behind them
 module _ (f : Form) (out ws : List ℕ) (l : length out ≡ length (body_for f (but_last ws)) + 2) (ys : List ℕ) (ey : ys ≡ body_for f (but_last ws)) where

@@ -13,10 +13,8 @@ fn put_lower(out: &mut [u8], p: usize, words: &[u16], i: usize)
     ensures { out.new ≡ laid p (length words.now - i) (lower (drop i words.now)) out.old }
 {
     let n = words.len() - i;
-    let mut j = 0;
-    while j < n {
+    for j in 0..n {
         out[p + j] = low(words[i + j]);
-        j += 1;
     }
 }
 
@@ -48,10 +46,8 @@ fn put_packets(out: &mut [u8], words: &[u16], k: usize)
     requires { (5 * k ≤ length out.old) × (4 * k ≤ length words.now) }
     ensures { out.new ≡ laid 0 (5 * k) (packets words.now) out.old }
 {
-    let mut j = 0;
-    while j < k {
+    for j in 0..k {
         put_packet(out, 5 * j, words, 4 * j);
-        j += 1;
     }
 }
 
@@ -59,7 +55,7 @@ fn put_packets(out: &mut [u8], words: &[u16], k: usize)
 fn word_or_none(words: &[u16], i: usize) -> u16
     ensures { result ≡ get_or words.now i 0 }
 {
-    if i < words.len() { words[i] } else { 0 }
+    words.get(i).copied().unwrap_or(0)
 }
 
 // The short packet of the words from i on, of which there are one to three.

@@ -1,31 +1,18 @@
 // The form of a data block: the smallest that can carry its words (02, W-207). One pass over the words finds the largest but the last;
 // the rest goes by that number and how many words there are.
-ghost use Rattle.std.specs.Prelude.{◌≤◌, ◌<◌, max, ◌≡◌, length};
+ghost use Rattle.std.specs.Prelude.{◌≤◌, ◌<◌, ◌≡◌, length};
 ghost use Rattle.hunk.specs.Forms.{most_for};
 ghost use Rattle.hunk.specs.Smallest.{largest, can_hold, carries, smaller, form_for};
 
 use crate::Form;
 use crate::forms::size_of;
-use basics::{both, either};
-
-fn greater(a: u16, b: u16) -> u16
-    ensures { result ≡ max a b }
-{
-    if a < b { b } else { a }
-}
 
 // The largest of the first n words.
 fn largest_of(words: &[u16], n: usize) -> u16
     requires { n ≤ length words.now }
     ensures { result ≡ largest n words.now }
 {
-    let mut top = 0;
-    let mut i = 0;
-    while i < n {
-        top = greater(top, words[i]);
-        i += 1;
-    }
-    top
+    words[..n].iter().fold(0, |top, &w| top.max(w))
 }
 
 // A word that a form can hold before its last one.
@@ -55,7 +42,7 @@ fn most_of(f: Form) -> usize
 fn can_carry(f: Form, n: usize, top: u16) -> bool
     ensures { result ≡ carries f n top }
 {
-    both(1 <= n, both(n <= most_of(f), can_hold(f, top)))
+    (1..=most_of(f)).contains(&n) && can_hold(f, top)
 }
 
 // Of two forms the first, where it can carry the words and the second cannot or takes no fewer bytes.
@@ -64,13 +51,11 @@ fn smaller_of(f: Form, g: Form, n: usize, top: u16) -> Form
     ensures { result ≡ smaller f g n top }
 {
     let no_longer = size_of(f, n) <= size_of(g, n);
-    if both(
-        can_carry(f, n, top),
-        either(!can_carry(g, n, top), no_longer),
-    ) {
-        return f;
+    if can_carry(f, n, top) && (!can_carry(g, n, top) || no_longer) {
+        f
+    } else {
+        g
     }
-    g
 }
 
 // On a tie 16-bit before 10-bit before 8-bit.

@@ -12,7 +12,6 @@ use crate::Form;
 use crate::bodies::put_body;
 use crate::choice::form_for;
 use crate::forms::{size_of, start_of};
-use basics::{high, least, low};
 use places::Locutus;
 
 // The most words of a data block.
@@ -23,10 +22,7 @@ pub(crate) fn put_address(out: &mut [u8], at: Locutus)
     requires { length out.old ≡ 3 }
     ensures { out.new ≡ le24 (at.0 % 2 ^ 24) }
 {
-    let a = at.0 % 0x1000000;
-    out[0] = (a % 256) as u8;
-    out[1] = (a / 256 % 256) as u8;
-    out[2] = (a / 65536) as u8;
+    out.copy_from_slice(&at.0.to_le_bytes()[..3]);
 }
 
 // The last word of a data block, as 16 bits.
@@ -34,8 +30,7 @@ fn put_last(out: &mut [u8], w: u16)
     requires { length out.old ≡ 2 }
     ensures { out.new ≡ le16 w }
 {
-    out[0] = low(w);
-    out[1] = high(w);
+    out.copy_from_slice(&w.to_le_bytes());
 }
 
 // What stands behind a start byte: the words before the last in a form, and the last.
@@ -66,7 +61,7 @@ pub(crate) fn cuts_size(words: &[u16]) -> usize
     let mut long = 0;
     let mut i = 0;
     while i < words.len() {
-        let j = i + least(DATA_WORDS, words.len() - i);
+        let j = i + DATA_WORDS.min(words.len() - i);
         long = long + size_of(form_for(&words[i..j]), j - i);
         i = j;
     }
@@ -81,7 +76,7 @@ pub(crate) fn write_cuts(out: &mut [u8], words: &[u16])
     let mut p = 0;
     let mut i = 0;
     while i < words.len() {
-        let j = i + least(DATA_WORDS, words.len() - i);
+        let j = i + DATA_WORDS.min(words.len() - i);
         let f = form_for(&words[i..j]);
         let e = p + size_of(f, j - i);
         write_data(&mut out[p..e], &words[i..j], f);

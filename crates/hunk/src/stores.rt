@@ -8,7 +8,6 @@ ghost use Rattle.hunk.specs.Code.Blocks.{Room};
 
 use crate::Form;
 use crate::forms::form_of;
-use basics::{wide, wide16};
 use places::Locutus;
 
 // 16 bits, the lower byte first.
@@ -16,7 +15,7 @@ fn get16(s: &[u8], at: usize) -> u16
     requires { at + 1 < length s.now }
     ensures { result ≡ at16 s.now at }
 {
-    wide16(s[at]) + 256 * wide16(s[at + 1])
+    u16::from_le_bytes([s[at], s[at + 1]])
 }
 
 // The n words of a 16-bit data block at p, to word a and on.
@@ -24,10 +23,8 @@ fn store_words(s: &[u8], p: usize, n: usize, ram: &mut [u16], a: usize)
     requires { (p + size_for Form.Words n ≤ length s.now) × (a + n ≤ length ram.old) }
     ensures { ram.new ≡ laid a n (word_for Form.Words s.now p n) ram.old }
 {
-    let mut i = 0;
-    while i < n {
+    for i in 0..n {
         ram[a + i] = get16(s, p + 1 + 2 * i);
-        i += 1;
     }
 }
 
@@ -36,12 +33,11 @@ fn store_bytes(s: &[u8], p: usize, n: usize, ram: &mut [u16], a: usize)
     requires { (1 ≤ n) × (p + size_for Form.Bytes n ≤ length s.now) × (a + n ≤ length ram.old) }
     ensures { ram.new ≡ laid a n (word_for Form.Bytes s.now p n) ram.old }
 {
-    let mut i = 0;
-    while i + 1 < n {
-        ram[a + i] = wide16(s[p + 1 + i]);
-        i += 1;
+    let last = n - 1;
+    for i in 0..last {
+        ram[a + i] = u16::from(s[p + 1 + i]);
     }
-    ram[a + i] = get16(s, p + 1 + i);
+    ram[a + last] = get16(s, p + 1 + last);
 }
 
 // The four decles of a whole packet.
@@ -49,11 +45,11 @@ fn packet(s: &[u8], at: usize, ram: &mut [u16], a: usize)
     requires { (at + 5 ≤ length s.now) × (a + 4 ≤ length ram.old) }
     ensures { ram.new ≡ laid a 4 (decle s.now at) ram.old }
 {
-    let upper = wide16(s[at]);
-    ram[a] = upper / 64 % 4 * 256 + wide16(s[at + 1]);
-    ram[a + 1] = upper / 16 % 4 * 256 + wide16(s[at + 2]);
-    ram[a + 2] = upper / 4 % 4 * 256 + wide16(s[at + 3]);
-    ram[a + 3] = upper % 4 * 256 + wide16(s[at + 4]);
+    let upper = u16::from(s[at]);
+    ram[a] = upper / 64 % 4 * 256 + u16::from(s[at + 1]);
+    ram[a + 1] = upper / 16 % 4 * 256 + u16::from(s[at + 2]);
+    ram[a + 2] = upper / 4 % 4 * 256 + u16::from(s[at + 3]);
+    ram[a + 3] = upper % 4 * 256 + u16::from(s[at + 4]);
 }
 
 // k whole packets.
@@ -61,10 +57,8 @@ fn packets(s: &[u8], at: usize, k: usize, ram: &mut [u16], a: usize)
     requires { (at + 5 * k ≤ length s.now) × (a + 4 * k ≤ length ram.old) }
     ensures { ram.new ≡ laid a (4 * k) (packed s.now at) ram.old }
 {
-    let mut j = 0;
-    while j < k {
+    for j in 0..k {
         packet(s, at + 5 * j, ram, a + 4 * j);
-        j += 1;
     }
 }
 
@@ -73,8 +67,8 @@ fn decle_at(s: &[u8], at: usize, k: usize) -> u16
     requires { (k < 4) × (at + 1 + k < length s.now) }
     ensures { result ≡ decle s.now at k }
 {
-    let upper = wide16(s[at]);
-    let lower = wide16(s[at + 1 + k]);
+    let upper = u16::from(s[at]);
+    let lower = u16::from(s[at + 1 + k]);
     if k == 0 {
         return upper / 64 % 4 * 256 + lower;
     }
@@ -92,10 +86,8 @@ fn short(s: &[u8], at: usize, n: usize, ram: &mut [u16], a: usize)
     requires { (n < 4) × (at + (n + 3) / 4 + n ≤ length s.now) × (a + n ≤ length ram.old) }
     ensures { ram.new ≡ laid a n (decle s.now at) ram.old }
 {
-    let mut i = 0;
-    while i < n {
+    for i in 0..n {
         ram[a + i] = decle_at(s, at, i);
-        i += 1;
     }
 }
 
@@ -125,8 +117,7 @@ pub(crate) fn store_block(s: &[u8], p: usize, n: usize, ram: &mut [u16], at: Loc
     ensures { ram.new ≡ laid at.0 n (word s.now p) ram.old }
 {
     let a = at.0 as usize;
-    let f = form_of(wide(s[p]));
-    match f {
+    match form_of(usize::from(s[p])) {
         Form::Bytes => {
             store_bytes(s, p, n, ram, a);
         }

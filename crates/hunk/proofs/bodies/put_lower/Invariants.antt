@@ -1,5 +1,4 @@
 -- `hunk::bodies::put_lower` meets its contract. The loop's invariant: the lower bytes of j words are laid.
-use Prim.Native.Nat.{◌≤◌, ◌-◌}
 use mathlib.Core.Path.{◌≡◌}
 use lib.ListN.{length, drop}
 use Rattle.basics.specs.Lists.{laid}
@@ -7,7 +6,4 @@ use Rattle.hunk.specs.Forms.{lower}
 use Rattle.hunk.proofs.bodies.put_lower.Given as goal
 
 abbrev pub invariant-loop-j : goal.invariant-loop-j
-invariant-loop-j l = (l.j ≤ l.n) × (length l.out ≡ length l.initial.out) × (l.out ≡ laid l.p l.j (lower (drop l.i l.words)) l.initial.out)
-
-abbrev pub decreases-loop-j : goal.decreases-loop-j
-decreases-loop-j l = l.n - l.j
+invariant-loop-j l = (length l.out ≡ length l.initial.out) × (l.out ≡ laid l.p l.j (lower (drop l.i l.words)) l.initial.out)

@@ -1,5 +1,5 @@
 -- `hunk::stores::packets` meets its contract. The loop's invariant: the decles of j packets are laid.
-use Prim.Native.Nat.{◌≤◌, ◌*◌, ◌-◌}
+use Prim.Native.Nat.{◌*◌}
 use mathlib.Core.Path.{◌≡◌}
 use lib.ListN.{length}
 use Rattle.basics.specs.Lists.{laid}
@@ -7,7 +7,4 @@ use Rattle.hunk.specs.Forms.{packed}
 use Rattle.hunk.proofs.stores.packets.Given as goal
 
 abbrev pub invariant-loop-j : goal.invariant-loop-j
-invariant-loop-j l = (l.j ≤ l.k) × (length l.ram ≡ length l.initial.ram) × (l.ram ≡ laid l.a (4 * l.j) (packed l.s l.at) l.initial.ram)
-
-abbrev pub decreases-loop-j : goal.decreases-loop-j
-decreases-loop-j l = l.k - l.j
+invariant-loop-j l = (length l.ram ≡ length l.initial.ram) × (l.ram ≡ laid l.a (4 * l.j) (packed l.s l.at) l.initial.ram)

@@ -1,5 +1,4 @@
 -- `hunk::stores::short` meets its contract. The loop's invariant: i of the n decles are laid.
-use Prim.Native.Nat.{◌≤◌, ◌-◌}
 use mathlib.Core.Path.{◌≡◌}
 use lib.ListN.{length}
 use Rattle.basics.specs.Lists.{laid}
@@ -7,7 +6,4 @@ use Rattle.hunk.specs.Forms.{decle}
 use Rattle.hunk.proofs.stores.short.Given as goal
 
 abbrev pub invariant-loop-i : goal.invariant-loop-i
-invariant-loop-i l = (l.i ≤ l.n) × (length l.ram ≡ length l.initial.ram) × (l.ram ≡ laid l.a l.i (decle l.s l.at) l.initial.ram)
-
-abbrev pub decreases-loop-i : goal.decreases-loop-i
-decreases-loop-i l = l.n - l.i
+invariant-loop-i l = (length l.ram ≡ length l.initial.ram) × (l.ram ≡ laid l.a l.i (decle l.s l.at) l.initial.ram)
