@@ -1,7 +1,6 @@
 pub mod Claiming
 pub mod Surveying
 pub mod Numbering
-pub mod Rows
 pub mod Holding
 pub mod Drafts
 pub mod Laying

@@ -13,7 +13,7 @@ use Rattle.places.specs.Limits.{line_limit, cells, paragraph_size, page_paragrap
 use Rattle.lines.specs.declared.Line.{Line}
 use Rattle.lines.specs.Lines.{first}
 use Rattle.lines.specs.Bin.{bin_word, bin_place}
-use Rattle.layout.specs.declared.survey.Survey.{Survey}
+use Rattle.layout.specs.declared.found.Survey.{Survey}
 use Rattle.layout.specs.Layout.{written_of}
 use Rattle.layout.specs.Code.Survey.{no_line, line_of}
 use Rattle.layout.specs.Code.Entries.{paragraph_in, held_in}
@@ -43,20 +43,20 @@ module _ (bin : List ℕ) (w to : ℕ) (m₀ : List ℕ) where
       (λ j k. let z : w + j ≡ lo.0 + (a.0 + j - at.0) = omega arith in ap (word_in bin) z)
 
 -- of a Locutus paragraph: those of its line
-module _ (lines : List Line) (o slot : List ℕ) (pages p n : ℕ) (b : Begins lines o slot pages) (h : p < cells) (en : n ≡ held_in o slot pages p) where
+module _ (lines : List Line) (s : Survey) (p n : ℕ) (b : Begins lines s) (h : p < cells) (en : n ≡ held_in s p) where
   pub held_few : n ≤ line_limit
   held_few = rw en (b.few p h)
 
-  pub held_start : (a : Console) → a ≡ console (paragraph_size * paragraph_in slot p) → (n ≡ 0 → ⊥) → first (get_or lines (n - 1) no_line).entry ≤ a.0
+  pub held_start : (a : Console) → a ≡ console (paragraph_size * paragraph_in s p) → (n ≡ 0 → ⊥) → first (get_or lines (n - 1) no_line).entry ≤ a.0
   held_start a ea d = rw (en, ea) (b.start p h (λ z. d (en ∙ z)))
 
-  pub held_words : (a : Console) → a ≡ console (paragraph_size * paragraph_in slot p) → (bin m m' : List ℕ)
+  pub held_words : (a : Console) → a ≡ console (paragraph_size * paragraph_in s p) → (bin m m' : List ℕ)
       → m' ≡ laid (paragraph_size * p) paragraph_size (λ i. written_of bin (line_of lines n) (console (a.0 + i))) m
-      → m' ≡ laid (paragraph_size * p) paragraph_size (λ i. written_in bin lines o slot pages (paragraph_size * p + i)) m
+      → m' ≡ laid (paragraph_size * p) paragraph_size (λ i. written_in bin lines s (paragraph_size * p + i)) m
   unfolding written_in
   held_words a ea bin m m' e =
       e
-      ∙ laid_same (paragraph_size * p) paragraph_size _ (λ i. written_in bin lines o slot pages (paragraph_size * p + i)) m
+      ∙ laid_same (paragraph_size * p) paragraph_size _ (λ i. written_in bin lines s (paragraph_size * p + i)) m
       (λ i l.
       let y : (paragraph_size * p + i) / paragraph_size ≡ p = omega arith in
       let z : (paragraph_size * p + i) % paragraph_size ≡ i = omega arith in
@@ -64,6 +64,6 @@ module _ (lines : List Line) (o slot : List ℕ) (pages p n : ℕ) (b : Begins l
 
 -- of all pages
 pub poured_as : (bin : List ℕ) (lines : List Line) (s : Survey) (n : ℕ) (ram after : List ℕ) → n ≡ min (page_paragraphs * s.pages) (length ram / paragraph_size)
-    → after ≡ laid 0 (paragraph_size * n) (written_in bin lines s.cells s.slot s.pages) ram → after ≡ poured_by bin lines s ram
+    → after ≡ laid 0 (paragraph_size * n) (written_in bin lines s) ram → after ≡ poured_by bin lines s ram
 unfolding poured_by
 poured_as bin lines s n ram after e h = rw e at h

@@ -3,6 +3,7 @@
 
 mod cells;
 mod entries;
+mod found;
 mod held;
 mod pages;
 mod pour;
@@ -10,14 +11,15 @@ mod survey;
 
 ghost use Rattle.std.specs.Prelude.{◌≡◌, take};
 ghost use Rattle.layout.specs.Drawing.{drawing_of, ram_of};
-ghost use Rattle.layout.specs.Code.Entries.{Small, Slots, drawn_by};
+ghost use Rattle.layout.specs.Code.Entries.{drawn_by};
 
 use entries::{flips_of, mapping_of, permissions_of};
+use found::Survey;
 use held::marks_of;
 use lines::Line;
 use places::{FLIP_ENTRIES, LINE_LIMIT, LOCUTUS_PARAGRAPHS, PARAGRAPHS};
 use pour::pour;
-use survey::{Survey, survey_of};
+use survey::survey_of;
 
 // The three tables, how many Locutus pages there are, and a mark for each covered Locutus paragraph.
 #[derive(Clone, Copy)]
@@ -29,27 +31,16 @@ pub struct Drawing {
     pub marks: [bool; LOCUTUS_PARAGRAPHS],
 }
 
-fn drawn(s: Survey) -> Drawing
-    requires { Small s.page × Slots s.slot }
-    ensures { result ≡ drawn_by s }
+fn drawn(s: &Survey) -> Drawing
+    ensures { result ≡ drawn_by s.now }
 {
-    let cells = s.cells;
-    let kinds = s.kinds;
-    let used = s.used;
-    let paged = s.paged;
-    let under = s.under;
-    let page = s.page;
-    let slot = s.slot;
-    let flips = flips_of(&used, &page, &under, &paged);
-    let mapping = mapping_of(&paged, &flips, &kinds, &page);
-    let permissions = permissions_of(&paged, &flips, &kinds);
-    let marks = marks_of(&cells, &slot, s.pages);
+    let flips = flips_of(s);
     Drawing {
-        mapping,
-        permissions,
+        mapping: mapping_of(s, &flips),
+        permissions: permissions_of(s, &flips),
         flips,
         pages: s.pages,
-        marks,
+        marks: marks_of(s),
     }
 }
 
@@ -57,8 +48,7 @@ fn drawn(s: Survey) -> Drawing
 pub fn draw(count: u32, lines: [Line; LINE_LIMIT]) -> Drawing
     ensures { result ≡ drawing_of (take count lines) }
 {
-    let s = survey_of(count, lines);
-    drawn(s)
+    drawn(&survey_of(count, lines))
 }
 
 // The same, with the words of all pages laid into a RAM.
@@ -66,6 +56,6 @@ pub fn lay_out(bin: &[u8], count: u32, lines: [Line; LINE_LIMIT], ram: &mut [u16
     ensures { (result ≡ drawing_of (take count lines)) × (ram.new ≡ ram_of bin.now (take count lines) ram.old) }
 {
     let s = survey_of(count, lines);
-    pour(bin, lines, s, ram);
-    drawn(s)
+    pour(bin, lines, &s, ram);
+    drawn(&s)
 }

@@ -3,22 +3,19 @@ ghost use Rattle.std.specs.Prelude.{◌+◌, ◌*◌, ◌-◌, ◌≤◌, ◌<�
 ghost use Rattle.std.proofs.Math.Option.{none, some};
 ghost use Rattle.basics.specs.Lists.{laid};
 ghost use Rattle.places.specs.Places.{console};
-ghost use Rattle.places.specs.Limits.{line_limit, cells, slots, paragraph_size};
+ghost use Rattle.places.specs.Limits.{line_limit, cells, paragraph_size};
 ghost use Rattle.lines.specs.Lines.{first};
 ghost use Rattle.lines.specs.Bin.{bin_word, bin_place};
 ghost use Rattle.layout.specs.Layout.{written_by, written_of};
 ghost use Rattle.layout.specs.Code.Survey.{no_line, line_of};
-ghost use Rattle.layout.specs.Code.Entries.{Slots};
 ghost use Rattle.layout.specs.Code.Pour.{written_in, Begins, poured_by};
 
 use crate::cells::place_of;
+use crate::found::Survey;
 use crate::held::{address_at, held_at};
-use crate::survey::Survey;
-use basics::{byte_at, least, wide16};
+use basics::{byte_at, wide16};
 use lines::{Entry, Line};
-use places::{
-    BinWord, CELLS, Console, LINE_LIMIT, Locutus, PAGE_PARAGRAPHS, PARAGRAPH_SIZE, SLOTS,
-};
+use places::{BinWord, Console, LINE_LIMIT, Locutus, PAGE_PARAGRAPHS, PARAGRAPH_SIZE};
 
 // Which word of the BIN a line that puts BIN word `lo` at address `at` has at address `a`: a number, as lines that the rules refuse
 // may name one past all words of a BIN.
@@ -132,18 +129,16 @@ fn write_number(
 fn write_paragraph(
     bin: &[u8],
     lines: [Line; LINE_LIMIT],
-    numbers: &[u8; CELLS],
-    slot: &[u16; SLOTS],
-    pages: u16,
+    s: &Survey,
     p: usize,
     ram: &mut [u16],
 )
     requires p_lt_cells { (p < cells) × (paragraph_size * p + paragraph_size ≤ length ram.old) }
-    requires slots { Slots slot.now × Begins lines numbers.now slot.now pages }
-    ensures { ram.new ≡ laid (paragraph_size * p) paragraph_size (λ i. written_in bin.now lines numbers.now slot.now pages (paragraph_size * p + i)) ram.old }
+    requires begins { Begins lines s.now }
+    ensures { ram.new ≡ laid (paragraph_size * p) paragraph_size (λ i. written_in bin.now lines s.now (paragraph_size * p + i)) ram.old }
 {
-    let a = address_at(slot, p);
-    let number = held_at(numbers, slot, pages, p);
+    let a = address_at(s, p);
+    let number = held_at(s, p);
     write_number(
         bin,
         lines,
@@ -158,33 +153,25 @@ fn write_paragraph(
 fn write_paragraphs(
     bin: &[u8],
     lines: [Line; LINE_LIMIT],
-    numbers: &[u8; CELLS],
-    slot: &[u16; SLOTS],
-    pages: u16,
+    s: &Survey,
     n: usize,
     ram: &mut [u16],
 )
     requires n_le_cells { (n ≤ cells) × (paragraph_size * n ≤ length ram.old) }
-    requires slots { Slots slot.now × Begins lines numbers.now slot.now pages }
-    ensures { ram.new ≡ laid 0 (paragraph_size * n) (written_in bin.now lines numbers.now slot.now pages) ram.old }
+    requires begins { Begins lines s.now }
+    ensures { ram.new ≡ laid 0 (paragraph_size * n) (written_in bin.now lines s.now) ram.old }
 {
-    let mut p = 0;
-    while p < n {
-        write_paragraph(bin, lines, numbers, slot, pages, p, ram);
-        p += 1;
+    for p in 0..n {
+        write_paragraph(bin, lines, s, p, ram);
     }
 }
 
 // The words of all pages, as many whole paragraphs as the RAM has room for.
-pub(crate) fn pour(bin: &[u8], lines: [Line; LINE_LIMIT], s: Survey, ram: &mut [u16])
-    requires { (s.pages ≤ slots) × Slots s.slot × Begins lines s.cells s.slot s.pages }
-    ensures { ram.new ≡ poured_by bin.now lines s ram.old }
+pub(crate) fn pour(bin: &[u8], lines: [Line; LINE_LIMIT], s: &Survey, ram: &mut [u16])
+    requires { Begins lines s.now }
+    ensures { ram.new ≡ poured_by bin.now lines s.now ram.old }
 {
-    let numbers = s.cells;
-    let slot = s.slot;
-    let n = least(
-        PAGE_PARAGRAPHS * s.pages as usize,
-        ram.len() / PARAGRAPH_SIZE,
-    );
-    write_paragraphs(bin, lines, &numbers, &slot, s.pages, n, ram);
+    let whole = ram.len() / PARAGRAPH_SIZE;
+    let n = whole.min(PAGE_PARAGRAPHS * usize::from(s.pages));
+    write_paragraphs(bin, lines, s, n, ram);
 }

@@ -1,5 +1,4 @@
-// What the layout asks of the lines: the line of each cell, the kind of each plain paragraph, the slots in use and their pages,
-// the chapters with PAGE lines, and those whose flippable range is all plain ROM.
+// The survey of some lines, table by table.
 ghost use Rattle.std.specs.Prelude.{◌/◌, ◌%◌, ◌<◌, ◌≡◌, cond, eqb, take};
 ghost use Rattle.std.proofs.Math.Option.{none, some};
 ghost use Rattle.basics.specs.Tables.{table};
@@ -8,25 +7,14 @@ ghost use Rattle.lines.specs.Kinds.{kind_of};
 ghost use Rattle.layout.specs.Code.Survey.{Few, used_in, paged_in, kind_in, under_in, Surveyed};
 
 use crate::cells::{cells_of, place_of};
-use crate::pages::number;
+use crate::found::Survey;
+use crate::pages::{Numbered, number};
 use basics::least;
 use lines::{Line, kind_of};
 use places::{
     CELLS, CHAPTER_PAGES, CHAPTER_PARAGRAPHS, CHAPTERS, LAYERS, LINE_LIMIT, PARAGRAPHS, SLOTS,
 };
 use std::array;
-
-#[derive(Clone, Copy)]
-pub(crate) struct Survey {
-    pub cells: [u8; CELLS],
-    pub kinds: [u8; PARAGRAPHS],
-    pub used: [bool; SLOTS],
-    pub paged: [bool; CHAPTERS],
-    pub under: [bool; CHAPTERS],
-    pub page: [u16; SLOTS],
-    pub slot: [u16; SLOTS],
-    pub pages: u16,
-}
 
 // Whether layer t of chapter x is in use.
 fn is_used(numbers: &[u8; CELLS], x: usize, t: usize) -> bool
@@ -111,9 +99,7 @@ pub(crate) fn survey_of(count: u32, lines: [Line; LINE_LIMIT]) -> Survey
     let used = used_of(&cells);
     let paged = paged_of(&used);
     let under = under_of(&kinds);
-    let n = number(&used);
-    let page = n.page;
-    let slot = n.slot;
+    let Numbered { page, slot, pages } = number(&used);
     Survey {
         cells,
         kinds,
@@ -122,6 +108,6 @@ pub(crate) fn survey_of(count: u32, lines: [Line; LINE_LIMIT]) -> Survey
         under,
         page,
         slot,
-        pages: n.pages,
+        pages,
     }
 }

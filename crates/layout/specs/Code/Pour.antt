@@ -5,7 +5,7 @@ use Rattle.places.specs.Places.{console}
 use Rattle.places.specs.Limits.{line_limit, cells, paragraph_size, page_paragraphs}
 use Rattle.lines.specs.declared.Line.{Line}
 use Rattle.lines.specs.Lines.{first}
-use Rattle.layout.specs.declared.survey.Survey.{Survey}
+use Rattle.layout.specs.declared.found.Survey.{Survey}
 use Rattle.layout.specs.Layout.{written_of}
 use Rattle.layout.specs.Code.Survey.{no_line, line_of}
 use Rattle.layout.specs.Code.Entries.{paragraph_in, held_in}
@@ -15,17 +15,17 @@ unfoldable pub word_in : List ℕ → ℕ → ℕ
 word_in bin w = get_or bin (2 * w) 0 * 256 + get_or bin (2 * w + 1) 0
 
 -- the word that Locutus word i holds, of the line that a survey has behind its paragraph
-unfoldable pub written_in : List ℕ → List Line → List ℕ → List ℕ → ℕ → ℕ → ℕ
-written_in bin lines cells slot pages i =
-    written_of bin (line_of lines (held_in cells slot pages (i / paragraph_size))) (console (paragraph_size * paragraph_in slot (i / paragraph_size) + i % paragraph_size))
+unfoldable pub written_in : List ℕ → List Line → Survey → ℕ → ℕ
+written_in bin lines s i =
+    written_of bin (line_of lines (held_in s (i / paragraph_size))) (console (paragraph_size * paragraph_in s (i / paragraph_size) + i % paragraph_size))
 
 -- each line that is held is one of the lines, and begins no later than the paragraph
-pub record Begins (lines : List Line) (o slot : List ℕ) (pages : ℕ) : Type 0 where
-  pub few : (p : ℕ) → p < cells → held_in o slot pages p ≤ line_limit
-  pub start : (p : ℕ) → p < cells → (held_in o slot pages p ≡ 0 → ⊥)
-      → first (get_or lines (held_in o slot pages p - 1) no_line).entry ≤ paragraph_size * paragraph_in slot p
+pub record Begins (lines : List Line) (s : Survey) : Type 0 where
+  pub few : (p : ℕ) → p < cells → held_in s p ≤ line_limit
+  pub start : (p : ℕ) → p < cells → (held_in s p ≡ 0 → ⊥)
+      → first (get_or lines (held_in s p - 1) no_line).entry ≤ paragraph_size * paragraph_in s p
 
 -- a RAM with as many whole paragraphs as it has room for
 unfoldable pub poured_by : List ℕ → List Line → Survey → List ℕ → List ℕ
 poured_by bin lines s ram =
-    laid 0 (paragraph_size * min (page_paragraphs * s.pages) (length ram / paragraph_size)) (written_in bin lines s.cells s.slot s.pages) ram
+    laid 0 (paragraph_size * min (page_paragraphs * s.pages) (length ram / paragraph_size)) (written_in bin lines s) ram

@@ -11,7 +11,7 @@ use Rattle.lines.specs.declared.Entry.TheVariants.{Rom}
 use Rattle.lines.specs.Lines.{layer, holds}
 use Rattle.lines.specs.Kinds.{kind_of}
 use Rattle.rules.specs.Chapters.{line_in, paged, kind_at, under, throughout}
-use Rattle.layout.specs.declared.survey.Survey.{Survey}
+use Rattle.layout.specs.declared.found.Survey.{Survey}
 use Rattle.layout.specs.declared.pages.Numbered.{Numbered}
 use Rattle.layout.specs.Layout.{used, pages, slot_of_page}
 

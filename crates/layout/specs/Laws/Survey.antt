@@ -1,5 +1,5 @@
 -- The tables of a survey are those of its lines.
-use Rattle.std.specs.Prelude.{ℕ, ◌+◌, ◌*◌, ◌/◌, ◌%◌, ◌<◌, suc, min, List, ◌≡◌, Bool, false, ◌||◌, length, get_or, take, eqb, ltb}
+use Rattle.std.specs.Prelude.{ℕ, ◌+◌, ◌*◌, ◌/◌, ◌%◌, ◌<◌, ◌≤◌, suc, min, List, ◌≡◌, Bool, false, ◌||◌, length, get_or, take, eqb, ltb}
 use Rattle.std.proofs.Math.Path.{sym, ap}
 use Rattle.std.proofs.Common.{◌∙◌, arith}
 use Rattle.std.proofs.Math.Bool.{not}
@@ -8,8 +8,8 @@ use Rattle.basics.specs.Counts.{count, nth}
 use Rattle.basics.specs.Tables.{table}
 use Rattle.basics.specs.Laws.Lists.{take_min}
 use Rattle.basics.specs.Laws.Tables.{get_d_table, table_same}
-use Rattle.basics.specs.Laws.Counts.{any_same, all_same, count_same}
-use Rattle.basics.specs.Laws.Nth.{nth_same}
+use Rattle.basics.specs.Laws.Counts.{any_same, all_same, count_same, count_most}
+use Rattle.basics.specs.Laws.Nth.{nth_same, nth_below}
 use Rattle.places.specs.Limits.{line_limit, chapters, chapter_paragraphs, chapter_pages, paragraphs, layers, slots}
 use Rattle.switches.specs.Flips.{first_k}
 use Rattle.lines.specs.declared.Line.{Line}
@@ -73,14 +73,29 @@ module _ (ls : List Line) (u : List Bool) (e : u ≡ table slots (used ls)) wher
   unfolding numbered_of pages
   pages_by = count_same (is_used u) (used ls) slots is_used_lem
 
+-- pages are at most as many as the slots; the slot of a page is one of them
+module _ (u : List Bool) (r : Numbered) (e : r ≡ numbered_of u) where
+  pub numbered_few : r.pages ≤ slots
+  unfolding numbered_of
+  numbered_few = rw e (count_most (is_used u) slots)
+
+  pub numbered_small : (s : ℕ) → s < slots → get_or r.page s 0 ≤ slots
+  unfolding numbered_of
+  numbered_small s h = rw (e, get_d_table 0 slots (count (is_used u)) s h) (omega (arith, count_most (is_used u) s))
+
+  pub numbered_within : (n : ℕ) → n < slots → get_or r.slot n 0 < slots
+  unfolding numbered_of
+  numbered_within n h = rw (e, get_d_table 0 slots (nth (is_used u) slots) n h) (nth_below (is_used u) slots slots n (omega arith) (omega arith))
+
 -- as the code comes to it, for so many of all lines
 pub surveyed :
     (m n : ℕ) (all : List Line) (o v : List ℕ) (u p d : List Bool) (r : Numbered) → length all ≡ line_limit → n ≡ min m line_limit
     → Cells all (take n all) o → v ≡ table paragraphs (kind_in all o) → u ≡ table slots (λ s. used_in o (s / layers) (s % layers))
     → p ≡ table chapters (paged_in u) → d ≡ table chapters (under_in v) → r ≡ numbered_of u
+    → (few : r.pages ≤ slots) (small : (s : ℕ) → s < slots → get_or r.page s 0 ≤ slots) (within : (n : ℕ) → n < slots → get_or r.slot n 0 < slots)
     → Surveyed all (take m all)
-    (record { cells = o; kinds = v; used = u; paged = p; under = d; page = r.page; slot = r.slot; pages = r.pages })
-surveyed m n all o v u p d r long en w ev eu ep ed er = rw (take_min n m all (en ∙ rw long)) at made
+    (record { cells = o; kinds = v; used = u; paged = p; under = d; page = r.page; slot = r.slot; pages = r.pages; few = few; small = small; within = within })
+surveyed m n all o v u p d r long en w ev eu ep ed er few small within = rw (take_min n m all (en ∙ rw long)) at made
   where
     kinds_are : v ≡ table paragraphs (kind_at (take n all))
     kinds_are = ev ∙ table_same 0 paragraphs (kind_in all o) (kind_at (take n all)) (λ i h. kind_by_lem w i h)
@@ -88,7 +103,7 @@ surveyed m n all o v u p d r long en w ev eu ep ed er = rw (take_min n m all (en
     used_are : u ≡ table slots (used (take n all))
     used_are = eu ∙ table_same false slots (λ s. used_in o (s / layers) (s % layers)) (used (take n all)) (λ s h. used_by w s h)
 
-    made : Surveyed all (take n all) (record { cells = o; kinds = v; used = u; paged = p; under = d; page = r.page; slot = r.slot; pages = r.pages })
+    made : Surveyed all (take n all) (record { cells = o; kinds = v; used = u; paged = p; under = d; page = r.page; slot = r.slot; pages = r.pages; few = few; small = small; within = within })
     made =
         record {
           cells_are = w;

@@ -1,14 +1,8 @@
--- `layout::held::marks_of` meets its contract. The loop's invariant: the first p paragraphs are marked.
+-- `layout::held::marks_of` meets its contract.
+use mathlib.Core.Bool.{false}
 use borrow.Author.Rules.{rules}
-use Rattle.basics.specs.Laws.Tables.{filled_none, filled_all}
-use Rattle.layout.proofs.Holding.{marks_more}
+use Rattle.basics.specs.Laws.Filling.{table_from_fn}
 use Rattle.layout.proofs.held.marks_of.Goals as goal
 
-pub loop-p-init : goal.loop-p-init
-loop-p-init c = search (rules, filled_none)
-
-pub loop-p-preserved : goal.loop-p-preserved
-loop-p-preserved c = search (rules, marks_more)
-
 pub returns : goal.returns
-returns c = search (rules, filled_all)
+returns c = table_from_fn _ _ _ _ (λ i y q l k. search rules) false _ c.from_fn.ensures.items
