@@ -1,6 +1,7 @@
 -- Any two answers that the promise of a public function allows are equal (01, What the promises rule out).
 use Rattle.basics.specs.Same.{OneAnswer}
 use Rattle.basics.specs.Laws.Same.{same}
+use Rattle.sums.proofs.bits.Reads as bits
 use Rattle.sums.proofs.tables.Reads as tables
 use Rattle.sums.proofs.sum_by.Reads as sum_by
 use Rattle.sums.proofs.dowcrc_by.Reads as dowcrc-by
@@ -8,6 +9,9 @@ use Rattle.sums.proofs.dowcrc.Reads as dowcrc
 use Rattle.sums.proofs.dowcrc_short.Reads as dowcrc-short
 use Rattle.sums.proofs.crc324.Reads as crc324
 use Rattle.sums.proofs.crc32.Reads as crc32
+
+pub one_bits : OneAnswer bits.Learnt
+one_bits κs a y z e f = same
 
 pub one_tables : OneAnswer tables.Learnt
 one_tables κs a y z e f = same

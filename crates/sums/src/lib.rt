@@ -23,12 +23,12 @@ fn bit(p: u32, c: u32) -> u32
     if c % 2 == 1 { (c >> 1) ^ p } else { c >> 1 }
 }
 
-// Eight bits: an entry of the first table.
-fn bits(p: u32, c: u32) -> u32
-    ensures { result ≡ crc_bits p 8 c }
+// Returns what n bits make of the sum c.
+pub fn bits(p: u32, n: usize, c: u32) -> u32
+    ensures { result ≡ crc_bits p n c }
 {
     let mut x = c;
-    for k in 0..8usize {
+    for k in 0..n {
         x = bit(p, x);
     }
     x
@@ -38,7 +38,7 @@ fn bits(p: u32, c: u32) -> u32
 fn byte(p: u32, c: u32, b: u8) -> u32
     ensures { result ≡ crc_byte p c b }
 {
-    bits(p, c ^ (b as u32))
+    bits(p, 8, c ^ u32::from(b))
 }
 
 // The sum of s bit by bit, from the sum c of what stands before it: for a few bytes, with no tables.
@@ -46,8 +46,8 @@ fn bitwise(p: u32, c: u32, s: &[u8]) -> u32
     ensures { result ≡ crc_from p c s.now }
 {
     let mut x = c;
-    for i in 0..s.len() {
-        x = byte(p, x, s[i]);
+    for &b in s {
+        x = byte(p, x, b);
     }
     x
 }
@@ -58,7 +58,7 @@ fn first(p: u32) -> [u32; TABLE_ENTRIES]
 {
     let mut t = [0u32; TABLE_ENTRIES];
     for i in 0..256usize {
-        t[i] = bits(p, i as u32);
+        t[i] = bits(p, 8, i as u32);
     }
     t
 }
@@ -81,7 +81,7 @@ fn entry(t: &[u32; TABLE_ENTRIES], j: usize, c: u32, b: u8) -> u32
     requires { j < 8 }
     ensures { result ≡ entry_at t.now j c b }
 {
-    let k = ((c ^ (b as u32)) % 256) as usize;
+    let k = ((c ^ u32::from(b)) % 256) as usize;
     t[256 * j + k]
 }
 
@@ -113,8 +113,8 @@ fn bytes(t: &[u32; TABLE_ENTRIES], c: u32, s: &[u8]) -> u32
     ensures { result ≡ by_bytes t.now c s.now }
 {
     let mut x = c;
-    for i in 0..s.len() {
-        x = (x >> 8) ^ entry(t, 0, x, s[i]);
+    for &b in s {
+        x = (x >> 8) ^ entry(t, 0, x, b);
     }
     x
 }

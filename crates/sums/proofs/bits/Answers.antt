@@ -8,12 +8,12 @@ use Rattle.sums.proofs.bits.Goals as goal
 
 pub loop-k-init : goal.loop-k-init
 unfolding crc_bits
-loop-k-init c = (search rules, refl)
+loop-k-init c = refl
 
 pub returns : goal.returns
 returns c =
-    let k : c.loop-k.k ≡ 8 = omega arith in
-    rw k at c.loop-k.invariant.1
+    let k : c.loop-k.k ≡ c.args.n = omega arith in
+    rw k at c.loop-k.invariant
 
 pub loop-k-preserved : goal.loop-k-preserved
 loop-k-preserved c = search (rules, bits_next)

@@ -4,11 +4,11 @@ use borrow.Author.Rules.{rules}
 use Rattle.sums.proofs.Laws.{from_next, from_end}
 use Rattle.sums.proofs.bitwise.Goals as goal
 
-pub loop-i-init : goal.loop-i-init
-loop-i-init c = (search rules, refl)
+pub loop-b-init : goal.loop-b-init
+loop-b-init c = refl
 
-pub loop-i-preserved : goal.loop-i-preserved
-loop-i-preserved c = search (rules, from_next)
+pub loop-b-preserved : goal.loop-b-preserved
+loop-b-preserved c = search (rules, from_next)
 
 pub returns : goal.returns
 returns c = search (rules, from_end)
