@@ -1,11 +1,7 @@
 -- A write: who takes it, then what it leaves of the active tables, of the RAM and of the flash (01, The machine; 02, W-202, W-206, W-209, W-211
 -- and W-212).
-use Rattle.std.specs.Prelude.{ℕ, ◌+◌, ◌*◌, ◌/◌, ◌%◌, Bool, cond, ◌&&◌, List, slice_index, slice_set}
+use Rattle.std.specs.Prelude.{ℕ, ◌+◌, ◌*◌, ◌/◌, ◌%◌, Bool, cond, ◌&&◌, List, slice_index, slice_set, Option, Some, None}
 use Rattle.places.specs.declared.Console.{Console}
-use Rattle.switches.specs.declared.Register.{Register}
-use Rattle.switches.specs.declared.Register.TheVariants.{HalfPage, Elsewhere}
-use Rattle.switches.specs.declared.Request.{Request}
-use Rattle.switches.specs.declared.Request.TheVariants.{Entry, Nothing}
 use Rattle.switches.specs.Flips.{Active, asks, acts, flip_from, flip_size, flipped}
 use Rattle.switches.specs.Banks.{half_page_paragraphs, register_at, banked, bankswitched}
 use Rattle.flash.specs.declared.Saves.{Saves}
@@ -29,14 +25,14 @@ abbrev pub jlp_taker : Jlp → Console → ℕ → Taker → Taker
 jlp_taker j at v next = cond (takes j at v) (window_taker at) next
 
 -- a write to the register of a half-page that may be switched is that half-page's, by the value's low 8 bits; any other is the next taker's
-abbrev pub bank_taker : List ℕ → Register → ℕ → Taker → Taker
-bank_taker permissions (HalfPage p) v next = cond (banked permissions p) (Bank p (v % 256)) next
-bank_taker permissions Elsewhere v next = next
+abbrev pub bank_taker : List ℕ → Option ℕ → ℕ → Taker → Taker
+bank_taker permissions (Some p) v next = cond (banked permissions p) (Bank p (v % 256)) next
+bank_taker permissions None v next = next
 
 -- a request that acts is its flip entry's; any other write is the next taker's
-abbrev pub flip_taker : List ℕ → Request → Taker → Taker
-flip_taker flips (Entry n) next = cond (acts flips n) (Flip n) next
-flip_taker flips Nothing next = next
+abbrev pub flip_taker : List ℕ → Option ℕ → Taker → Taker
+flip_taker flips (Some n) next = cond (acts flips n) (Flip n) next
+flip_taker flips None next = next
 
 -- who takes a write by the active tables and the flip table: the first that it asks, else the word that the address reaches
 abbrev pub mapped_taker : Active → List ℕ → Console → ℕ → Taker

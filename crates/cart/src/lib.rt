@@ -18,7 +18,6 @@ ghost use Rattle.cart.specs.Cartridges.{assembled, fresh, with_active, read_of, 
 use flash::{Heard, Saves};
 use jlp::Jlp;
 use places::{Console, FLIP_ENTRIES, LENT_LIMIT, Locutus, PARAGRAPH_SIZE, PARAGRAPHS};
-use switches::{Register, Request};
 
 // The tables as loaded, the tables as they act now, the flip table, how many paragraphs can be read now, and the accelerators.
 #[derive(Clone, Copy)]
@@ -164,13 +163,7 @@ pub fn is_silent(at: Console) -> bool
     ensures { result ≡ silent at }
 {
     let a = at.0;
-    if a < 0x500 {
-        return true;
-    }
-    if a / 0x1000 == 1 {
-        return true;
-    }
-    a / 0x1000 == 3
+    a < 0x500 || a / 0x1000 == 1 || a / 0x1000 == 3
 }
 
 // By the tables: nobody in the silent ranges, else the word that the address reaches.
@@ -196,13 +189,10 @@ fn source_of<'a>(
 ) -> Source
     ensures { result ≡ source_of j (active mapping.now permissions.now) at }
 {
-    if !j.on {
-        return mapped_source(mapping, permissions, at);
+    if j.on && jlp::in_window(at) {
+        return window_source(j, at);
     }
-    if !jlp::in_window(at) {
-        return mapped_source(mapping, permissions, at);
-    }
-    window_source(j, at)
+    mapped_source(mapping, permissions, at)
 }
 
 // The word of a cell that may be read and lies in the lent RAM.
@@ -257,33 +247,17 @@ pub fn read(c: Cartridge, ram: &[u16], at: Console) -> Answer
 }
 
 // The half-page whose register an address is, where it may be switched.
-fn bank_of(permissions: &[u8; PARAGRAPHS], at: Console) -> Register
+fn bank_of(permissions: &[u8; PARAGRAPHS], at: Console) -> Option<u8>
     ensures { result ≡ banked_only permissions.now (register_at at) }
 {
-    match switches::register_at(at) {
-        Register::HalfPage(p) => {
-            if switches::banked(permissions, p) {
-                return Register::HalfPage(p);
-            }
-            Register::Elsewhere
-        }
-        Register::Elsewhere => Register::Elsewhere,
-    }
+    switches::register_at(at).filter(|&p| switches::banked(permissions, p))
 }
 
 // The flip entry that a write asks for, where it acts.
-fn flip_of(flips: &[u16; FLIP_ENTRIES], at: Console, value: u16) -> Request
+fn flip_of(flips: &[u16; FLIP_ENTRIES], at: Console, value: u16) -> Option<u8>
     ensures { result ≡ acting_only flips.now (asks at value) }
 {
-    match switches::asked(at, value) {
-        Request::Entry(n) => {
-            if switches::acts(flips, n) {
-                return Request::Entry(n);
-            }
-            Request::Nothing
-        }
-        Request::Nothing => Request::Nothing,
-    }
+    switches::asked(at, value).filter(|&n| switches::acts(flips, n))
 }
 
 // Who takes a write that switches nothing: a flip entry, else the word that the address reaches.
@@ -297,8 +271,8 @@ fn unbanked_taker<'a>(
     ensures { result ≡ flip_taker flips.now (asks at value) (Ram (cell_at (active mapping.now permissions.now) at)) }
 {
     match flip_of(flips, at, value) {
-        Request::Entry(n) => Taker::Flip(n),
-        Request::Nothing => Taker::Ram(cell_at(mapping, permissions, at)),
+        Some(n) => Taker::Flip(n),
+        None => Taker::Ram(cell_at(mapping, permissions, at)),
     }
 }
 
@@ -313,8 +287,8 @@ fn mapped_taker<'a>(
     ensures { result ≡ mapped_taker (active mapping.now permissions.now) flips.now at value }
 {
     match bank_of(permissions, at) {
-        Register::HalfPage(p) => Taker::Bank(p, (value % 256) as u8),
-        Register::Elsewhere => unbanked_taker(mapping, permissions, flips, at, value),
+        Some(p) => Taker::Bank(p, (value % 256) as u8),
+        None => unbanked_taker(mapping, permissions, flips, at, value),
     }
 }
 
@@ -360,13 +334,9 @@ pub fn store(cell: Cell, ram: &mut [u16], value: u16)
     ensures { ram.new ≡ stored cell ram.old value }
 {
     let i = cell.location.0 as usize;
-    if !cell.rights.write {
-        return;
+    if cell.rights.write && i < places::lent_words(ram) {
+        ram[i] = stored_word(cell.rights.narrow, ram[i], value);
     }
-    if places::lent_words(ram) <= i {
-        return;
-    }
-    ram[i] = stored_word(cell.rights.narrow, ram[i], value);
 }
 
 // 1 for a permission with READ, else 0.

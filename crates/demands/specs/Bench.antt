@@ -1,11 +1,10 @@
 -- The bench cases marked (P), of what the functions promise, as one table under one statement (01, Bench cases).
-use Rattle.std.specs.Prelude.{ℕ, ◌+◌, ◌*◌, ◌<◌, ◌≤◌, List, ◌∷◌, [], ◌≡◌, true, false, length, get_or}
+use Rattle.std.specs.Prelude.{ℕ, ◌+◌, ◌*◌, ◌<◌, ◌≤◌, List, ◌∷◌, [], ◌≡◌, true, false, length, get_or, Some, None}
 use Rattle.basics.specs.Refusals.{refuse, no_refusal}
 use Rattle.places.specs.declared.Console.{Console}
 use Rattle.places.specs.Limits.{image_limit}
 use Rattle.sums.specs.Crc.{dowcrc_of, crc32_of}
 use Rattle.sums.specs.Cases.{up_to15, four}
-use Rattle.switches.specs.declared.Request.TheVariants.{Entry, Nothing}
 use Rattle.switches.specs.Flips.{flip_mapping, flip_permissions, asks}
 use Rattle.cart.specs.declared.Answer.{Answer}
 use Rattle.cart.specs.declared.Answer.TheVariants.{Silence, Word}
@@ -72,9 +71,9 @@ pub record Bench : Type 0 where
   -- 4. a narrow write
   pub narrow : stored_word true 0x12FF 0xABCD ≡ 0x12CD
   -- 5. page requests
-  pub asks_83 : asks (at 0x5FFF) 0x5A53 ≡ Entry 83
-  pub asks_elsewhere : asks (at 0x5FFF) 0x6A53 ≡ Nothing
-  pub asks_beside : asks (at 0x5FFE) 0x5A53 ≡ Nothing
+  pub asks_83 : asks (at 0x5FFF) 0x5A53 ≡ Some 83
+  pub asks_elsewhere : asks (at 0x5FFF) 0x6A53 ≡ None
+  pub asks_beside : asks (at 0x5FFE) 0x5A53 ≡ None
   -- 6. a paragraph of ROM
   pub rom : (p : Pressing) → Case six 512 4096 p → Six p
   pub rom_short : (p : Pressing) → Case six 510 0 p → p.building.refusal ≡ refuse 25 2

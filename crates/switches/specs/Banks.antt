@@ -1,11 +1,9 @@
 -- Intellicart bankswitching: which half-page a write asks for, when it acts, and what the active tables then hold (02, W-202; 001,
 -- Intellicart Bankswitching Reference).
-use Rattle.std.specs.Prelude.{ℕ, ◌+◌, ◌*◌, ◌/◌, ◌%◌, Bool, cond, List, ◌==◌, slice_index}
+use Rattle.std.specs.Prelude.{ℕ, ◌+◌, ◌*◌, ◌/◌, ◌%◌, Bool, cond, List, ◌==◌, slice_index, Option, Some, None}
 use Rattle.basics.specs.Lists.{laid}
 use Rattle.places.specs.declared.Console.{Console}
 use Rattle.places.specs.Limits.{chapter_paragraphs}
-use Rattle.switches.specs.declared.Register.{Register}
-use Rattle.switches.specs.declared.Register.TheVariants.{HalfPage, Elsewhere}
 use Rattle.switches.specs.Flips.{Active, active}
 
 -- a half-page is 8 paragraphs (001, LUIGI Memory Organization Terminology)
@@ -14,10 +12,10 @@ half_page_paragraphs = 8
 
 -- $0040-$004F is the register of half-page $x000-$x7FF and $0050-$005F that of $x800-$xFFF, x being the low digit; a half-page is named by its
 -- first paragraph
-unfoldable pub register_at : Console → Register
+unfoldable pub register_at : Console → Option ℕ
 register_at at =
-    cond (at.0 / 0x10 == 4) (HalfPage (chapter_paragraphs * (at.0 % 0x10)))
-    (cond (at.0 / 0x10 == 5) (HalfPage (chapter_paragraphs * (at.0 % 0x10) + half_page_paragraphs)) Elsewhere)
+    cond (at.0 / 0x10 == 4) (Some (chapter_paragraphs * (at.0 % 0x10)))
+    (cond (at.0 / 0x10 == 5) (Some (chapter_paragraphs * (at.0 % 0x10) + half_page_paragraphs)) None)
 
 -- it acts where BANKSW, bit 3 of a permission, is set in the half-page's first paragraph
 abbrev pub BANKSW : ℕ → Bool

@@ -1,17 +1,15 @@
 -- Page flips: what a write asks for, when it acts, and what the active tables then hold (01, The machine).
-use Rattle.std.specs.Prelude.{ℕ, ◌+◌, ◌-◌, ◌*◌, ◌/◌, ◌%◌, Bool, cond, ◌&&◌, List, ◌==◌, nat_le, slice_index}
+use Rattle.std.specs.Prelude.{ℕ, ◌+◌, ◌-◌, ◌*◌, ◌/◌, ◌%◌, Bool, cond, ◌&&◌, List, ◌==◌, nat_le, slice_index, Option, Some, None}
 use Rattle.basics.specs.Lists.{laid}
 use Rattle.places.specs.declared.Console.{Console}
 use Rattle.places.specs.Limits.{chapter_pages, chapter_paragraphs}
-use Rattle.switches.specs.declared.Request.{Request}
-use Rattle.switches.specs.declared.Request.TheVariants.{Entry, Nothing}
 
 -- a write of $xA5y to $xFFF asks for flip entry 16x + y
-unfoldable pub asks : Console → ℕ → Request
+unfoldable pub asks : Console → ℕ → Option ℕ
 asks at v =
     cond (at.0 % 0x1000 == 0xFFF && (v / 0x1000 == at.0 / 0x1000 && v / 16 % 256 == 0xA5))
-    (Entry (v / 0x1000 * chapter_pages + v % chapter_pages))
-    Nothing
+    (Some (v / 0x1000 * chapter_pages + v % chapter_pages))
+    None
 
 -- it acts when PFE, bit 3 of the entry, is set and chapter x is neither 0 nor 1
 abbrev pub PFE : ℕ → Bool

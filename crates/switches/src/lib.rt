@@ -2,8 +2,8 @@
 #![tactic(auto)]
 
 ghost use Rattle.std.specs.Prelude.{◌≡◌, ◌+◌, ◌/◌, ◌≤◌};
-ghost use Rattle.places.specs.Limits.{chapter_pages, paragraphs};
-ghost use Rattle.switches.specs.Flips.{active, asks, acts, first_k, flip_mapping, flip_permissions, flip_from, flip_size, turned, flipped};
+ghost use Rattle.places.specs.Limits.{paragraphs};
+ghost use Rattle.switches.specs.Flips.{active, asks, acts, first_k, flip_from, flip_size, flipped};
 ghost use Rattle.switches.specs.Banks.{half_page_paragraphs, register_at, banked, number_from, switched};
 
 use places::{CHAPTER_PAGES, CHAPTER_PARAGRAPHS, Console, FLIP_ENTRIES, PARAGRAPHS};
@@ -11,29 +11,17 @@ use places::{CHAPTER_PAGES, CHAPTER_PARAGRAPHS, Console, FLIP_ENTRIES, PARAGRAPH
 // The paragraphs of a half-page.
 pub const HALF_PAGE_PARAGRAPHS: usize = 8;
 
-// What a write asks of the flip table: an entry, by its number, or nothing.
-#[derive(Clone, Copy)]
-pub enum Request {
-    Entry(u8),
-    Nothing,
-}
-
-// $xA5y to $xFFF asks for flip entry 16x + y.
-pub fn asked(at: Console, value: u16) -> Request
+// Returns the flip entry that a write asks for: $xA5y to $xFFF asks for entry 16x + y.
+pub fn asked(at: Console, value: u16) -> Option<u8>
     ensures { result ≡ asks at value }
 {
     let a = at.0 as usize;
     let v = value as usize;
-    if a % 0x1000 != 0xFFF {
-        return Request::Nothing;
+    if a % 0x1000 == 0xFFF && v / 0x1000 == a / 0x1000 && v / 16 % 256 == 0xA5 {
+        Some((v / 0x1000 * CHAPTER_PAGES + v % CHAPTER_PAGES) as u8)
+    } else {
+        None
     }
-    if v / 0x1000 != a / 0x1000 {
-        return Request::Nothing;
-    }
-    if v / 16 % 256 != 0xA5 {
-        return Request::Nothing;
-    }
-    Request::Entry((v / 0x1000 * CHAPTER_PAGES + v % CHAPTER_PAGES) as u8)
 }
 
 // Entry n acts by its PFE bit, and never in chapters 0 and 1.
@@ -41,10 +29,7 @@ pub fn acts(flips: &[u16; FLIP_ENTRIES], n: u8) -> bool
     ensures { result ≡ acts flips.now n }
 {
     let i = n as usize;
-    if flips[i] / 8 % 2 != 1 {
-        return false;
-    }
-    2 <= i / CHAPTER_PAGES
+    flips[i] / 8 % 2 == 1 && 2 <= i / CHAPTER_PAGES
 }
 
 // The first paragraph of a chapter that a flip changes: in chapter 4 the lower half, the ECS RAM, stays.
@@ -52,25 +37,6 @@ pub fn first_k(x: usize) -> usize
     ensures { (result ≡ first_k x) × (result ≤ 8) }
 {
     if x == 4 { 8 } else { 0 }
-}
-
-// Each paragraph k of entry n's chapter that a flip changes takes its mapping, and its permissions.
-fn flip_mapping(m: &mut [u16; PARAGRAPHS], n: u8, entry: u16)
-    ensures { m.new ≡ turned (n / chapter_pages) (flip_mapping entry) m.old }
-{
-    let x = n as usize / CHAPTER_PAGES;
-    for k in first_k(x)..CHAPTER_PARAGRAPHS {
-        m[CHAPTER_PARAGRAPHS * x + k] = entry / 16 * 16 + k as u16;
-    }
-}
-
-fn flip_permissions(m: &mut [u8; PARAGRAPHS], n: u8, entry: u16)
-    ensures { m.new ≡ turned (n / chapter_pages) (flip_permissions entry) m.old }
-{
-    let x = n as usize / CHAPTER_PAGES;
-    for k in first_k(x)..CHAPTER_PARAGRAPHS {
-        m[CHAPTER_PARAGRAPHS * x + k] = (entry % 8) as u8;
-    }
 }
 
 // The first paragraph that flip entry n changes, and how many they are.
@@ -87,7 +53,8 @@ pub fn flip_size(n: u8) -> u8
     (CHAPTER_PARAGRAPHS - first_k(n as usize / CHAPTER_PAGES)) as u8
 }
 
-// Flip entry n acts on the lent tables; it answers how many entries of each it has assigned.
+// Flip entry n acts on the lent tables: each paragraph k of its chapter that a flip changes takes its mapping and its permissions. Returns how many
+// entries of each table it has assigned.
 pub fn flip(
     mapping: &mut [u16; PARAGRAPHS],
     permissions: &mut [u8; PARAGRAPHS],
@@ -99,30 +66,26 @@ pub fn flip(
 {
     let i = n as usize;
     let entry = flips[i];
-    flip_mapping(mapping, n, entry);
-    flip_permissions(permissions, n, entry);
+    let x = i / CHAPTER_PAGES;
+    for k in first_k(x)..CHAPTER_PARAGRAPHS {
+        mapping[CHAPTER_PARAGRAPHS * x + k] = entry / 16 * 16 + k as u16;
+        permissions[CHAPTER_PARAGRAPHS * x + k] = (entry % 8) as u8;
+    }
     flip_size(n)
 }
 
-// The bankswitch register at an address: that of the half-page with this first paragraph, or none.
-#[derive(Clone, Copy)]
-pub enum Register {
-    HalfPage(u8),
-    Elsewhere,
-}
-
-// $0040-$004F is the register of half-page $x000-$x7FF and $0050-$005F that of $x800-$xFFF, x being the low digit.
-pub fn register_at(at: Console) -> Register
+// Returns the first paragraph of the half-page whose bankswitch register an address is: $0040-$004F is the register of half-page $x000-$x7FF and
+// $0050-$005F that of $x800-$xFFF, x being the low digit.
+pub fn register_at(at: Console) -> Option<u8>
     ensures { result ≡ register_at at }
 {
     let a = at.0 as usize;
-    if a / 0x10 == 4 {
-        return Register::HalfPage((CHAPTER_PARAGRAPHS * (a % 0x10)) as u8);
+    let first = CHAPTER_PARAGRAPHS * (a % 0x10);
+    match a / 0x10 {
+        4 => Some(first as u8),
+        5 => Some((first + HALF_PAGE_PARAGRAPHS) as u8),
+        _ => None,
     }
-    if a / 0x10 == 5 {
-        return Register::HalfPage((CHAPTER_PARAGRAPHS * (a % 0x10) + HALF_PAGE_PARAGRAPHS) as u8);
-    }
-    Register::Elsewhere
 }
 
 // A half-page may be switched by the BANKSW bit of its first paragraph p.
@@ -137,7 +100,7 @@ pub fn banked(permissions: &[u8; PARAGRAPHS], p: u8) -> bool
 fn number_from(v: u8, j: u8) -> u16
     ensures { result ≡ number_from v j }
 {
-    std::num::wrapping_add_u8(v, j) as u16
+    u16::from(v.wrapping_add(j))
 }
 
 // The eight paragraphs of paragraph p's half-page take number v and the seven after it; it answers how many entries it has assigned.

@@ -1,14 +1,10 @@
 -- The accelerators over the cartridge (02, W-206): while off, all is as if there were none, but for the word that turns them on; while on,
 -- nothing in their window goes by the tables; with field 0 they never come on.
-use Rattle.std.specs.Prelude.{◌≡◌, ℕ, Bool, true, false, cond, List}
+use Rattle.std.specs.Prelude.{◌≡◌, ℕ, Bool, true, false, cond, List, Option, Some, None}
 use Rattle.std.proofs.Math.Path.{refl, sym, ap}
 use Rattle.std.proofs.Common.{◌∙◌}
 use Rattle.basics.specs.Laws.Tests.{true_is_not_false}
 use Rattle.places.specs.declared.Console.{Console}
-use Rattle.switches.specs.declared.Register.{Register}
-use Rattle.switches.specs.declared.Register.TheVariants.{HalfPage, Elsewhere}
-use Rattle.switches.specs.declared.Request.{Request}
-use Rattle.switches.specs.declared.Request.TheVariants.{Entry, Nothing}
 use Rattle.switches.specs.Flips.{Active, asks, acts}
 use Rattle.switches.specs.Banks.{register_at, banked}
 use Rattle.flash.specs.declared.Saves.{Saves}
@@ -39,13 +35,13 @@ chosen : (b : Bool) (t u : Taker) → by_tables t ≡ true → by_tables u ≡ t
 chosen true t u e f = e
 chosen false t u e f = f
 
-bank_by_tables : (permissions : List ℕ) (r : Register) (v : ℕ) (next : Taker) → by_tables next ≡ true → by_tables (bank_taker permissions r v next) ≡ true
-bank_by_tables permissions (HalfPage p) v next e = chosen (banked permissions p) _ next refl e
-bank_by_tables permissions Elsewhere v next e = e
+bank_by_tables : (permissions : List ℕ) (r : Option ℕ) (v : ℕ) (next : Taker) → by_tables next ≡ true → by_tables (bank_taker permissions r v next) ≡ true
+bank_by_tables permissions (Some p) v next e = chosen (banked permissions p) _ next refl e
+bank_by_tables permissions None v next e = e
 
-flip_by_tables : (flips : List ℕ) (r : Request) (next : Taker) → by_tables next ≡ true → by_tables (flip_taker flips r next) ≡ true
-flip_by_tables flips (Entry n) next e = chosen (acts flips n) (Flip n) next refl e
-flip_by_tables flips Nothing next e = e
+flip_by_tables : (flips : List ℕ) (r : Option ℕ) (next : Taker) → by_tables next ≡ true → by_tables (flip_taker flips r next) ≡ true
+flip_by_tables flips (Some n) next e = chosen (acts flips n) (Flip n) next refl e
+flip_by_tables flips None next e = e
 
 pub mapped_by_tables : (a : Active) (flips : List ℕ) (at : Console) (v : ℕ) → by_tables (mapped_taker a flips at v) ≡ true
 mapped_by_tables a flips at v =

@@ -1,16 +1,13 @@
--- `cart::is_silent` meets its contract: each return has decided the tests of `silent`.
+-- `cart::is_silent` meets its contract: its tests are those of `silent`.
+use Rattle.std.proofs.Common.{rules}
 use Rattle.basics.specs.Laws.Tests.{tests}
 use Rattle.cart.specs.Reads.{silent}
 use Rattle.cart.proofs.is_silent.Goals as goal
 
-pub returns-then-a-lt1280 : goal.returns-then-a-lt1280
-unfolding silent
-returns-then-a-lt1280 c = search tests
-
 pub returns-then-a-eq1 : goal.returns-then-a-eq1
 unfolding silent
-returns-then-a-eq1 c = search tests
+returns-then-a-eq1 c = search (rules, tests)
 
-pub returns : goal.returns
+pub returns-else-a-eq1 : goal.returns-else-a-eq1
 unfolding silent
-returns c = search tests
+returns-else-a-eq1 c = search (rules, tests)

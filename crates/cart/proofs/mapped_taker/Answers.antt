@@ -3,8 +3,8 @@ use Rattle.std.proofs.Common.{rules}
 use Rattle.cart.specs.Laws.Writes.{takers}
 use Rattle.cart.proofs.mapped_taker.Goals as goal
 
-pub returns-in-HalfPage : goal.returns-in-HalfPage
-returns-in-HalfPage c = search (rules, takers)
+pub returns-in-Some : goal.returns-in-Some
+returns-in-Some c = search (rules, takers)
 
-pub returns-in-Elsewhere : goal.returns-in-Elsewhere
-returns-in-Elsewhere c = search (rules, takers)
+pub returns-in-None : goal.returns-in-None
+returns-in-None c = search (rules, takers)

@@ -1,13 +1,13 @@
 -- `cart::store` meets its contract: the cell is shut, or past the words lent, or open.
 use Rattle.std.proofs.Common.{rules}
-use Rattle.cart.specs.Laws.Writes.{stores}
+use Rattle.basics.specs.Laws.Tests.{tests}
+use Rattle.cart.specs.Writes.{stored}
 use Rattle.cart.proofs.store.Goals as goal
 
-pub returns-then-not-cell : goal.returns-then-not-cell
-returns-then-not-cell c = search (rules, stores)
+pub returns-then-i-lent_words : goal.returns-then-i-lent_words
+unfolding stored
+returns-then-i-lent_words c = search (rules, tests)
 
-pub returns-then-lent_words-i : goal.returns-then-lent_words-i
-returns-then-lent_words-i c = search (rules, stores)
-
-pub returns : goal.returns
-returns c = search (rules, stores)
+pub returns-else-cell : goal.returns-else-cell
+unfolding stored
+returns-else-cell c = search (rules, tests)

@@ -3,8 +3,8 @@ use Rattle.std.proofs.Common.{rules}
 use Rattle.cart.specs.Laws.Writes.{takers}
 use Rattle.cart.proofs.unbanked_taker.Goals as goal
 
-pub returns-in-Entry : goal.returns-in-Entry
-returns-in-Entry c = search (rules, takers)
+pub returns-in-Some : goal.returns-in-Some
+returns-in-Some c = search (rules, takers)
 
-pub returns-in-Nothing : goal.returns-in-Nothing
-returns-in-Nothing c = search (rules, takers)
+pub returns-in-None : goal.returns-in-None
+returns-in-None c = search (rules, takers)

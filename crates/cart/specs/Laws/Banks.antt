@@ -1,11 +1,9 @@
 -- Bankswitches over writes and runs: a switch leaves the next one possible, a flip ends them, and only a reset brings them back.
-use Rattle.std.specs.Prelude.{◌≡◌, ℕ, ◌%◌, Bool, true, false, List, [], ◌∷◌, slice_index, refl}
+use Rattle.std.specs.Prelude.{◌≡◌, ℕ, ◌%◌, Bool, true, false, List, [], ◌∷◌, slice_index, refl, Option, Some, None}
 use Rattle.std.proofs.Math.Path.{ap}
 use Rattle.std.proofs.Common.{arith}
 use Rattle.basics.specs.Laws.Tests.{true_is_not_false}
 use Rattle.places.specs.declared.Console.{Console}
-use Rattle.switches.specs.declared.Register.{Register}
-use Rattle.switches.specs.declared.Register.TheVariants.{HalfPage, Elsewhere}
 use Rattle.switches.specs.Flips.{Active, asks}
 use Rattle.switches.specs.Banks.{register_at, BANKSW, banked, bankswitched}
 use Rattle.switches.specs.Laws.Banks.{flip_leaves_clear, register_low}
@@ -24,7 +22,7 @@ use Rattle.cart.specs.Cartridges.{active_of, reset_of}
 use Rattle.cart.specs.Run.{Access, Read, Write, Reset, World, step, after}
 
 -- a write to the register of a half-page that may be switched: it switches, stores nothing, and the next one switches too
-module _ (j : Jlp) (a : Active) (flips : List ℕ) (at : Console) (h : ℕ) (r : register_at at ≡ HalfPage h) (b : banked a.permissions h ≡ true) where
+module _ (j : Jlp) (a : Active) (flips : List ℕ) (at : Console) (h : ℕ) (r : register_at at ≡ Some h) (b : banked a.permissions h ≡ true) where
   -- the registers stand below the accelerators' window
   not_theirs : (v : ℕ) → takes j at v ≡ false
   not_theirs v = outside_takes j at v (between_below window_start window_end at.0 (omega (arith, register_low at h r)))
@@ -44,9 +42,9 @@ module _ (j : Jlp) (a : Active) (flips : List ℕ) (at : Console) (h : ℕ) (r :
   switch_again v w = rw (not_theirs w, switch_leaves v, r, b)
 
 -- where no half-page may be switched, a register is an ordinary address
-ordinary_by : (permissions : List ℕ) (r : Register) (v : ℕ) (next : Taker) → ((h : ℕ) → banked permissions h ≡ false) → bank_taker permissions r v next ≡ next
-ordinary_by permissions (HalfPage h) v next n = rw (n h)
-ordinary_by permissions Elsewhere v next n = refl
+ordinary_by : (permissions : List ℕ) (r : Option ℕ) (v : ℕ) (next : Taker) → ((h : ℕ) → banked permissions h ≡ false) → bank_taker permissions r v next ≡ next
+ordinary_by permissions (Some h) v next n = rw (n h)
+ordinary_by permissions None v next n = refl
 
 pub ordinary : (a : Active) (flips : List ℕ) (at : Console) (v : ℕ) → ((h : ℕ) → banked a.permissions h ≡ false)
     → mapped_taker a flips at v ≡ flip_taker flips (asks at v) (Ram (cell_at a at))

@@ -1,15 +1,10 @@
 -- Laws of writes: a cell and a request as the code comes to them, and what a write leaves by the taker that the code has found.
-use Rattle.std.specs.Prelude.{◌≡◌, ℕ, ◌%◌, ◌<◌, ◌≤◌, Bool, true, false, not, List, slice_index, slice_set, refl}
+use Rattle.std.specs.Prelude.{◌≡◌, ℕ, ◌%◌, Bool, true, false, not, List, refl, Option, Some, None}
 use Rattle.std.proofs.Common.{sym, ◌∙◌, arith}
 use Rattle.std.proofs.Math.Path.{ap}
-use borrow.Author.Tests.{lt-ltb, le-ltb, not-true, not-false}
+use borrow.Author.Tests.{not-true}
 use Rattle.basics.specs.Laws.Tests.{cases}
 use Rattle.places.specs.declared.Console.{Console}
-use Rattle.places.specs.Limits.{lent}
-use Rattle.switches.specs.declared.Register.{Register}
-use Rattle.switches.specs.declared.Register.TheVariants.{HalfPage, Elsewhere}
-use Rattle.switches.specs.declared.Request.{Request}
-use Rattle.switches.specs.declared.Request.TheVariants.{Entry, Nothing}
 use Rattle.switches.specs.Flips.{Active, asks, acts}
 use Rattle.switches.specs.Banks.{register_at, banked}
 use Rattle.flash.specs.Flash.{memories}
@@ -21,85 +16,47 @@ use Rattle.cart.specs.declared.Taker.{Taker}
 use Rattle.cart.specs.declared.Taker.TheVariants.{Accelerators, Bank, Flip, Ram}
 use Rattle.cart.specs.Cells.{cell_at, window_cell}
 use Rattle.cart.specs.Code.Takers.{banked_only, acting_only}
-use Rattle.cart.specs.Writes.{stored_word, stored, window_taker, bank_taker, flip_taker, mapped_taker, taker_of, left_by, memories_by, assigned_by, readable_by, leaves, leaves_ram, leaves_flash, assigned, leaves_readable}
+use Rattle.cart.specs.Writes.{stored, window_taker, bank_taker, flip_taker, mapped_taker, taker_of, left_by, memories_by, assigned_by, readable_by, leaves, leaves_ram, leaves_flash, assigned, leaves_readable}
 
--- shut by its rights; past the n words that are lent; open, to the word w
-module _ (c : Cell) (ram : List ℕ) (v : ℕ) where
-  pub store_shut : not c.rights.write ≡ true → ram ≡ stored c ram v
-  unfolding stored
-  store_shut r = rw (not-true c.rights.write r)
+-- a cell that its rights shut
+pub store_shut : (c : Cell) (ram : List ℕ) (v : ℕ) → not c.rights.write ≡ true → ram ≡ stored c ram v
+unfolding stored
+store_shut c ram v r = rw (not-true c.rights.write r)
 
-  module _ (n : ℕ) (h : n ≡ lent ram) (r : not c.rights.write ≡ false) where
-    pub store_past : n ≤ c.location.0 → ram ≡ stored c ram v
-    unfolding stored
-    store_past l = rw (not-false c.rights.write r, ← h, le-ltb _ _ l)
+-- the taker, by a request or a register that the code has found
+flip_by : (flips : List ℕ) (r : Option ℕ) (next : Taker) (q : Option ℕ) → q ≡ acting_only flips r → (n : ℕ) → q ≡ Some n → Flip n ≡ flip_taker flips r next
+flip_by flips (Some m) next q e n f =
+    cases (acts flips m) (λ b. let g : Some n ≡ Some m = sym f ∙ e ∙ rw b in rw b cc) (λ b. let g : Some n ≡ None = sym f ∙ e ∙ rw b in let z : ◌≡◌ {A = ℕ} 0 1 = cc in absurd (omega arith))
+flip_by flips None next q e n f = let g : Some n ≡ None = sym f ∙ e in let z : ◌≡◌ {A = ℕ} 0 1 = cc in absurd (omega arith)
 
-    pub store_open : (w : ℕ) → c.location.0 < n → w ≡ stored_word c.rights.narrow (slice_index ram c.location.0) v → slice_set ram c.location.0 w ≡ stored c ram v
-    unfolding stored
-    store_open w l e = rw (not-false c.rights.write r, ← h, lt-ltb _ _ l, e)
+flip_past : (flips : List ℕ) (r : Option ℕ) (next : Taker) (q : Option ℕ) → q ≡ acting_only flips r → q ≡ None → next ≡ flip_taker flips r next
+flip_past flips (Some m) next q e f =
+    cases (acts flips m) (λ b. let g : None ≡ Some m = sym f ∙ e ∙ rw b in let z : ◌≡◌ {A = ℕ} 0 1 = cc in absurd (omega arith)) (λ b. rw b)
+flip_past flips None next q e f = refl
 
-pub ruleset stores = (store_shut, store_past, store_open)
+bank_by : (permissions : List ℕ) (r : Option ℕ) (v : ℕ) (next : Taker) (q : Option ℕ) → q ≡ banked_only permissions r → (h : ℕ) → q ≡ Some h → Bank h (v % 256) ≡ bank_taker permissions r v next
+bank_by permissions (Some m) v next q e h f =
+    cases (banked permissions m) (λ b. let g : Some h ≡ Some m = sym f ∙ e ∙ rw b in rw b cc) (λ b. let g : Some h ≡ None = sym f ∙ e ∙ rw b in let z : ◌≡◌ {A = ℕ} 0 1 = cc in absurd (omega arith))
+bank_by permissions None v next q e h f = let g : Some h ≡ None = sym f ∙ e in let z : ◌≡◌ {A = ℕ} 0 1 = cc in absurd (omega arith)
 
--- a register whose half-page may be switched, may not, and none
-module _ (permissions : List ℕ) (r q : Register) (e : r ≡ q) where
-  pub bank_may : (h : ℕ) (b : Bool) → r ≡ HalfPage h → b ≡ banked permissions h → b ≡ true → HalfPage h ≡ banked_only permissions q
-  bank_may h b f g t = rw (← e, f, ← g, t)
-
-  pub bank_not : (h : ℕ) (b : Bool) → r ≡ HalfPage h → b ≡ banked permissions h → b ≡ false → Elsewhere ≡ banked_only permissions q
-  bank_not h b f g t = rw (← e, f, ← g, t)
-
-  pub bank_none : r ≡ Elsewhere → Elsewhere ≡ banked_only permissions q
-  bank_none f = rw (← e, f)
-
-pub ruleset banks = (bank_may, bank_not, bank_none)
-
--- a request whose entry acts, does not, and none
-module _ (flips : List ℕ) (r q : Request) (e : r ≡ q) where
-  pub flip_may : (n : ℕ) (b : Bool) → r ≡ Entry n → b ≡ acts flips n → b ≡ true → Entry n ≡ acting_only flips q
-  flip_may n b f g t = rw (← e, f, ← g, t)
-
-  pub flip_not : (n : ℕ) (b : Bool) → r ≡ Entry n → b ≡ acts flips n → b ≡ false → Nothing ≡ acting_only flips q
-  flip_not n b f g t = rw (← e, f, ← g, t)
-
-  pub flip_none : r ≡ Nothing → Nothing ≡ acting_only flips q
-  flip_none f = rw (← e, f)
-
-pub ruleset flips_asked = (flip_may, flip_not, flip_none)
-
--- so the taker
-flip_by : (flips : List ℕ) (r : Request) (next : Taker) (q : Request) → q ≡ acting_only flips r → (n : ℕ) → q ≡ Entry n → Flip n ≡ flip_taker flips r next
-flip_by flips (Entry m) next q e n f =
-    cases (acts flips m) (λ b. let g : Entry n ≡ Entry m = sym f ∙ e ∙ rw b in rw b cc) (λ b. let g : Entry n ≡ Nothing = sym f ∙ e ∙ rw b in let z : ◌≡◌ {A = ℕ} 0 1 = cc in absurd (omega arith))
-flip_by flips Nothing next q e n f = let g : Entry n ≡ Nothing = sym f ∙ e in let z : ◌≡◌ {A = ℕ} 0 1 = cc in absurd (omega arith)
-
-flip_past : (flips : List ℕ) (r : Request) (next : Taker) (q : Request) → q ≡ acting_only flips r → q ≡ Nothing → next ≡ flip_taker flips r next
-flip_past flips (Entry m) next q e f =
-    cases (acts flips m) (λ b. let g : Nothing ≡ Entry m = sym f ∙ e ∙ rw b in let z : ◌≡◌ {A = ℕ} 0 1 = cc in absurd (omega arith)) (λ b. rw b)
-flip_past flips Nothing next q e f = refl
-
-bank_by : (permissions : List ℕ) (r : Register) (v : ℕ) (next : Taker) (q : Register) → q ≡ banked_only permissions r → (h : ℕ) → q ≡ HalfPage h → Bank h (v % 256) ≡ bank_taker permissions r v next
-bank_by permissions (HalfPage m) v next q e h f =
-    cases (banked permissions m) (λ b. let g : HalfPage h ≡ HalfPage m = sym f ∙ e ∙ rw b in rw b cc) (λ b. let g : HalfPage h ≡ Elsewhere = sym f ∙ e ∙ rw b in let z : ◌≡◌ {A = ℕ} 0 1 = cc in absurd (omega arith))
-bank_by permissions Elsewhere v next q e h f = let g : HalfPage h ≡ Elsewhere = sym f ∙ e in let z : ◌≡◌ {A = ℕ} 0 1 = cc in absurd (omega arith)
-
-bank_past : (permissions : List ℕ) (r : Register) (v : ℕ) (next : Taker) (q : Register) → q ≡ banked_only permissions r → q ≡ Elsewhere → next ≡ bank_taker permissions r v next
-bank_past permissions (HalfPage m) v next q e f =
-    cases (banked permissions m) (λ b. let g : Elsewhere ≡ HalfPage m = sym f ∙ e ∙ rw b in let z : ◌≡◌ {A = ℕ} 0 1 = cc in absurd (omega arith)) (λ b. rw b)
-bank_past permissions Elsewhere v next q e f = refl
+bank_past : (permissions : List ℕ) (r : Option ℕ) (v : ℕ) (next : Taker) (q : Option ℕ) → q ≡ banked_only permissions r → q ≡ None → next ≡ bank_taker permissions r v next
+bank_past permissions (Some m) v next q e f =
+    cases (banked permissions m) (λ b. let g : None ≡ Some m = sym f ∙ e ∙ rw b in let z : ◌≡◌ {A = ℕ} 0 1 = cc in absurd (omega arith)) (λ b. rw b)
+bank_past permissions None v next q e f = refl
 
 module _ (a : Active) (flips : List ℕ) (at : Console) (v : ℕ) where
-  module _ (q : Request) (e : q ≡ acting_only flips (asks at v)) where
-    pub flip_takes : (n : ℕ) → q ≡ Entry n → Flip n ≡ flip_taker flips (asks at v) (Ram (cell_at a at))
+  module _ (q : Option ℕ) (e : q ≡ acting_only flips (asks at v)) where
+    pub flip_takes : (n : ℕ) → q ≡ Some n → Flip n ≡ flip_taker flips (asks at v) (Ram (cell_at a at))
     flip_takes n f = flip_by flips (asks at v) (Ram (cell_at a at)) q e n f
 
-    pub flip_passes : (c : Cell) → q ≡ Nothing → c ≡ cell_at a at → Ram c ≡ flip_taker flips (asks at v) (Ram (cell_at a at))
+    pub flip_passes : (c : Cell) → q ≡ None → c ≡ cell_at a at → Ram c ≡ flip_taker flips (asks at v) (Ram (cell_at a at))
     flip_passes c f g = ap (λ (d : Cell). Ram d) g ∙ flip_past flips (asks at v) (Ram (cell_at a at)) q e f
 
-  module _ (q : Register) (e : q ≡ banked_only a.permissions (register_at at)) where
-    pub bank_takes : (h : ℕ) → q ≡ HalfPage h → Bank h (v % 256) ≡ mapped_taker a flips at v
+  module _ (q : Option ℕ) (e : q ≡ banked_only a.permissions (register_at at)) where
+    pub bank_takes : (h : ℕ) → q ≡ Some h → Bank h (v % 256) ≡ mapped_taker a flips at v
     bank_takes h f = bank_by a.permissions (register_at at) v _ q e h f
 
-    pub bank_passes : (t : Taker) → q ≡ Elsewhere → t ≡ flip_taker flips (asks at v) (Ram (cell_at a at)) → t ≡ mapped_taker a flips at v
+    pub bank_passes : (t : Taker) → q ≡ None → t ≡ flip_taker flips (asks at v) (Ram (cell_at a at)) → t ≡ mapped_taker a flips at v
     bank_passes t f g = g ∙ bank_past a.permissions (register_at at) v _ q e f
 
 pub ruleset takers = (flip_takes, flip_passes, bank_takes, bank_passes)

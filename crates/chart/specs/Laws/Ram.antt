@@ -1,6 +1,6 @@
 -- RAM keeps what is written to it, all of it or its low eight bits: where RAM shows no write is a page request or a bankswitch, and only the word that turns
 -- the accelerators on goes elsewhere.
-use Rattle.std.specs.Prelude.{ℕ, ◌≤◌, ◌<◌, ◌+◌, ◌*◌, ◌/◌, ◌%◌, Bool, true, false, ◌&&◌, List, ◌≡◌, refl, eqb, get_or, set}
+use Rattle.std.specs.Prelude.{ℕ, ◌≤◌, ◌<◌, ◌+◌, ◌*◌, ◌/◌, ◌%◌, Bool, true, false, ◌&&◌, List, ◌≡◌, refl, eqb, get_or, set, Option, Some, None}
 use Rattle.std.proofs.Math.Path.{sym, ap}
 use Rattle.std.proofs.Common.{◌∙◌, arith, length-set}
 use Rattle.std.proofs.Math.ListN.{length}
@@ -9,10 +9,6 @@ use borrow.Author.Tests.{eqb-true, lt-ltb, ltb-true}
 use Rattle.basics.specs.Laws.Tests.{cases, and_left, and_right, true_is_not_false}
 use Rattle.places.specs.declared.Console.{Console}
 use Rattle.places.specs.Limits.{lent, chapter_pages}
-use Rattle.switches.specs.declared.Register.{Register}
-use Rattle.switches.specs.declared.Register.TheVariants.{HalfPage, Elsewhere}
-use Rattle.switches.specs.declared.Request.{Request}
-use Rattle.switches.specs.declared.Request.TheVariants.{Entry, Nothing}
 use Rattle.switches.specs.Flips.{asks, acts, flip_from, flip_size}
 use Rattle.switches.specs.Banks.{register_at}
 use Rattle.switches.specs.Laws.Banks.{register_low}
@@ -37,15 +33,15 @@ use Rattle.chart.specs.Laws.Pages.{paged_exactly}
 use Rattle.chart.specs.Laws.Says.{permission, Plain, said, silent_at, theirs_at}
 
 -- a page request goes to the last address of its chapter, which the entry changes
-abbrev entry_in : Request → ℕ
-entry_in (Entry n) = n
-entry_in Nothing = 0
+abbrev entry_in : Option ℕ → ℕ
+entry_in (Some n) = n
+entry_in None = 0
 
-abbrev is_entry : Request → Bool
-is_entry (Entry n) = true
-is_entry Nothing = false
+abbrev is_entry : Option ℕ → Bool
+is_entry (Some n) = true
+is_entry None = false
 
-module _ (at : Console) (v n : ℕ) (e : asks at v ≡ Entry n) where
+module _ (at : Console) (v n : ℕ) (e : asks at v ≡ Some n) where
   abbrev here : Bool
   here = eqb (at.0 % 0x1000) 0xFFF
 
@@ -93,22 +89,22 @@ module _ (c : Cartridge) (at : Console) (v : ℕ) where
   abbrev cell : Cell
   cell = cell_at (active_of c) at
 
-  registers_silent : (h : ℕ) → register_at at ≡ HalfPage h → silent at ≡ true
+  registers_silent : (h : ℕ) → register_at at ≡ Some h → silent at ≡ true
   unfolding silent
   registers_silent h e = rw (lt-ltb at.0 0x500 (omega (arith, register_low at h e)))
 
-  no_bank : silent at ≡ false → (next : Taker) (r : Register) → register_at at ≡ r → bank_taker c.permissions r v next ≡ next
-  no_bank q next (HalfPage h) e = true_is_not_false (registers_silent h e) q
-  no_bank q next Elsewhere e = refl
+  no_bank : silent at ≡ false → (next : Taker) (r : Option ℕ) → register_at at ≡ r → bank_taker c.permissions r v next ≡ next
+  no_bank q next (Some h) e = true_is_not_false (registers_silent h e) q
+  no_bank q next None e = refl
 
-  no_flip : is_paged c.flips (paragraph at) ≡ false → (next : Taker) (r : Request) → asks at v ≡ r → flip_taker c.flips r next ≡ next
-  no_flip g next (Entry n) e =
+  no_flip : is_paged c.flips (paragraph at) ≡ false → (next : Taker) (r : Option ℕ) → asks at v ≡ r → flip_taker c.flips r next ≡ next
+  no_flip g next (Some n) e =
       cases (acts c.flips n)
       (λ t.
       true_is_not_false
       ((paged_exactly c.flips (paragraph at)).1 (record { number = n; acting = t; from = request_from at v n e; below = request_below at v n e })) g)
       (λ t. rw t)
-  no_flip g next Nothing e = refl
+  no_flip g next None e = refl
 
   module _ (q : silent at ≡ false) (t : (c.jlp.on && in_window at) ≡ false) (g : is_paged c.flips (paragraph at) ≡ false) (o : turns_on c.jlp.field at v ≡ false) where
     untaken : takes c.jlp at v ≡ false

@@ -1,14 +1,10 @@
 -- What a sign promises: a read anywhere in a silent paragraph gets silence; a write anywhere in ROM changes no word; pages show exactly where a flip
 -- entry that acts changes the paragraph, the silent ranges and the accelerators' window aside.
-use Rattle.std.specs.Prelude.{ℕ, true, false, ◌&&◌, List, ◌↔◌, ◌≡◌}
+use Rattle.std.specs.Prelude.{ℕ, true, false, ◌&&◌, List, ◌↔◌, ◌≡◌, Option, Some, None}
 use Rattle.std.proofs.Common.{⊎_elim, sym, arith}
 use Rattle.std.proofs.Math.Path.{ap}
 use Rattle.basics.specs.Laws.Tests.{cases, and_false}
 use Rattle.places.specs.declared.Console.{Console}
-use Rattle.switches.specs.declared.Register.{Register}
-use Rattle.switches.specs.declared.Register.TheVariants.{HalfPage, Elsewhere}
-use Rattle.switches.specs.declared.Request.{Request}
-use Rattle.switches.specs.declared.Request.TheVariants.{Entry, Nothing}
 use Rattle.switches.specs.Flips.{asks, acts}
 use Rattle.switches.specs.Banks.{register_at, banked}
 use Rattle.flash.specs.declared.Saves.{Saves}
@@ -50,15 +46,15 @@ module _ (c : Cartridge) (ram : List ℕ) (at : Console) where
       ⊎_elim (λ q. in_range (silent_at c at true q)) (λ h. unread (theirs_at c at false h.0.free) h.1) (said c (paragraph at) Silent e)
 
 -- the next taker leaves the memories as they are, and so does a switch or a flip before it
-bank_keeps : (permissions : List ℕ) (r : Register) (next : Taker) (s : Saves) (m : Memories) (at : Console) (v : ℕ) → memories_by next s m at v ≡ m
+bank_keeps : (permissions : List ℕ) (r : Option ℕ) (next : Taker) (s : Saves) (m : Memories) (at : Console) (v : ℕ) → memories_by next s m at v ≡ m
     → memories_by (bank_taker permissions r v next) s m at v ≡ m
-bank_keeps permissions (HalfPage p) next s m at v e = cases (banked permissions p) (λ b. rw b) (λ b. rw b e)
-bank_keeps permissions Elsewhere next s m at v e = e
+bank_keeps permissions (Some p) next s m at v e = cases (banked permissions p) (λ b. rw b) (λ b. rw b e)
+bank_keeps permissions None next s m at v e = e
 
-flip_keeps : (flips : List ℕ) (r : Request) (next : Taker) (s : Saves) (m : Memories) (at : Console) (v : ℕ) → memories_by next s m at v ≡ m
+flip_keeps : (flips : List ℕ) (r : Option ℕ) (next : Taker) (s : Saves) (m : Memories) (at : Console) (v : ℕ) → memories_by next s m at v ≡ m
     → memories_by (flip_taker flips r next) s m at v ≡ m
-flip_keeps flips (Entry n) next s m at v e = cases (acts flips n) (λ b. rw b) (λ b. rw b e)
-flip_keeps flips Nothing next s m at v e = e
+flip_keeps flips (Some n) next s m at v e = cases (acts flips n) (λ b. rw b) (λ b. rw b e)
+flip_keeps flips None next s m at v e = e
 
 -- a write anywhere in ROM changes no word of the RAM, nor of the flash
 module _ (c : Cartridge) (flash ram : List ℕ) (at : Console) (v : ℕ) where

@@ -1,14 +1,10 @@
 -- What shows outside of the accelerators' window shows there for good, whatever the console reads and writes, and after each reset: so the map of a
 -- cartridge that was just loaded is its map in play.
-use Rattle.std.specs.Prelude.{ℕ, ◌<◌, ◌≤◌, ◌/◌, ◌%◌, true, false, List, [], ◌∷◌, ◌≡◌, refl, ltb, get_or}
+use Rattle.std.specs.Prelude.{ℕ, ◌<◌, ◌≤◌, ◌/◌, ◌%◌, true, false, List, [], ◌∷◌, ◌≡◌, refl, ltb, get_or, Option, Some, None}
 use Rattle.std.proofs.Common.{sym, ◌∙◌, arith, ltb-true, ltb-false}
 use Rattle.basics.specs.Laws.Tests.{cases, and_false, true_is_not_false}
 use Rattle.places.specs.declared.Console.{Console}
 use Rattle.places.specs.Limits.{chapter_pages, chapter_paragraphs}
-use Rattle.switches.specs.declared.Register.{Register}
-use Rattle.switches.specs.declared.Register.TheVariants.{HalfPage, Elsewhere}
-use Rattle.switches.specs.declared.Request.{Request}
-use Rattle.switches.specs.declared.Request.TheVariants.{Entry, Nothing}
 use Rattle.switches.specs.Flips.{Active, asks, acts, first_k, flip_permissions}
 use Rattle.switches.specs.Banks.{register_at, banked}
 use Rattle.switches.specs.Laws.Flips.{first_small, turned_out}
@@ -41,13 +37,13 @@ module _ (a : Active) (flips : List ℕ) (p : ℕ) (u : is_paged flips p ≡ fal
           let g : first_k (n / chapter_pages) ≤ p % chapter_paragraphs = ltb-false (p % chapter_paragraphs) (first_k (n / chapter_pages)) l in
           true_is_not_false ((paged_exactly flips p).1 (record { number = n; acting = t; from = omega arith; below = omega arith })) u)
 
-  by_flip : (r : Request) (next : Taker) → Keeps next → Keeps (flip_taker flips r next)
-  by_flip (Entry n) next e = cases (acts flips n) (λ t. rw t (flip_keeps n t)) (λ t. rw t e)
-  by_flip Nothing next e = e
+  by_flip : (r : Option ℕ) (next : Taker) → Keeps next → Keeps (flip_taker flips r next)
+  by_flip (Some n) next e = cases (acts flips n) (λ t. rw t (flip_keeps n t)) (λ t. rw t e)
+  by_flip None next e = e
 
-  by_bank : (r : Register) (v : ℕ) (next : Taker) → Keeps next → Keeps (bank_taker a.permissions r v next)
-  by_bank (HalfPage h) v next e = cases (banked a.permissions h) (λ t. rw t) (λ t. rw t e)
-  by_bank Elsewhere v next e = e
+  by_bank : (r : Option ℕ) (v : ℕ) (next : Taker) → Keeps next → Keeps (bank_taker a.permissions r v next)
+  by_bank (Some h) v next e = cases (banked a.permissions h) (λ t. rw t) (λ t. rw t e)
+  by_bank None v next e = e
 
   by_window : (at : Console) → Keeps (window_taker at)
   by_window at = cases (in_ram at) (λ t. rw t) (λ t. rw t)

@@ -1,5 +1,5 @@
 -- What one console access does, proved.
-use Rattle.std.specs.Prelude.{ℕ, ◌+◌, ◌*◌, ◌-◌, ◌/◌, ◌%◌, ◌<◌, ◌≤◌, List, Bool, true, false, cond, not, ◌&&◌, ◌||◌, ◌↔◌, ◌⊎◌, ◌≡◌, refl, eqb, ltb, leb, length}
+use Rattle.std.specs.Prelude.{ℕ, ◌+◌, ◌*◌, ◌-◌, ◌/◌, ◌%◌, ◌<◌, ◌≤◌, List, Bool, true, false, cond, not, ◌&&◌, ◌||◌, ◌↔◌, ◌⊎◌, ◌≡◌, refl, eqb, ltb, leb, length, Some, None}
 use Rattle.std.specs.Prelude.{get_or, set}
 use Rattle.std.proofs.Common.{inl, inr, sym, ap, ◌∙◌, arith, get_or-set_same}
 use Rattle.std.proofs.Math.Seq.{get_or-set_other}
@@ -9,8 +9,6 @@ use borrow.Author.Tests.{eq-eqb, ne_eqb, lt-ltb, le-ltb, le-leb, lt-leb, eqb-tru
 use Rattle.basics.specs.Laws.Tests.{cases, and_left, and_right, and_true, and_false, or_false_left, or_false_right}
 use Rattle.places.specs.declared.Console.{Console}
 use Rattle.places.specs.Limits.{lent, chapter_paragraphs}
-use Rattle.switches.specs.declared.Register.TheVariants.{HalfPage, Elsewhere}
-use Rattle.switches.specs.declared.Request.TheVariants.{Entry}
 use Rattle.switches.specs.Flips.{Active, asks, PFE, acts, first_k, flip_mapping, flip_permissions}
 use Rattle.switches.specs.Banks.{half_page_paragraphs, register_at, banked}
 use Rattle.switches.specs.Laws.Flips.{turned_in, turned_out}
@@ -289,11 +287,11 @@ module _ (w : World) (at : Console) (v : ℕ) where
     flip_free : takes c.jlp at v ≡ false
     flip_free = free_takes c at v f.free not_turning
 
-    no_register : register_at at ≡ Elsewhere
+    no_register : register_at at ≡ None
     unfolding register_at
     no_register = rw (ne_eqb (at.0 / 0x10) 4 (λ q. omega (arith, f.last)), ne_eqb (at.0 / 0x10) 5 (λ q. omega (arith, f.last)))
 
-    is_asked : asks at v ≡ Entry n
+    is_asked : asks at v ≡ Some n
     unfolding asks
     is_asked = rw (eq-eqb _ _ f.last, eq-eqb _ _ f.chapter, eq-eqb _ _ f.key)
 
@@ -332,11 +330,11 @@ module _ (w : World) (at : Console) (v : ℕ) where
 
   -- a switch
   module _ (h : ℕ) (f : Switches c at h) where
-    is_register : register_at at ≡ HalfPage (8 * h)
+    is_register : register_at at ≡ Some (8 * h)
     unfolding register_at
     is_register = by f.register
       where
-        by : ((at.0 / 16 ≡ 4) × (h ≡ 2 * (at.0 % 16))) ⊎ ((at.0 / 16 ≡ 5) × (h ≡ 2 * (at.0 % 16) + 1)) → register_at at ≡ HalfPage (8 * h)
+        by : ((at.0 / 16 ≡ 4) × (h ≡ 2 * (at.0 % 16))) ⊎ ((at.0 / 16 ≡ 5) × (h ≡ 2 * (at.0 % 16) + 1)) → register_at at ≡ Some (8 * h)
         by (inl r) = let e : chapter_paragraphs * (at.0 % 0x10) ≡ 8 * h = omega (arith, r.1) in rw (eq-eqb _ _ r.0, e)
         by (inr r) =
             let e : chapter_paragraphs * (at.0 % 0x10) + half_page_paragraphs ≡ 8 * h = omega (arith, r.1) in

@@ -1,11 +1,9 @@
 -- The short ways are the cartridge's own: what they hear and leave is what its reads and writes do, whatever else is lent.
-use Rattle.std.specs.Prelude.{ℕ, ◌/◌, ◌%◌, List, ◌≡◌, refl, Bool, true, false, not, ◌&&◌, eqb}
+use Rattle.std.specs.Prelude.{ℕ, ◌/◌, ◌%◌, List, ◌≡◌, refl, Bool, true, false, not, ◌&&◌, eqb, None}
 use Rattle.std.proofs.Common.{sym, ap, subst, ◌∙◌, arith}
 use borrow.Author.Tests.{ne_eqb, eqb-false}
 use Rattle.basics.specs.Laws.Tests.{cases, and_left, and_right, and_false, or_false_left, or_false_right, true_is_not_false}
 use Rattle.places.specs.declared.Console.{Console}
-use Rattle.switches.specs.declared.Register.TheVariants.{Elsewhere}
-use Rattle.switches.specs.declared.Request.TheVariants.{Nothing}
 use Rattle.switches.specs.Flips.{Active, asks}
 use Rattle.switches.specs.Banks.{register_at}
 use Rattle.jlp.specs.declared.Jlp.{Jlp}
@@ -44,13 +42,13 @@ module _ (at : Console) (m : asks_more at ≡ false) where
   unfolding asks_more
   no_turn = or_false_right (eqb (at.0 % 0x1000) 0xFFF) _ (or_false_right (eqb (at.0 / 0x20) 2) _ m)
 
-  pub no_register : register_at at ≡ Elsewhere
+  pub no_register : register_at at ≡ None
   unfolding register_at
   no_register =
       let h : at.0 / 0x20 ≡ 2 → ⊥ = eqb-false _ _ no_half_page in
       rw (ne_eqb (at.0 / 0x10) 4 (λ e. h (omega arith)), ne_eqb (at.0 / 0x10) 5 (λ e. h (omega arith)))
 
-  pub no_request : (v : ℕ) → asks at v ≡ Nothing
+  pub no_request : (v : ℕ) → asks at v ≡ None
   unfolding asks
   no_request v = rw no_page
 

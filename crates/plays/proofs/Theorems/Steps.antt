@@ -1,5 +1,5 @@
 -- One access, by the machine and by the plain cartridge: a read is answered alike, and a write keeps the two tied.
-use Rattle.std.specs.Prelude.{ℕ, ◌≤◌, ◌*◌, ◌/◌, ◌%◌, ◌+◌, ◌<◌, List, ◌≡◌, Bool, cond, ◌&&◌, set, eqb, leb}
+use Rattle.std.specs.Prelude.{ℕ, ◌≤◌, ◌*◌, ◌/◌, ◌%◌, ◌+◌, ◌<◌, List, ◌≡◌, Bool, cond, ◌&&◌, set, eqb, leb, Some}
 use Rattle.std.proofs.Common.{◌∙◌, sym}
 use Rattle.std.proofs.Math.Path.{ap, refl}
 use Rattle.std.proofs.Math.Bool.{false, true}
@@ -12,7 +12,6 @@ use Rattle.basics.specs.Laws.Tests.{true_is_not_false, cases, and_left, and_righ
 use Rattle.basics.specs.Laws.Options.{some_is_not_none}
 use Rattle.places.specs.declared.Console.{Console}
 use Rattle.places.specs.Limits.{chapter_size, lent_limit, lent, paragraphs, chapters, flip_entries}
-use Rattle.switches.specs.declared.Request.TheVariants.{Entry}
 use Rattle.switches.specs.Flips.{first_k, asks}
 use Rattle.switches.specs.Banks.{BANKSW}
 use Rattle.switches.specs.Laws.Flips.{first_small}
@@ -222,7 +221,7 @@ module _ {bin : List ℕ} {lines : List Line} (g : Good lines) (c : Cartridge) (
     entry : ℕ
     entry = at.0 / chapter_size * 16 + v % 16
 
-    asks_entry : is_request at v ≡ true → asks at v ≡ Entry entry
+    asks_entry : is_request at v ≡ true → asks at v ≡ Some entry
     unfolding asks entry
     asks_entry e =
         let q : v / 0x1000 ≡ at.0 / chapter_size = eqb-true _ _ (and_left (eqb (v / 0x1000) (at.0 / chapter_size)) _ (and_right (eqb (at.0 % chapter_size) 0xFFF) _ e)) in

@@ -1,20 +1,13 @@
--- `switches::asked` meets its contract: each return has decided the tests of `asks`.
+-- `switches::asked` meets its contract: its tests are those of `asks`.
+use Rattle.std.proofs.Common.{rules}
 use Rattle.basics.specs.Laws.Tests.{tests}
 use Rattle.switches.specs.Flips.{asks}
 use Rattle.switches.proofs.asked.Goals as goal
 
-pub returns-then-a-ne4095 : goal.returns-then-a-ne4095
+pub returns-then-v-eq165 : goal.returns-then-v-eq165
 unfolding asks
-returns-then-a-ne4095 c = search tests
+returns-then-v-eq165 c = search tests
 
-pub returns-then-v-a : goal.returns-then-v-a
+pub returns-else-a-eq4095 : goal.returns-else-a-eq4095
 unfolding asks
-returns-then-v-a c = search tests
-
-pub returns-then-v-ne165 : goal.returns-then-v-ne165
-unfolding asks
-returns-then-v-ne165 c = search tests
-
-pub returns : goal.returns
-unfolding asks
-returns c = search tests
+returns-else-a-eq4095 c = search (rules, tests)

@@ -1,5 +1,5 @@
 -- Laws of bankswitches: the loop that makes one, what each entry of the mapping then is, and how two of them and a flip go together.
-use Rattle.std.specs.Prelude.{◌≡◌, ℕ, zero, suc, ◌+◌, ◌*◌, ◌/◌, ◌%◌, ◌<◌, ◌≤◌, Bool, true, false, cond, ◌&&◌, ◌⊎◌, List, [], ◌∷◌, length, ◌==◌, ◌≢◌, nat_le, slice_index, refl}
+use Rattle.std.specs.Prelude.{◌≡◌, ℕ, zero, suc, ◌+◌, ◌*◌, ◌/◌, ◌%◌, ◌<◌, ◌≤◌, Bool, true, false, cond, ◌&&◌, ◌⊎◌, List, [], ◌∷◌, length, ◌==◌, ◌≢◌, nat_le, slice_index, refl, Some, None}
 use Rattle.std.proofs.Math.Path.{ap}
 use Rattle.std.proofs.Common.{◌∙◌, eqb-true, ne_eqb}
 use Rattle.std.proofs.Math.Logic.{inl, inr}
@@ -11,7 +11,6 @@ use Rattle.basics.specs.Laws.Tests.{compare, cases}
 use Rattle.places.specs.Limits.{chapter_pages, chapter_paragraphs}
 use Rattle.places.specs.declared.Console.{Console}
 use Rattle.places.specs.Places.{console}
-use Rattle.switches.specs.declared.Register.TheVariants.{HalfPage, Elsewhere}
 use Rattle.switches.specs.Flips.{Active, first_k, flip_permissions, flipped}
 use Rattle.switches.specs.Banks.{half_page_paragraphs, register_at, BANKSW, banked, number_from, switched, bankswitched}
 use Rattle.switches.specs.Laws.Flips.{length_turned, turned_in, turned_out, turned_at}
@@ -53,18 +52,18 @@ module _ (h v : ℕ) (m : List ℕ) (p : ℕ) where
       cases (p / half_page_paragraphs == h) (λ e. rw e (switched_in s (eqb-true _ _ e))) (λ e. rw e (switched_out (eqb-false _ _ e)))
 
 -- the registers stand at $0040-$005F
-pub register_low : (at : Console) (h : ℕ) → register_at at ≡ HalfPage h → at.0 < 0x60
+pub register_low : (at : Console) (h : ℕ) → register_at at ≡ Some h → at.0 < 0x60
 unfolding register_at
 register_low at h e =
     cases (at.0 / 0x10 == 4) (λ a. omega (arith, eqb-true (at.0 / 0x10) 4 a))
     (λ a.
     cases (at.0 / 0x10 == 5) (λ b. omega (arith, eqb-true (at.0 / 0x10) 5 b))
-    (λ b. let q : Elsewhere ≡ HalfPage h = rw (a, b) at e in let z : ◌≡◌ {A = ℕ} 0 1 = cc in absurd (omega arith)))
+    (λ b. let q : None ≡ Some h = rw (a, b) at e in let z : ◌≡◌ {A = ℕ} 0 1 = cc in absurd (omega arith)))
 
 -- the two registers of chapter x move disjoint halves of it: $x000-$x7FF and $x800-$xFFF
 pub record Halves (x v : ℕ) (a : Active) : Type 0 where
-  pub lower : register_at (console (0x40 + x)) ≡ HalfPage (16 * x)
-  pub upper : register_at (console (0x50 + x)) ≡ HalfPage (16 * x + 8)
+  pub lower : register_at (console (0x40 + x)) ≡ Some (16 * x)
+  pub upper : register_at (console (0x50 + x)) ≡ Some (16 * x + 8)
   pub lower_moves : (p : ℕ) → (p / 16 ≡ x → 8 ≤ p % 16) → slice_index (bankswitched (16 * x) v a).mapping p ≡ slice_index a.mapping p
   pub upper_moves : (p : ℕ) → (p / 16 ≡ x → p % 16 < 8) → slice_index (bankswitched (16 * x + 8) v a).mapping p ≡ slice_index a.mapping p
 

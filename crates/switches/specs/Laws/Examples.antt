@@ -1,14 +1,13 @@
 -- Bankswitch registers and numbers, worked: the definitions compute.
-use Rattle.std.specs.Prelude.{◌≡◌, [], ◌∷◌, replicate, refl}
+use Rattle.std.specs.Prelude.{◌≡◌, [], ◌∷◌, replicate, refl, Some, None}
 use Rattle.basics.specs.Lists.{laid}
 use Rattle.places.specs.Places.{console}
-use Rattle.switches.specs.declared.Register.TheVariants.{HalfPage, Elsewhere}
 use Rattle.switches.specs.Banks.{register_at, switched}
 
 -- 001's example: $004C is the register of $C000-$C7FF; and the ends of the registers
 pub registers :
-    (register_at (console 0x004C) ≡ HalfPage 0xC0) × (register_at (console 0x0040) ≡ HalfPage 0) × (register_at (console 0x005F) ≡ HalfPage 0xF8)
-    × (register_at (console 0x003F) ≡ Elsewhere) × (register_at (console 0x0060) ≡ Elsewhere) × (register_at (console 0x0140) ≡ Elsewhere)
+    (register_at (console 0x004C) ≡ Some 0xC0) × (register_at (console 0x0040) ≡ Some 0) × (register_at (console 0x005F) ≡ Some 0xF8)
+    × (register_at (console 0x003F) ≡ None) × (register_at (console 0x0060) ≡ None) × (register_at (console 0x0140) ≡ None)
 unfolding register_at
 registers = (refl, refl, refl, refl, refl, refl)
 

@@ -1,7 +1,7 @@
--- `switches::flip_mapping` meets its contract. The loop's invariant: the flip has come to paragraph k.
+-- `switches::flip` meets its contract. The loop's invariant: the flip has come to paragraph k in both tables.
 use Rattle.std.proofs.Common.{rules}
 use Rattle.switches.specs.Laws.Flips.{turning_none, turning_more, turning_done}
-use Rattle.switches.proofs.flip_mapping.Goals as goal
+use Rattle.switches.proofs.flip.Goals as goal
 
 pub loop-k-init : goal.loop-k-init
 loop-k-init c = search (rules, turning_none)
