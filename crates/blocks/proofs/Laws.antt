@@ -1,4 +1,5 @@
 -- One law for each return of the functions on one block, its premises as the code's tests and calls give them.
+use Rattle.std.specs.Prelude.{Result, Ok, Err}
 use Prim.Native.Nat.{ℕ, ◌<◌, ◌≤◌, ◌+◌, ◌*◌, ◌-◌, ◌^◌, min}
 use mathlib.Core.List.{List}
 use mathlib.Core.Path.{◌≡◌, refl, ap, sym, ◌∙◌}
@@ -15,8 +16,6 @@ use Rattle.basics.specs.Laws.Puts.{put_room}
 use Rattle.basics.specs.Bytes.{at16}
 use Rattle.basics.specs.Refusals.{refuse, first_refusal}
 use Rattle.sums.specs.Crc.{dowcrc_of}
-use Rattle.hunk.specs.declared.Checked.{Checked}
-use Rattle.hunk.specs.declared.Checked.TheVariants.{Whole, Broken}
 use Rattle.hunk.specs.Hunk.{check_hunk}
 use Rattle.hunk.specs.Laws.Refusals.{whole_words, break_within}
 use Rattle.metadata.specs.Records.{is_cut}
@@ -112,17 +111,17 @@ module _ (t n : ℕ) (earlier : Bool) where
 pub ruleset tables_asked = (tables_other, tables_size_lem, tables_earlier)
 
 -- 9, by the hunk's check
-module _ (x : List ℕ) (m a : ℕ) (ea : a ≡ min 8 (length x)) (h : Checked) (eh : h ≡ check_hunk (part x a (length x)) m) where
-  pub hunk_whole : (n : ℕ) → h ≡ Whole n → (r : Judged) → r ≡ good_of n → r ≡ checked_of (check_hunk (payload_in x) m)
+module _ (x : List ℕ) (m a : ℕ) (ea : a ≡ min 8 (length x)) (h : Result ℕ ℕ) (eh : h ≡ check_hunk (part x a (length x)) m) where
+  pub hunk_whole : (n : ℕ) → h ≡ Ok n → (r : Judged) → r ≡ good_of n → r ≡ checked_of (check_hunk (payload_in x) m)
   hunk_whole n e r er = er ∙ rw (← payload_lent x a ea, ← eh, e)
 
-  module _ (k : ℕ) (e : h ≡ Broken k) where
+  module _ (k : ℕ) (e : h ≡ Err k) where
     pub hunk_breaks : (r : Judged) → r ≡ bad_of 9 (8 + k) → r ≡ checked_of (check_hunk (payload_in x) m)
     hunk_breaks r er = er ∙ rw (← payload_lent x a ea, ← eh, e)
 
     pub break_fits : length x < 2 ^ 64 → Fits w64 (8 + k)
     break_fits l =
-        let c : check_hunk (payload_in x) m ≡ Broken k = ap (λ (y : List ℕ). check_hunk y m) (sym (payload_lent x a ea)) ∙ sym eh ∙ e in
+        let c : check_hunk (payload_in x) m ≡ Err k = ap (λ (y : List ℕ). check_hunk y m) (sym (payload_lent x a ea)) ∙ sym eh ∙ e in
         let i : k ≤ length (payload_in x) = rw c at (break_within (payload_in x) m) in
         omega (arith, i, length-drop 8 x)
 
@@ -201,10 +200,10 @@ module _ (x : List ℕ) (t : ℕ) (et : t ≡ type_of x) (sum m : ℕ) (earlier 
               let j : eqb (type_of x) 2 ≡ false = ne_eqb _ _ (λ e. d (et ∙ e)) in
               er ∙ rw (not_7, good_6, good_12, good_8, j)
 
-          by_check : is_hunk x ≡ true → (k : Checked) → check_hunk (payload_in x) m ≡ k → checked_of k ≡ judged_of m earlier 0 sum x
+          by_check : is_hunk x ≡ true → (k : Result ℕ ℕ) → check_hunk (payload_in x) m ≡ k → checked_of k ≡ judged_of m earlier 0 sum x
           unfolding judge_rows judged_of
-          by_check h (Whole n) ek = rw (ek, not_7, good_6, good_12, good_8, h, ← (whole_words (payload_in x) m n ek).count)
-          by_check h (Broken n) ek = rw (ek, not_7, good_6, good_12, good_8, h, zero-add)
+          by_check h (Ok n) ek = rw (ek, not_7, good_6, good_12, good_8, h, ← (whole_words (payload_in x) m n ek).count)
+          by_check h (Err n) ek = rw (ek, not_7, good_6, good_12, good_8, h, zero-add)
 
           pub judge_9 : t ≡ 2 → (r : Judged) → r ≡ checked_of (check_hunk (payload_in x) m) → r ≡ judged_of m earlier 0 sum x
           judge_9 d r e = e ∙ by_check (eq-eqb _ _ (sym et ∙ d)) (check_hunk (payload_in x) m) refl

@@ -150,10 +150,9 @@ fn judge_hunk(x: &[u8], m: usize) -> Judged
     ensures { result ≡ checked_of (check_hunk (payload_in x.now) m) }
 {
     let a = basics::least(FRAME_SIZE, x.len());
-    let h = hunk::check(&x[a..], m);
-    match h {
-        hunk::Checked::Whole(n) => good(n),
-        hunk::Checked::Broken(k) => bad(9, FRAME_SIZE + k),
+    match hunk::check(&x[a..], m) {
+        Ok(n) => good(n),
+        Err(k) => bad(9, FRAME_SIZE + k),
     }
 }
 

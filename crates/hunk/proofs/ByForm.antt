@@ -1,16 +1,18 @@
 -- What a start byte says, and what stands at a place: one law for each case of the code, with its premises as the cases and calls give them.
 use Prim.Native.Nat.{ℕ, ◌+◌, ◌<◌, ◌≤◌, ◌-◌}
 use mathlib.Core.List.{List}
-use mathlib.Core.Path.{◌≡◌, sym, ◌∙◌, ap}
-use mathlib.Core.Bool.{Bool, true, false}
+use mathlib.Core.Path.{◌≡◌, sym, ◌∙◌, ap, refl}
+use mathlib.Core.Bool.{false}
 use native.Mathlib.Omega.{arith}
 use lib.ListN.{get_or, length}
 use borrow.Author.Tests.{le-leb, lt-leb}
 use mir.Syntax.{w8, w64}
 use mir.Val.{Fits}
 use Rattle.hunk.specs.declared.Form.{Form}
-use Rattle.hunk.specs.declared.Form.TheVariants.{Bytes, Decles, Words}
-use Rattle.hunk.specs.declared.Block.TheVariants.{End, Wrong, Data}
+use Rattle.hunk.specs.declared.Form.TheVariants.{Bytes, Decles, Words, Reserved}
+use Rattle.std.specs.Prelude.{Ok, Err, Some, None}
+use mathlib.Core.Logic.{◌⊎◌, inl, inr}
+use Rattle.basics.specs.Laws.Tests.{and_false}
 use Rattle.hunk.specs.Forms.{form_of, is_reserved, count_for, most_for, size_for, count_of, size_of}
 use Rattle.hunk.specs.Hunk.{whole_at}
 use Rattle.hunk.specs.Laws.Forms.{Starts, starts_of, count_most}
@@ -47,31 +49,38 @@ module _ (f : Form) (b : ℕ) (ef : f ≡ form_of b) where
   unfolding count_of
   count_small n en = let h : count_for (form_of b) b ≤ 128 = count_most b in omega (arith, en ∙ ap (λ (g : Form). count_for g b) ef)
 
+-- a form that is named
+is_named : (f : Form) → (f ≡ Reserved → ⊥) → is_reserved f ≡ false
+is_named Bytes e = refl
+is_named Decles e = refl
+is_named Words e = refl
+is_named Reserved e = absurd (e refl)
+
 -- what stands at p
-pub block_end : (s : List ℕ) (p : ℕ) → length s ≤ p → End ≡ block_at s p
+pub block_end : (s : List ℕ) (p : ℕ) → length s ≤ p → Ok None ≡ block_at s p
 unfolding block_at
 block_end s p h = rw (le-leb _ _ h)
 
-module _ (s : List ℕ) (p b : ℕ) (f : Form) (at : p < length s) (eb : b ≡ get_or s p 0) (ef : f ≡ form_of b) (t : Bool) (et : t ≡ is_reserved f) where
-  pub block_reserved : t ≡ true → Wrong ≡ block_at s p
+module _ (s : List ℕ) (p b : ℕ) (f : Form) (n z : ℕ) (at : p < length s) (eb : b ≡ get_or s p 0) (ef : f ≡ form_of b) (en : n ≡ count_for f b) (ez : z ≡ size_for f n) where
+  counted : count_of b ≡ n
+  unfolding count_of
+  counted = rw (← ef) (sym en)
+
+  sized : size_of b ≡ z
+  unfolding size_of
+  sized = rw (counted, ← ef) (sym ez)
+
+  pub block_wrong : (f ≡ Reserved) ⊎ ((f ≡ Reserved → ⊥) × (length s - p < z)) → Err p ≡ block_at s p
   unfolding block_at whole_at
-  block_reserved h = rw (lt-leb _ _ at, ← eb, ← ef, ← et, h)
+  block_wrong (inl e) = rw (lt-leb _ _ at, ← eb, ← ef, e)
+  block_wrong (inr (e, l)) =
+      let g : length s < p + z = omega arith in
+      rw (lt-leb _ _ at, ← eb, ← ef, sized, lt-leb _ _ g, and_false _ _ refl)
 
-  module _ (h : t ≡ false) (n z : ℕ) (en : n ≡ count_for f b) (ez : z ≡ size_for f n) where
-    counted : count_of b ≡ n
-    unfolding count_of
-    counted = rw (← ef) (sym en)
+  pub block_data : (f ≡ Reserved → ⊥) → z ≤ length s - p → Ok (Some (record { words = n; next = p + z })) ≡ block_at s p
+  unfolding block_at whole_at
+  block_data e l =
+      let g : p + z ≤ length s = omega arith in
+      rw (lt-leb _ _ at, ← eb, ← ef, is_named f e, sized, counted, le-leb _ _ g)
 
-    sized : size_of b ≡ z
-    unfolding size_of
-    sized = rw (counted, ← ef) (sym ez)
-
-    pub block_cut : length s - p < z → Wrong ≡ block_at s p
-    unfolding block_at whole_at
-    block_cut l = let g : length s < p + z = omega arith in rw (lt-leb _ _ at, ← eb, ← ef, ← et, h, sized, lt-leb _ _ g)
-
-    pub block_data : z ≤ length s - p → Data n (p + z) ≡ block_at s p
-    unfolding block_at whole_at
-    block_data l = let g : p + z ≤ length s = omega arith in rw (lt-leb _ _ at, ← eb, ← ef, ← et, h, sized, counted, le-leb _ _ g)
-
-pub ruleset blocks = (block_end, block_reserved, block_cut, block_data)
+pub ruleset blocks = (block_end, block_wrong, block_data)

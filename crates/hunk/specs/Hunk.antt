@@ -1,5 +1,5 @@
 -- A data hunk: a word address and words; its payload as it is read, checked, stored and written (001, Block Type 0x02: Data Hunk).
-use Rattle.std.specs.Prelude.{ℕ, ◌+◌, ◌%◌, ◌^◌, zero, suc, List, [], ◌∷◌, ◌++◌, map, cond, Bool, ◌&&◌, not, true, false, ltb, leb, eqb, get_or, length}
+use Rattle.std.specs.Prelude.{ℕ, ◌+◌, ◌%◌, ◌^◌, zero, suc, List, [], ◌∷◌, ◌++◌, map, cond, Bool, ◌&&◌, not, true, false, ltb, leb, eqb, get_or, length, Result, Ok, Err}
 use Rattle.basics.specs.Bytes.{at24, le24}
 use Rattle.basics.specs.Tables.{table}
 use Rattle.basics.specs.Lists.{lay, joined}
@@ -7,8 +7,6 @@ use Rattle.places.specs.declared.Locutus.{Locutus}
 use Rattle.places.specs.Places.{locutus}
 use Rattle.places.specs.Limits.{lent}
 use Rattle.hunk.specs.declared.Form.{Form}
-use Rattle.hunk.specs.declared.Checked.{Checked}
-use Rattle.hunk.specs.declared.Checked.TheVariants.{Whole, Broken}
 use Rattle.hunk.specs.Forms.{form_of, is_reserved, count_of, size_of, word}
 use Rattle.hunk.specs.Smallest.{data_of}
 use Rattle.hunk.specs.Cuts.{cuts_of}
@@ -75,22 +73,22 @@ hunk_of s = hunk (address s) (words_of s)
 
 -- the check of data blocks that start at these places, with n words of the hunk before them: it breaks at the first that has a word outside
 -- m words of RAM; else where the data blocks stop before the payload's end; else it is whole, and has so many words
-unfoldable pub check_blocks : List ℕ → ℕ → ℕ → List ℕ → Checked
-check_blocks s m n [] = cond (eqb (end_of s) (length s)) (Whole n) (Broken (end_of s))
-check_blocks s m n (p ∷ ps) = cond (ltb m ((address s).0 + (n + count_at s p))) (Broken p) (check_blocks s m (n + count_at s p) ps)
+unfoldable pub check_blocks : List ℕ → ℕ → ℕ → List ℕ → Result ℕ ℕ
+check_blocks s m n [] = cond (eqb (end_of s) (length s)) (Ok n) (Err (end_of s))
+check_blocks s m n (p ∷ ps) = cond (ltb m ((address s).0 + (n + count_at s p))) (Err p) (check_blocks s m (n + count_at s p) ps)
 
 -- the check of a hunk for m words of RAM; where the payload is cut before any data block, its first byte is named (01, refusal 9)
-unfoldable pub check_hunk : List ℕ → ℕ → Checked
-check_hunk s m = cond (ltb (length s) 3) (Broken 0) (check_blocks s m 0 (data_starts s))
+unfoldable pub check_hunk : List ℕ → ℕ → Result ℕ ℕ
+check_hunk s m = cond (ltb (length s) 3) (Err 0) (check_blocks s m 0 (data_starts s))
 
-abbrev pub broken : Checked → Bool
-broken (Whole n) = false
-broken (Broken k) = true
+abbrev pub broken : Result ℕ ℕ → Bool
+broken (Ok n) = false
+broken (Err k) = true
 
 -- the byte where it breaks, from the payload's first on (02, W-205); 0 where it is whole
-abbrev pub break_of : Checked → ℕ
-break_of (Whole n) = 0
-break_of (Broken k) = k
+abbrev pub break_of : Result ℕ ℕ → ℕ
+break_of (Ok n) = 0
+break_of (Err k) = k
 
 -- the RAM with a hunk's words laid from its address on; as it was where the check does not pass for the words lent
 unfoldable pub store_hunk : List ℕ → List ℕ → List ℕ

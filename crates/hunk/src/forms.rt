@@ -1,6 +1,6 @@
 // What the start byte of a data block says (001, "Start byte", Reserved Encodings).
 ghost use Rattle.std.specs.Prelude.{◌<◌, ◌≤◌, ◌≡◌};
-ghost use Rattle.hunk.specs.Forms.{form_of, is_reserved, count_for, start_for, most_for, size_for};
+ghost use Rattle.hunk.specs.Forms.{form_of, count_for, start_for, most_for, size_for};
 
 use crate::Form;
 
@@ -20,17 +20,6 @@ pub(crate) fn form_of(b: usize) -> Form
         return Form::Words;
     }
     Form::Reserved
-}
-
-pub(crate) fn reserved(f: Form) -> bool
-    ensures { result ≡ is_reserved f }
-{
-    match f {
-        Form::Bytes => false,
-        Form::Decles => false,
-        Form::Words => false,
-        Form::Reserved => true,
-    }
 }
 
 // The number of words, by the start byte.

@@ -15,14 +15,13 @@ ghost use Rattle.places.specs.Places.{locutus};
 ghost use Rattle.hunk.specs.Hunk.{hunk, address, words_of, check_hunk, store_hunk, hunk_payload, payload_size};
 ghost use Rattle.hunk.specs.Code.Blocks.{block_at, Storable};
 
-use basics::wide;
 use data::{cuts_size, put_address, write_cuts};
-use forms::{count_of, form_of, reserved, size_of};
+use forms::{count_of, form_of, size_of};
 use places::{Locutus, PARAGRAPH_SIZE, lent_words};
 use stores::store_block;
 
 // The forms of a data block: 8-bit, 10-bit, 16-bit, and what a start byte may not say.
-#[derive(Clone, Copy)]
+#[derive(Clone, Copy, PartialEq, Eq)]
 pub enum Form {
     Bytes,
     Decles,
@@ -30,39 +29,31 @@ pub enum Form {
     Reserved,
 }
 
-// What stands at a place of a payload: its end, a data block that is cut or reserved, or one of so many words, with the place of the next.
+// A data block that is whole: how many words it has, and the place behind it.
 #[derive(Clone, Copy)]
-enum Block {
-    End,
-    Wrong,
-    Data(usize, usize),
+struct DataBlock {
+    words: usize,
+    next: usize,
 }
 
-// A hunk that is whole, with its number of words, or the byte where it breaks.
-#[derive(Clone, Copy)]
-pub enum Checked {
-    Whole(usize),
-    Broken(usize),
-}
-
-// What stands at p.
-fn block_at(s: &[u8], p: usize) -> Block
+// The data block at p, and none at the payload's end; the error is p, where a data block is cut or reserved.
+fn block_at(s: &[u8], p: usize) -> Result<Option<DataBlock>, usize>
     ensures { result ≡ block_at s.now p }
 {
     if s.len() <= p {
-        return Block::End;
+        return Ok(None);
     }
-    let b = wide(s[p]);
+    let b = usize::from(s[p]);
     let f = form_of(b);
-    if reserved(f) {
-        return Block::Wrong;
+    let words = count_of(f, b);
+    let long = size_of(f, words);
+    if f == Form::Reserved || s.len() - p < long {
+        return Err(p);
     }
-    let n = count_of(f, b);
-    let z = size_of(f, n);
-    if s.len() - p < z {
-        return Block::Wrong;
-    }
-    Block::Data(n, p + z)
+    Ok(Some(DataBlock {
+        words,
+        next: p + long,
+    }))
 }
 
 // The word address at a hunk's start.
@@ -70,47 +61,34 @@ fn address_of(s: &[u8]) -> Locutus
     requires { 3 ≤ length s.now }
     ensures { result ≡ address s.now }
 {
-    Locutus((wide(s[0]) + 256 * wide(s[1]) + 65536 * wide(s[2])) as u32)
+    Locutus(u32::from_le_bytes([s[0], s[1], s[2], 0]))
 }
 
 // Whether n words from an address on go past m words of RAM.
 fn past(at: Locutus, n: usize, m: usize) -> bool
     ensures { result ≡ ltb m (at.0 + n) }
 {
-    if m < n {
-        return true;
-    }
-    m - n < at.0 as usize
+    m < n || m - n < at.0 as usize
 }
 
-// Whether a hunk's words all lie in m words of RAM, and where it breaks if not.
-pub fn check(s: &[u8], m: usize) -> Checked
+// How many words a hunk has, all of which lie in m words of RAM; the error is the byte where it breaks.
+pub fn check(s: &[u8], m: usize) -> Result<usize, usize>
     ensures { result ≡ check_hunk s.now m }
 {
     if s.len() < 3 {
-        return Checked::Broken(0);
+        return Err(0);
     }
     let at = address_of(s);
     let mut p = 3;
     let mut n = 0;
-    loop {
-        let b = block_at(s, p);
-        match b {
-            Block::End => {
-                return Checked::Whole(n);
-            }
-            Block::Wrong => {
-                return Checked::Broken(p);
-            }
-            Block::Data(k, next) => {
-                n = n + k;
-                if past(at, n, m) {
-                    return Checked::Broken(p);
-                }
-                p = next;
-            }
+    while let Some(d) = block_at(s, p)? {
+        n += d.words;
+        if past(at, n, m) {
+            return Err(p);
         }
+        p = d.next;
     }
+    Ok(n)
 }
 
 // The place n words on.
@@ -128,21 +106,10 @@ fn store_blocks(s: &[u8], ram: &mut [u16])
 {
     let mut at = address_of(s);
     let mut p = 3;
-    loop {
-        let b = block_at(s, p);
-        match b {
-            Block::End => {
-                return;
-            }
-            Block::Wrong => {
-                return;
-            }
-            Block::Data(n, next) => {
-                store_block(s, p, n, ram, at);
-                at = after(at, n);
-                p = next;
-            }
-        }
+    while let Some(d) = block_at(s, p).unwrap_or(None) {
+        store_block(s, p, d.words, ram, at);
+        at = after(at, d.words);
+        p = d.next;
     }
 }
 
@@ -150,12 +117,8 @@ fn store_blocks(s: &[u8], ram: &mut [u16])
 pub fn store(s: &[u8], ram: &mut [u16])
     ensures { ram.new ≡ store_hunk s.now ram.old }
 {
-    let c = check(s, lent_words(ram));
-    match c {
-        Checked::Broken(_) => {}
-        Checked::Whole(_) => {
-            store_blocks(s, ram);
-        }
+    if check(s, lent_words(ram)).is_ok() {
+        store_blocks(s, ram);
     }
 }
 

@@ -1,10 +1,9 @@
 -- The parts of a frame's reading and of a block's judgement.
+use Rattle.std.specs.Prelude.{Result, Ok, Err}
 use Rattle.std.specs.Prelude.{ℕ, ◌+◌, List, Bool, cond, not, ◌&&◌, ◌||◌, length, get_or, eqb, ltb}
 use Rattle.basics.specs.Lists.{part}
 use Rattle.basics.specs.Refusals.{refuse, no_refusal}
 use Rattle.sums.specs.Crc.{dowcrc_of}
-use Rattle.hunk.specs.declared.Checked.{Checked}
-use Rattle.hunk.specs.declared.Checked.TheVariants.{Whole, Broken}
 use Rattle.tables.specs.Tables.{tables_size}
 use Rattle.metadata.specs.Records.{is_cut}
 use Rattle.blocks.specs.declared.Frame.{Frame}
@@ -37,6 +36,6 @@ abbrev pub good_of : ℕ → Judged
 good_of words = record { refusal = no_refusal; words = words }
 
 -- a hunk, by its check
-abbrev pub checked_of : Checked → Judged
-checked_of (Whole n) = good_of n
-checked_of (Broken k) = bad_of 9 (frame_size + k)
+abbrev pub checked_of : Result ℕ ℕ → Judged
+checked_of (Ok n) = good_of n
+checked_of (Err k) = bad_of 9 (frame_size + k)

@@ -4,8 +4,8 @@ use lib.ListN.{length}
 use Rattle.hunk.proofs.Loops.{Checking}
 use Rattle.hunk.proofs.check.Given as goal
 
-abbrev pub invariant-loop-k : goal.invariant-loop-k
-invariant-loop-k l = Checking l.s l.m l.at l.p l.n
+abbrev pub invariant-loop-d : goal.invariant-loop-d
+invariant-loop-d l = Checking l.s l.m l.at l.p l.n
 
-abbrev pub decreases-loop-k : goal.decreases-loop-k
-decreases-loop-k l = length l.s - l.p
+abbrev pub decreases-loop-d : goal.decreases-loop-d
+decreases-loop-d l = length l.s - l.p

@@ -1,25 +1,22 @@
 -- `hunk::store_blocks` meets its contract. The loop's invariant: the words of the data blocks before p are laid.
-use borrow.Author.Rules.{rules}
-use Rattle.hunk.proofs.Loops.{store_start, store_end, store_wrong, store_room, store_low, store_more, stands_less}
+use Rattle.std.proofs.Common.{rules}
+use Rattle.hunk.proofs.Loops.{store_start, store_end, store_room, store_low, store_more, stands_less, taken_data}
 use Rattle.hunk.proofs.store_blocks.Goals as goal
 
-pub loop-n-init : goal.loop-n-init
-loop-n-init c = search (rules, store_start)
-
-pub returns-in-End : goal.returns-in-End
-returns-in-End c = search (rules, store_end)
-
-pub returns-in-Wrong : goal.returns-in-Wrong
-returns-in-Wrong c = search (rules, store_wrong)
+pub loop-d-init : goal.loop-d-init
+loop-d-init c = search (rules, store_start)
 
 pub store_block-requires : goal.store_block-requires
-store_block-requires c = search (rules, store_room)
+store_block-requires c = search (rules, store_room, taken_data)
 
 pub after-at-requires : goal.after-at-requires
-after-at-requires c = search (rules, store_low)
+after-at-requires c = search (rules, store_low, taken_data)
 
-pub loop-n-smaller : goal.loop-n-smaller
-loop-n-smaller c = search (rules, stands_less)
+pub loop-d-smaller : goal.loop-d-smaller
+loop-d-smaller c = search (rules, stands_less, taken_data)
 
-pub loop-n-preserved : goal.loop-n-preserved
-loop-n-preserved c = search (rules, store_more)
+pub loop-d-preserved : goal.loop-d-preserved
+loop-d-preserved c = search (rules, store_more, taken_data)
+
+pub returns : goal.returns
+returns c = search (rules, store_end)

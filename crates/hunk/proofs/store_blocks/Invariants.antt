@@ -4,8 +4,8 @@ use lib.ListN.{length}
 use Rattle.hunk.proofs.Loops.{Storing}
 use Rattle.hunk.proofs.store_blocks.Given as goal
 
-abbrev pub invariant-loop-n : goal.invariant-loop-n
-invariant-loop-n l = Storing l.s l.at l.p l.initial.ram l.ram
+abbrev pub invariant-loop-d : goal.invariant-loop-d
+invariant-loop-d l = Storing l.s l.at l.p l.initial.ram l.ram
 
-abbrev pub decreases-loop-n : goal.decreases-loop-n
-decreases-loop-n l = length l.s - l.p
+abbrev pub decreases-loop-d : goal.decreases-loop-d
+decreases-loop-d l = length l.s - l.p

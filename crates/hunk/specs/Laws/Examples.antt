@@ -1,11 +1,11 @@
 -- 001's Encoded Example, all 62 bytes, as a hunk at word 2 (the dump prints "336" for one decle: bytes and listing say 366); and data
 -- blocks that are written, its own among them.
+use Rattle.std.specs.Prelude.{Ok, Err}
 use Rattle.std.specs.Prelude.{ℕ, List, ◌∷◌, [], ◌++◌, ◌≡◌, refl, length, take, replicate}
 use Rattle.basics.specs.Bytes.{bytes16}
 use Rattle.basics.specs.Tables.{made}
 use Rattle.basics.specs.Lists.{part, laid, joined}
 use Rattle.places.specs.Places.{locutus}
-use Rattle.hunk.specs.declared.Checked.TheVariants.{Whole, Broken}
 use Rattle.hunk.specs.Forms.{form_of, count_of, size_of, word, packed, decle, lower, uppers, packet, packets, data_in}
 use Rattle.hunk.specs.Smallest.{largest, carries, smaller, form_for, data_of}
 use Rattle.hunk.specs.Cuts.{cuts_of, pieces}
@@ -42,24 +42,24 @@ unfolding words_of data_starts data_starts_from whole_at form_of count_of size_o
 decodes = refl
 
 -- it needs 41 words of RAM; in 40 the last data block, at byte 55, holds the first word outside
-pub passes : check_hunk payload 41 ≡ Whole 39
+pub passes : check_hunk payload 41 ≡ Ok 39
 unfolding check_hunk check_blocks end_of data_starts data_starts_from whole_at form_of count_of size_of
 passes = refl
 
-pub one_past : check_hunk payload 40 ≡ Broken 55
+pub one_past : check_hunk payload 40 ≡ Err 55
 unfolding check_hunk check_blocks end_of data_starts data_starts_from whole_at form_of count_of size_of
 one_past = refl
 
 -- cut by its last byte; cut before any data block; a reserved start byte behind it
-pub cut : check_hunk (take 64 payload) 41 ≡ Broken 55
+pub cut : check_hunk (take 64 payload) 41 ≡ Err 55
 unfolding check_hunk check_blocks end_of data_starts data_starts_from whole_at form_of count_of size_of
 cut = refl
 
-pub no_address : check_hunk (2 ∷ 0 ∷ []) 41 ≡ Broken 0
+pub no_address : check_hunk (2 ∷ 0 ∷ []) 41 ≡ Err 0
 unfolding check_hunk
 no_address = refl
 
-pub reserved : check_hunk (payload ++ (0xFE ∷ [])) 41 ≡ Broken 65
+pub reserved : check_hunk (payload ++ (0xFE ∷ [])) 41 ≡ Err 65
 unfolding check_hunk check_blocks end_of data_starts data_starts_from whole_at form_of count_of size_of
 reserved = refl
 

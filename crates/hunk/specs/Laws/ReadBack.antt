@@ -1,4 +1,5 @@
 -- A hunk that was written is read back: its address, its cuts and words, and a check that passes exactly when they lie in the RAM.
+use Rattle.std.specs.Prelude.{Ok}
 use Prim.Native.Nat.{ℕ, ◌+◌, ◌-◌, ◌%◌, ◌^◌, ◌≤◌, ◌<◌}
 use Rattle.std.specs.Prelude.{◌≡◌, List, [], ◌∷◌, ◌++◌, map, true, ◌↔◌, drop, get_or}
 use Rattle.std.proofs.Math.Path.{refl, sym, ap, ap₂}
@@ -17,7 +18,6 @@ use Rattle.basics.specs.Laws.Lay.{Inside}
 use Rattle.places.specs.declared.Locutus.{Locutus}
 use Rattle.places.specs.Places.{locutus}
 use Rattle.hunk.specs.declared.Form.{Form}
-use Rattle.hunk.specs.declared.Checked.TheVariants.{Whole}
 use Rattle.hunk.specs.Forms.{form_of, is_reserved, start_for, size_for, count_of, size_of, word, data_in}
 use Rattle.hunk.specs.Smallest.{form_for, data_of}
 use Rattle.hunk.specs.Cuts.{cuts_of}
@@ -137,7 +137,7 @@ module _ (h : Hunk) where
     address_back = ap (λ (l : Locutus). l.0) payload_address
 
     -- the check passes exactly when the words lie in the RAM
-    pub payload_checks : (m : ℕ) → (check_hunk (hunk_payload h) m ≡ Whole (length h.words)) ↔ Inside h.address.0 h.words m
+    pub payload_checks : (m : ℕ) → (check_hunk (hunk_payload h) m ≡ Ok (length h.words)) ↔ Inside h.address.0 h.words m
     payload_checks m = (
       (λ e. rw (address_back, payload_words) at (whole_words (hunk_payload h) m (length h.words) e).inside),
       (λ i.

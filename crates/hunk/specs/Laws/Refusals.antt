@@ -1,5 +1,6 @@
 -- A check passes exactly when a payload's data blocks fill it and its words lie in the RAM; it names a place exactly when the data blocks
 -- before that place do so far and the one there does not (01, refusal 9).
+use Rattle.std.specs.Prelude.{Result, Ok, Err}
 use Rattle.std.specs.Prelude.{ℕ, ◌+◌, ◌≤◌, ◌<◌, ◌≡◌, refl, true, ◌⊎◌, ◌↔◌, ltb, eqb}
 use Rattle.std.proofs.Math.Path.{sym, ap}
 use Rattle.std.proofs.Common.{◌∙◌, inl}
@@ -16,8 +17,6 @@ use Rattle.basics.specs.Laws.Lay.{Inside}
 use Rattle.places.specs.Limits.{lent}
 use Rattle.hunk.specs.declared.Form.{Form}
 use Rattle.hunk.specs.declared.Form.TheVariants.{Bytes, Decles, Words, Reserved}
-use Rattle.hunk.specs.declared.Checked.{Checked}
-use Rattle.hunk.specs.declared.Checked.TheVariants.{Whole, Broken}
 use Rattle.hunk.specs.Forms.{is_reserved}
 use Rattle.hunk.specs.Hunk.{address, form_at, count_at, size_at, words_at, whole_at, data_starts, end_of, words_of, check_blocks, check_hunk, break_of, store_hunk}
 use Rattle.hunk.specs.Laws.Walk.{Intact, intact, past_end, Run, none, also, words_in, length_words, run_in, run_more, data_run, data_stop, data_all, data_end, More, data_split}
@@ -96,7 +95,7 @@ module _ (s : List ℕ) (m k n : ℕ) (r : Reached s m k n) where
         blocks_checked ∙ ap (check_blocks s m 0) (data_all s r.before k r.run v ∙ sym (append-nil r.before)) ∙ reach_pass []
 
     -- behind them the payload ends, stands a data block that is cut or reserved, or one with a word outside
-    pub reach_end : length s ≤ k → check_hunk s m ≡ Whole n
+    pub reach_end : length s ≤ k → check_hunk s m ≡ Ok n
     unfolding check_blocks
     reach_end h =
         let v : whole_at s k ≡ false = past_end s k h in
@@ -104,14 +103,14 @@ module _ (s : List ℕ) (m k n : ℕ) (r : Reached s m k n) where
         let f : end_of s ≡ length s = omega (arith, run_in r.run long) in
         stopped v ∙ rw (eq-eqb _ _ f)
 
-    pub reach_wrong : k < length s → whole_at s k ≡ false → check_hunk s m ≡ Broken k
+    pub reach_wrong : k < length s → whole_at s k ≡ false → check_hunk s m ≡ Err k
     unfolding check_blocks
     reach_wrong h v =
         let e : end_of s ≡ k = data_end s r.before k r.run v in
         let f : k ≡ length s → ⊥ = λ z. omega arith in
         stopped v ∙ rw (e, ne_eqb _ _ f)
 
-    pub reach_past : whole_at s k ≡ true → m < (address s).0 + (n + count_at s k) → check_hunk s m ≡ Broken k
+    pub reach_past : whole_at s k ≡ true → m < (address s).0 + (n + count_at s k) → check_hunk s m ≡ Err k
     unfolding check_blocks
     reach_past w h =
         let t : More (data_starts s) r.before k = data_split s r.before k r.run w in
@@ -122,21 +121,21 @@ pub reach_none : (s : List ℕ) (m : ℕ) → Reached s m 3 0
 unfolding joined
 reach_none s m = record { before = []; run = none; count = refl; inside = inl refl }
 
-pub cut_short : (s : List ℕ) (m : ℕ) → length s < 3 → check_hunk s m ≡ Broken 0
+pub cut_short : (s : List ℕ) (m : ℕ) → length s < 3 → check_hunk s m ≡ Err 0
 unfolding check_hunk
 cut_short s m h = rw (lt-ltb _ _ h)
 
 -- a check that passes
-blocks_whole : (s : List ℕ) (m k n : ℕ) (ps : List ℕ) → check_blocks s m k ps ≡ Whole n
+blocks_whole : (s : List ℕ) (m k n : ℕ) (ps : List ℕ) → check_blocks s m k ps ≡ Ok n
     → (end_of s ≡ length s) × (n ≡ k + length (words_in s ps)) × ((length (words_in s ps) ≡ 0) ⊎ ((address s).0 + n ≤ m))
 unfolding check_blocks joined
 blocks_whole s m k n [] e =
     cases (eqb (end_of s) (length s))
-    (λ t. let f : Whole k ≡ Whole n = rw t at e in let g : k ≡ n = cc in (eqb-true _ _ t, omega arith, inl refl))
-    (λ t. let f : Broken (end_of s) ≡ Whole n = rw t at e in let z : ◌≡◌ {A = ℕ} 0 1 = cc in absurd (omega arith))
+    (λ t. let f : ◌≡◌ {A = Result ℕ ℕ} (Ok k) (Ok n) = rw t at e in let g : k ≡ n = cc in (eqb-true _ _ t, omega arith, inl refl))
+    (λ t. let f : ◌≡◌ {A = Result ℕ ℕ} (Err (end_of s)) (Ok n) = rw t at e in let z : ◌≡◌ {A = ℕ} 0 1 = cc in absurd (omega arith))
 blocks_whole s m k n (p ∷ ps) e =
     cases (ltb m ((address s).0 + (k + count_at s p)))
-    (λ t. let f : Broken p ≡ Whole n = rw t at e in let z : ◌≡◌ {A = ℕ} 0 1 = cc in absurd (omega arith))
+    (λ t. let f : ◌≡◌ {A = Result ℕ ℕ} (Err p) (Ok n) = rw t at e in let z : ◌≡◌ {A = ℕ} 0 1 = cc in absurd (omega arith))
     (λ t.
     let i : (address s).0 + (k + count_at s p) ≤ m = ltb-false _ _ t in
     let w = blocks_whole s m (k + count_at s p) n ps (rw t at e) in
@@ -146,10 +145,10 @@ blocks_whole s m k n (p ∷ ps) e =
     fits (inl z) q i = omega arith
     fits (inr j) q i = j
 
-pub whole_words : (s : List ℕ) (m n : ℕ) → check_hunk s m ≡ Whole n → WholeIn s m n
+pub whole_words : (s : List ℕ) (m n : ℕ) → check_hunk s m ≡ Ok n → WholeIn s m n
 unfolding check_hunk words_of
 whole_words s m n e =
-    cases (ltb (length s) 3) (λ t. let f : Broken 0 ≡ Whole n = rw t at e in let z : ◌≡◌ {A = ℕ} 0 1 = cc in absurd (omega arith))
+    cases (ltb (length s) 3) (λ t. let f : ◌≡◌ {A = Result ℕ ℕ} (Err 0) (Ok n) = rw t at e in let z : ◌≡◌ {A = ℕ} 0 1 = cc in absurd (omega arith))
     (λ t.
     let w = blocks_whole s m 0 n (data_starts s) (rw t at e) in
     record { long = ltb-false _ _ t; all = w.0; count = omega (arith, w.1); inside = lies w.2 w.1 })
@@ -158,12 +157,12 @@ whole_words s m n e =
     lies (inl z) q = inl z
     lies (inr i) q = inr (omega arith)
 
-pub words_whole : (s : List ℕ) (m n : ℕ) → WholeIn s m n → check_hunk s m ≡ Whole n
+pub words_whole : (s : List ℕ) (m n : ℕ) → WholeIn s m n → check_hunk s m ≡ Ok n
 unfolding words_of
 words_whole s m n p =
     reach_end s m (end_of s) n (record { before = data_starts s; run = data_run s; count = p.count; inside = p.inside }) p.long (omega (arith, p.all))
 
-pub passes_exactly : (s : List ℕ) (m n : ℕ) → (check_hunk s m ≡ Whole n) ↔ WholeIn s m n
+pub passes_exactly : (s : List ℕ) (m n : ℕ) → (check_hunk s m ≡ Ok n) ↔ WholeIn s m n
 passes_exactly s m n = (whole_words s m n, words_whole s m n)
 
 -- a data block is not whole exactly when it is reserved or cut
@@ -186,17 +185,17 @@ module _ (s : List ℕ) (m k n : ℕ) where
   whole_not (outside h) w = h
 
 -- the place that is named
-blocks_broken : {p q : ℕ} {ps : List ℕ} (s : List ℕ) (m k n : ℕ) → 3 ≤ length s → Reached s m p n → Run s p ps q → q ≡ end_of s → check_blocks s m n ps ≡ Broken k → BreaksAt s m k
+blocks_broken : {p q : ℕ} {ps : List ℕ} (s : List ℕ) (m k n : ℕ) → 3 ≤ length s → Reached s m p n → Run s p ps q → q ≡ end_of s → check_blocks s m n ps ≡ Err k → BreaksAt s m k
 unfolding check_blocks
 blocks_broken s m k n = from n
   where
     from : {p q : ℕ} {ps : List ℕ} (n : ℕ) → 3 ≤ length s → Reached s m p n → Run s p ps q
-        → q ≡ end_of s → check_blocks s m n ps ≡ Broken k → BreaksAt s m k
+        → q ≡ end_of s → check_blocks s m n ps ≡ Err k → BreaksAt s m k
     from {p} n l r none f e =
         cases (eqb (end_of s) (length s))
-        (λ t. let g : Whole n ≡ Broken k = rw t at e in let z : ◌≡◌ {A = ℕ} 0 1 = cc in absurd (omega arith))
+        (λ t. let g : ◌≡◌ {A = Result ℕ ℕ} (Ok n) (Err k) = rw t at e in let z : ◌≡◌ {A = ℕ} 0 1 = cc in absurd (omega arith))
         (λ t.
-        let g : Broken (end_of s) ≡ Broken k = rw t at e in
+        let g : ◌≡◌ {A = Result ℕ ℕ} (Err (end_of s)) (Err k) = rw t at e in
         let d : k ≡ p = cc in
         let i : p ≤ length s = run_in r.run l in
         let y : p < length s = omega (arith, eqb-false (end_of s) (length s) t) in
@@ -204,28 +203,28 @@ blocks_broken s m k n = from n
     from {p} n l r (also w rest) f e =
         cases (ltb m ((address s).0 + (n + count_at s p)))
         (λ t.
-        let g : Broken p ≡ Broken k = rw t at e in
+        let g : ◌≡◌ {A = Result ℕ ℕ} (Err p) (Err k) = rw t at e in
         let d : k ≡ p = cc in
         let b : Intact s p = intact s p w in
         let y : p < length s = omega arith in
         rw d (record { words = n; long = l; here = y; reached = r; why = outside (ltb-true _ _ t) }))
         (λ t. from (n + count_at s p) l (reach_more s m p n r w (ltb-false _ _ t)) rest f (rw t at e))
 
-pub broken_breaks : (s : List ℕ) (m k : ℕ) → check_hunk s m ≡ Broken k → ((length s < 3) × (k ≡ 0)) ⊎ BreaksAt s m k
+pub broken_breaks : (s : List ℕ) (m k : ℕ) → check_hunk s m ≡ Err k → ((length s < 3) × (k ≡ 0)) ⊎ BreaksAt s m k
 unfolding check_hunk
 broken_breaks s m k e =
     cases (ltb (length s) 3)
-    (λ t. let f : Broken 0 ≡ Broken k = rw t at e in let g : k ≡ 0 = cc in inl (ltb-true _ _ t, g))
+    (λ t. let f : ◌≡◌ {A = Result ℕ ℕ} (Err 0) (Err k) = rw t at e in let g : k ≡ 0 = cc in inl (ltb-true _ _ t, g))
     (λ t. inr (blocks_broken s m k 0 (ltb-false _ _ t) (reach_none s m) (data_run s) refl (rw t at e)))
 
-pub breaks_broken : (s : List ℕ) (m k : ℕ) → ((length s < 3) × (k ≡ 0)) ⊎ BreaksAt s m k → check_hunk s m ≡ Broken k
-breaks_broken s m k (inl h) = cut_short s m h.0 ∙ ap Broken (sym h.1)
+pub breaks_broken : (s : List ℕ) (m k : ℕ) → ((length s < 3) × (k ≡ 0)) ⊎ BreaksAt s m k → check_hunk s m ≡ Err k
+breaks_broken s m k (inl h) = cut_short s m h.0 ∙ ap Err (sym h.1)
 breaks_broken s m k (inr b) =
     cases (whole_at s k)
     (λ w. reach_past s m k b.words b.reached b.long w (whole_not s m k b.words b.why w))
     (λ w. reach_wrong s m k b.words b.reached b.long b.here w)
 
-pub breaks_exactly : (s : List ℕ) (m k : ℕ) → (check_hunk s m ≡ Broken k) ↔ (((length s < 3) × (k ≡ 0)) ⊎ BreaksAt s m k)
+pub breaks_exactly : (s : List ℕ) (m k : ℕ) → (check_hunk s m ≡ Err k) ↔ (((length s < 3) × (k ≡ 0)) ⊎ BreaksAt s m k)
 breaks_exactly s m k = (broken_breaks s m k, breaks_broken s m k)
 
 -- that place lies in the payload, or is its end where it is empty
@@ -236,16 +235,16 @@ break_within s m = by (check_hunk s m) refl
     named (inl h) = omega (arith, h.1)
     named (inr b) = omega (arith, b.here)
 
-    by : (c : Checked) → check_hunk s m ≡ c → break_of c ≤ length s
-    by (Whole n) e = omega arith
-    by (Broken k) e = named (broken_breaks s m k e)
+    by : (c : Result ℕ ℕ) → check_hunk s m ≡ c → break_of c ≤ length s
+    by (Ok n) e = omega arith
+    by (Err k) e = named (broken_breaks s m k e)
 
 -- what a store leaves
 module _ (s ram : List ℕ) where
-  pub store_passed : (n : ℕ) → check_hunk s (lent ram) ≡ Whole n → store_hunk s ram ≡ lay (address s).0 (words_of s) ram
+  pub store_passed : (n : ℕ) → check_hunk s (lent ram) ≡ Ok n → store_hunk s ram ≡ lay (address s).0 (words_of s) ram
   unfolding store_hunk
   store_passed n e = rw e
 
-  pub store_refused : (k : ℕ) → check_hunk s (lent ram) ≡ Broken k → store_hunk s ram ≡ ram
+  pub store_refused : (k : ℕ) → check_hunk s (lent ram) ≡ Err k → store_hunk s ram ≡ ram
   unfolding store_hunk
   store_refused k e = rw e

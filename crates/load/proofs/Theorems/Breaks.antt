@@ -1,5 +1,6 @@
 -- A load is refused with 9 exactly when a hunk breaks, and the place is the byte of the file where it does: the header and the blocks before
 -- refuse nothing, the hunk's data blocks before that byte are whole and lie in the RAM, and the one at it does not (02, W-205).
+use Rattle.std.specs.Prelude.{Result, Ok, Err}
 use Prim.Native.Nat.{ℕ, ◌+◌, ◌<◌}
 use Rattle.std.specs.Prelude.{◌≡◌, Bool, ◌&&◌, ◌||◌, ◌⊎◌, ◌↔◌, get_or, drop, eqb}
 use Rattle.std.proofs.Math.Path.{refl}
@@ -18,8 +19,6 @@ use Rattle.basics.specs.Laws.Stands.{stands_in, stands_after}
 use Rattle.basics.specs.Laws.Rows.{gives_cases, gives_append, silent_gives, silent_append}
 use Rattle.sums.specs.Crc.{crc324_of}
 use Rattle.header.specs.Header.{header_rows, flags_of}
-use Rattle.hunk.specs.declared.Checked.{Checked}
-use Rattle.hunk.specs.declared.Checked.TheVariants.{Whole, Broken}
 use Rattle.hunk.specs.Hunk.{check_hunk, broken, break_of}
 use Rattle.hunk.specs.Laws.Refusals.{BreaksAt, broken_breaks, breaks_broken}
 use Rattle.tables.specs.Tables.{tables_in, tables_rows}
@@ -124,12 +123,12 @@ in_block {r} m e p (x ∷ xs) g = go (λ h. in_block m (e || is_tables x) (p + l
 
 -- ---- a hunk that breaks, by its check
 
-broken_at : (s : List ℕ) (m : ℕ) → broken (check_hunk s m) ≡ true → check_hunk s m ≡ Broken (break_of (check_hunk s m))
+broken_at : (s : List ℕ) (m : ℕ) → broken (check_hunk s m) ≡ true → check_hunk s m ≡ Err (break_of (check_hunk s m))
 broken_at s m e = by (check_hunk s m) e
   where
-    by : (c : Checked) → broken c ≡ true → c ≡ Broken (break_of c)
-    by (Whole n) e = true_is_not_false e refl
-    by (Broken k) e = refl
+    by : (c : Result ℕ ℕ) → broken c ≡ true → c ≡ Err (break_of c)
+    by (Ok n) e = true_is_not_false e refl
+    by (Err k) e = refl
 
 -- ---- 9, exactly
 
@@ -181,7 +180,7 @@ module _ (s : List ℕ) (m f at : ℕ) where
       let x : List ℕ = b.block in
       let p : ℕ = first_block + length (flat b.before) in
       let t : type_of x ≡ 2 = eqb-true _ _ b.hunk in
-      let c : check_hunk (payload_in x) m ≡ Broken b.byte = breaks_broken (payload_in x) m b.byte b.breaks in
+      let c : check_hunk (payload_in x) m ≡ Err b.byte = breaks_broken (payload_in x) m b.byte b.breaks in
       let e₇ : is_encrypted x ≡ false = rw t in
       let e₆ : wrong_sum (crc324_of (payload_in x)) x ≡ false = rw (t, eq-eqb _ _ b.sum) in
       let e₁₂ : wrong_metadata (crc324_of (payload_in x)) x ≡ false = rw t in

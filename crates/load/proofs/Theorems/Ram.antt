@@ -1,4 +1,5 @@
 -- The RAM after a load, word by word: what demand 2 says of it.
+use Rattle.std.specs.Prelude.{Result, Ok, Err}
 use Rattle.std.specs.Prelude.{ℕ, ◌-◌, ◌<◌, ◌≤◌, ◌+◌, List, [], ◌∷◌, ◌++◌, ◌≡◌, refl, false, cond, Bool, true, ◌||◌, get_or, length, leb, ltb}
 use Rattle.std.proofs.Common.{ap, sym, ◌∙◌, inr, inl, arith, eq-eqb, leb-true, ltb-true, ltb-false, leb-false}
 use Rattle.std.proofs.Math.ListN.{get_or-eq_default}
@@ -9,8 +10,6 @@ use Rattle.basics.specs.Laws.Lay.{lay_in, lay_out, length_lay, Inside}
 use Rattle.basics.specs.Laws.Rows.{silent_left, silent_right}
 use Rattle.places.specs.Limits.{lent}
 use Rattle.sums.specs.Crc.{crc324_of}
-use Rattle.hunk.specs.declared.Checked.{Checked}
-use Rattle.hunk.specs.declared.Checked.TheVariants.{Whole, Broken}
 use Rattle.hunk.specs.Hunk.{Hunk, check_hunk, broken}
 use Rattle.hunk.specs.Laws.Refusals.{WholeIn, whole_words}
 use Rattle.blocks.specs.Blocks.{payload_in, is_hunk, is_tables}
@@ -78,9 +77,9 @@ unnamed_kept hs ram i e =
     cases (ltb i (length ram)) (λ l. overlay_at hs ram i (ltb-true _ _ l) ∙ last_kept hs i (get_or ram i 0) e) (λ l. past_end hs ram i (ltb-false _ _ l))
 
 -- the hunks of an image that loads lie in the words lent
-whole_of : (s : List ℕ) (m : ℕ) (c : Checked) → check_hunk s m ≡ c → broken c ≡ false → (n : ℕ) × (check_hunk s m ≡ Whole n)
-whole_of s m (Whole n) e b = (n, e)
-whole_of s m (Broken k) e b = let z : ◌≡◌ {A = ℕ} 0 1 = cc in absurd (omega arith)
+whole_of : (s : List ℕ) (m : ℕ) (c : Result ℕ ℕ) → check_hunk s m ≡ c → broken c ≡ false → (n : ℕ) × (check_hunk s m ≡ Ok n)
+whole_of s m (Ok n) e b = (n, e)
+whole_of s m (Err k) e b = let z : ◌≡◌ {A = ℕ} 0 1 = cc in absurd (omega arith)
 
 block_passed : (m : ℕ) (x : List ℕ) → wrong_hunk m x ≡ false → is_hunk x ≡ true → (n : ℕ) × WholeIn (payload_in x) m n
 block_passed m x e h =

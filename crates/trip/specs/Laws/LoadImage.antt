@@ -1,5 +1,6 @@
 -- Loading an image of a header, tables and blocks that refuse nothing gives its tables and counts and lays its hunks over the RAM: for any
 -- such blocks, a block of a type that is not looked into among them; and for the blocks of hunks, behind others.
+use Rattle.std.specs.Prelude.{Ok}
 use Rattle.std.specs.Prelude.{ℕ, ◌+◌, ◌*◌, ◌≤◌, ◌<◌, ◌^◌, ◌≡◌, Bool, true, ◌||◌}
 use Rattle.std.proofs.Math.Path.{refl, ap}
 use Rattle.std.proofs.Common.{sym, ◌∙◌, inr, arith, eq-eqb, ne_eqb}
@@ -19,7 +20,6 @@ use Rattle.jlp.specs.declared.Jlp.{Jlp}
 use Rattle.header.specs.Laws.Header.{length_header, flags_back, header_silent}
 use Rattle.tables.specs.Tables.{Tables, tables_in, tables_payload, jlp_of, cartridge_of, cartridge_with, tables_rows}
 use Rattle.tables.specs.Laws.Tables.{length_tables, payload_tables}
-use Rattle.hunk.specs.declared.Checked.TheVariants.{Whole}
 use Rattle.hunk.specs.Hunk.{Hunk, hunk_of, hunk_payload, check_hunk}
 use Rattle.hunk.specs.Laws.ReadBack.{payload_hunk, payload_checks}
 use Rattle.blocks.specs.Blocks.{type_of, payload_in, size_said, sum_said, block_of, tables_type, hunk_type, metadata_type, end_mark, is_tables, is_hunk, is_metadata, Block}
@@ -209,7 +209,7 @@ module _ (m : ℕ) (few : m ≤ lent_limit) (h : Hunk) (w : Lies m h) where
   fine_hunk : Fine m (hunk_block h)
   unfolding judge_rows
   fine_hunk =
-      let c : check_hunk (payload_in (hunk_block h)) m ≡ Whole (length h.words) =
+      let c : check_hunk (payload_in (hunk_block h)) m ≡ Ok (length h.words) =
       ap (λ (y : List ℕ). check_hunk y m) hunk_payload_lem ∙ (payload_checks h low m).1 (inr (omega (arith, w.whole, w.within))) in
       let e₀ : eqb (type_of (hunk_block h)) 0x00 ≡ false = rw hunk_type_lem in
       let e₁ : eqb (type_of (hunk_block h)) 0x01 ≡ false = rw hunk_type_lem in
