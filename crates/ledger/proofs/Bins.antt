@@ -258,19 +258,15 @@ module _ (ks : List ℕ) (ps : List Bool) (ram : List ℕ) where
   halves_long : length (joined be16 roms) + length (joined be16 paged) ≡ 2 * n
   halves_long = sym (length-append (joined be16 roms) (joined be16 paged)) ∙ ap length (sym both_bytes) ∙ both_long
 
-  pub both_some : (a b : ℕ) (r : Bool) → a ≡ length (joined be16 roms) → b ≡ length (joined be16 paged) → r ≡ (not (eqb a 0) || not (eqb b 0)) → r ≡ not (eqb n 0)
-  both_some a b r ea eb er =
-      er
-      ∙ cases (eqb n 0)
-      (λ e.
-      let z : n ≡ 0 = eqb-true n 0 e in
-      rw (e, eq-eqb a 0 (omega (arith, halves_long)), eq-eqb b 0 (omega (arith, halves_long))))
-      (λ e.
-      cases (eqb a 0)
-      (λ f.
-      let d : n ≡ 0 → ⊥ = eqb-false n 0 e in
-      rw (e, f, ne_eqb b 0 (λ z. d (omega (arith, halves_long, eqb-true a 0 f)))))
-      (λ f. rw (e, f)))
+  module _ (a b : ℕ) (ea : a ≡ length (joined be16 roms)) (eb : b ≡ length (joined be16 paged)) where
+    pub some_first : (a ≡ 0 → ⊥) → not (eqb a 0) ≡ not (eqb n 0)
+    some_first h = rw (ne_eqb a 0 h, ne_eqb n 0 (λ z. h (omega (arith, halves_long))))
+
+    pub some_second : a ≡ 0 → not (eqb b 0) ≡ not (eqb n 0)
+    some_second h =
+        cases (eqb n 0)
+        (λ e. let z : n ≡ 0 = eqb-true n 0 e in rw (e, eq-eqb b 0 (omega (arith, halves_long))))
+        (λ e. let d : n ≡ 0 → ⊥ = eqb-false n 0 e in rw (e, ne_eqb b 0 (λ z. d (omega (arith, halves_long)))))
 
   module _ (out : List ℕ) (room : 2 * max 1 n ≤ length out) where
     pub roms_fit : length (joined be16 roms) ≤ length out

@@ -2,14 +2,15 @@
 use Prim.Native.Nat.{◌%◌, ◌*◌, ◌+◌, ◌/◌, ◌<◌, ◌≤◌, ℕ}
 use mathlib.Core.List.{List}
 use mathlib.Core.Path.{◌∙◌, ◌≡◌, ap, refl, sym}
-use mathlib.Core.Bool.{Bool, ◌&&◌, cond, false, not}
+use mathlib.Core.Bool.{Bool, ◌&&◌, cond, false, not, true}
+use mir.Val.{bool_byte}
 use native.Mathlib.Omega.{arith}
 use native.Mathlib.Numerals.{add-one}
 use lib.Dec.{eqb}
 use lib.ListN.{get_or}
-use Rattle.basics.specs.Counts.{count}
-use Rattle.basics.specs.Laws.Counts.{count_last}
-use Rattle.basics.specs.Laws.Joined.{Somewhere, somewhere_all}
+use borrow.Author.Tests.{eq-eqb, ne_eqb}
+use Rattle.basics.specs.Counts.{any, count}
+use Rattle.basics.specs.Laws.Counts.{any_miss, any_missed, any_of, count_last}
 use Rattle.places.specs.Limits.{chapter_pages, chapter_paragraphs, chapters, layers, page_paragraphs, paragraph_size}
 use Rattle.switches.specs.Flips.{first_k}
 use Rattle.plan.specs.Image.{base, holds_ram, page_at, ram_covered_of, size}
@@ -22,9 +23,22 @@ use Rattle.ledger.specs.Held.{plan_in}
 abbrev pub plain : List ℕ → ℕ → ℕ → Bool
 plain ks x i = not (eqb (get_or ks (chapter_paragraphs * x + i) 0) 0)
 
-pub plains_all : (ks : List ℕ) (ps : List Bool) (x : ℕ) (r : Bool) (k : ℕ) → Somewhere chapter_paragraphs (plain ks x) k r → chapter_paragraphs ≤ k → r ≡ has_plain (plan_in ks ps x)
-unfolding has_plain
-plains_all ks ps x r k c h = somewhere_all chapter_paragraphs (plain ks x) k r c h
+module _ (ks : List ℕ) (ps : List Bool) (x k : ℕ) where
+  pub plains_one : k < chapter_paragraphs → (get_or ks (chapter_paragraphs * x + k) 0 ≡ 0 → ⊥) → true ≡ has_plain (plan_in ks ps x)
+  unfolding has_plain
+  plains_one h n = sym (any_of chapter_paragraphs (plain ks x) k h (rw (ne_eqb (get_or ks (chapter_paragraphs * x + k) 0) 0 n)))
+
+  pub plains_miss : any k (plain ks x) ≡ false → get_or ks (chapter_paragraphs * x + k) 0 ≡ 0 → any (k + 1) (plain ks x) ≡ false
+  plains_miss c e = any_miss (plain ks x) k c (rw e)
+
+  pub plains_none : any k (plain ks x) ≡ false → k ≤ chapter_paragraphs → chapter_paragraphs ≤ k → false ≡ has_plain (plan_in ks ps x)
+  unfolding has_plain
+  plains_none c u h = any_missed (plain ks x) chapter_paragraphs k u h c
+
+-- a flag as a number
+byte_is : (b : Bool) → (bool_byte b ≡ cond b 1 0) × (bool_byte b ≤ 1)
+byte_is true = (refl, omega arith)
+byte_is false = (refl, omega arith)
 
 -- pages among the first i
 pub record Below (ks : List ℕ) (ps : List Bool) (x y n i : ℕ) : Type 0 where
@@ -39,13 +53,13 @@ module _ (ks : List ℕ) (ps : List Bool) (x y : ℕ) where
   below_none h = record { up = omega arith; most = h; few = omega arith; is = refl }
 
   module _ (n i : ℕ) (c : Below ks ps x y n i) where
-    pub below_more : (v : ℕ) → i < y → v ≡ cond (get_or ps (chapter_pages * x + i) false) 1 0 → v ≤ 1 → Below ks ps x y (n + v) (i + 1)
-    below_more v h e m =
+    pub below_more : (v : ℕ) → i < y → v ≡ bool_byte (get_or ps (chapter_pages * x + i) false) → Below ks ps x y (n + v) (i + 1)
+    below_more v h e =
         record {
           up = omega arith;
           most = c.most;
-          few = omega (arith, c.few);
-          is = rw add-one (rw (e, c.is) (sym (count_last (plan_in ks ps x).page i)));
+          few = omega (arith, c.few, e, (byte_is (get_or ps (chapter_pages * x + i) false)).1);
+          is = rw add-one (rw (e, (byte_is (get_or ps (chapter_pages * x + i) false)).0, c.is) (sym (count_last (plan_in ks ps x).page i)));
         }
 
     pub below_all : y ≤ i → n ≡ count (plan_in ks ps x).page y
@@ -100,9 +114,20 @@ module _ (ks : List ℕ) (ps : List Bool) (p : ℕ) where
   abbrev pub ram_in : ℕ → Bool
   ram_in x = holds_ram (plan_in ks ps x) (base (plan_in ks ps) x) p
 
-  pub ram_in_lem : (x b : ℕ) (k r : Bool) → b ≡ base (plan_in ks ps) x → k ≡ is_ram_kind (get_or ks (16 * x + p % 16) 0) → r ≡ (eqb (p / 16) b && k) → r ≡ ram_in x
-  unfolding holds_ram
-  ram_in_lem x b k r eb ek er = er ∙ rw (eb, ek)
+  module _ (x b : ℕ) (eb : b ≡ base (plan_in ks ps) x) where
+    pub ram_in_place : (k : Bool) → p / chapter_paragraphs ≡ b → k ≡ is_ram_kind (get_or ks (16 * x + p % 16) 0) → k ≡ ram_in x
+    unfolding holds_ram
+    ram_in_place k h ek = rw (← eb, eq-eqb (p / chapter_paragraphs) b h) ek
 
-  pub rams_all : (r : Bool) (x : ℕ) → Somewhere chapters ram_in x r → chapters ≤ x → r ≡ ram_covered_of (plan_in ks ps) p
-  rams_all r x c h = somewhere_all chapters ram_in x r c h
+    pub ram_elsewhere : (p / chapter_paragraphs ≡ b → ⊥) → false ≡ ram_in x
+    unfolding holds_ram
+    ram_elsewhere h = rw (← eb, ne_eqb (p / chapter_paragraphs) b h)
+
+  pub rams_one : (x : ℕ) (b : Bool) → x < chapters → b ≡ ram_in x → b ≡ true → true ≡ ram_covered_of (plan_in ks ps) p
+  rams_one x b h e o = sym (any_of chapters ram_in x h (sym e ∙ o))
+
+  pub rams_miss : (x : ℕ) (b : Bool) → any x ram_in ≡ false → b ≡ ram_in x → b ≡ false → any (x + 1) ram_in ≡ false
+  rams_miss x b c e o = any_miss ram_in x c (sym e ∙ o)
+
+  pub rams_none : (x : ℕ) → any x ram_in ≡ false → x ≤ chapters → chapters ≤ x → false ≡ ram_covered_of (plan_in ks ps) p
+  rams_none x c u h = any_missed ram_in chapters x u h c

@@ -2,7 +2,7 @@
 use Prim.Native.Nat.{◌%◌, ◌*◌, ◌+◌, ◌-◌, ◌/◌, ◌<◌, ◌≤◌, suc, ℕ}
 use mathlib.Core.List.{List}
 use mathlib.Core.Path.{◌∙◌, ◌≡◌, ap, refl, sym}
-use mathlib.Core.Bool.{Bool, ◌&&◌, ◌||◌, cond, false, true}
+use mathlib.Core.Bool.{Bool, ◌&&◌, ◌||◌, cond, false, not, true}
 use native.Mathlib.Omega.{arith}
 use native.Mathlib.Numerals.{add-one}
 use lib.Dec.{eqb}
@@ -34,13 +34,9 @@ module _ (ks : List ℕ) (ps : List Bool) (p : ℕ) where
     unfolding starts
     starts_first e = rw (kind_in_lem ks ps p, ne_eqb (get_or ks p 0) 0 h, eq-eqb p 0 e)
 
-    pub starts_same : (p ≡ 0 → ⊥) → get_or ks (p - 1) 0 ≡ get_or ks p 0 → false ≡ starts (kinds q) p
+    pub starts_later : (p ≡ 0 → ⊥) → not (eqb (get_or ks (p - 1) 0) (get_or ks p 0)) ≡ starts (kinds q) p
     unfolding starts
-    starts_same n e = rw (kind_in_lem ks ps p, kind_in_lem ks ps (p - 1), ne_eqb (get_or ks p 0) 0 h, ne_eqb p 0 n, eq-eqb (get_or ks (p - 1) 0) (get_or ks p 0) e)
-
-    pub starts_other : (p ≡ 0 → ⊥) → (get_or ks (p - 1) 0 ≡ get_or ks p 0 → ⊥) → true ≡ starts (kinds q) p
-    unfolding starts
-    starts_other n e = rw (kind_in_lem ks ps p, kind_in_lem ks ps (p - 1), ne_eqb (get_or ks p 0) 0 h, ne_eqb p 0 n, ne_eqb (get_or ks (p - 1) 0) (get_or ks p 0) e)
+    starts_later n = rw (kind_in_lem ks ps p, kind_in_lem ks ps (p - 1), ne_eqb (get_or ks p 0) 0 h, ne_eqb p 0 n)
 
   pub rom_starts : (a r : Bool) → a ≡ starts (kinds q) p → r ≡ (a && eqb (get_or ks p 0) 1) → r ≡ starts_rom q p
   rom_starts a r ea er = er ∙ rw (ea, kind_in_lem ks ps p)
@@ -110,10 +106,6 @@ page_off : (q : Plan) (i : ℕ) → has_page q i ≡ false → page_offset q (su
 unfolding page_offset
 page_off q i g = rw g
 
-page_next : (q : Plan) (i : ℕ) (b : Bool) → has_page q i ≡ b → page_offset q i + cond b (page_words (i / 16)) 0 ≡ page_offset q (suc i)
-page_next q i true g = sym (page_on q i g)
-page_next q i false g = let z : page_offset q i + 0 ≡ page_offset q i = omega arith in z ∙ sym (page_off q i g)
-
 -- the offset behind the words of the pages below i
 pub record Offsets (ks : List ℕ) (ps : List Bool) (n o i : ℕ) : Type 0 where
   pub up : i ≤ n
@@ -127,28 +119,29 @@ module _ (ks : List ℕ) (ps : List Bool) (n : ℕ) where
   offsets_none o h e m = record { up = omega arith; below = h; few = omega arith; is = e }
 
   module _ (o i : ℕ) (c : Offsets ks ps n o i) where
-    pub offsets_more : (v : ℕ) → i < n → v ≡ cond (get_or ps i false) (page_words (i / 16)) 0 → v ≤ chapter_size → Offsets ks ps n (o + v) (i + 1)
-    offsets_more v h e m =
-        record { up = omega arith; below = c.below; few = omega (arith, c.few); is = rw (add-one, e, c.is) (page_next (plan_in ks ps) i (get_or ps i false) (page_in_lem ks ps i)) }
+    pub offsets_more : (v w : ℕ) → i < n → get_or ps i false ≡ true → v ≡ page_words (i / 16) → v ≤ chapter_size → w ≡ o + v → Offsets ks ps n w (i + 1)
+    offsets_more v w h t e m ew =
+        record {
+          up = omega arith;
+          below = c.below;
+          few = omega (arith, c.few);
+          is = ew ∙ rw (add-one, e, c.is) (sym (page_on (plan_in ks ps) i (page_in_lem ks ps i ∙ t)));
+        }
+
+    pub offsets_off : (w : ℕ) → i < n → get_or ps i false ≡ false → w ≡ o → Offsets ks ps n w (i + 1)
+    offsets_off w h t ew =
+        record {
+          up = omega arith;
+          below = c.below;
+          few = omega (arith, c.few);
+          is = ew ∙ rw (add-one, c.is) (sym (page_off (plan_in ks ps) i (page_in_lem ks ps i ∙ t)));
+        }
 
     pub offsets_all : n ≤ i → o ≡ page_offset (plan_in ks ps) n
     offsets_all h = let z : i ≡ n = omega (arith, c.up) in c.is ∙ ap (page_offset (plan_in ks ps)) z
 
     pub offsets_few : o ≤ paragraph_size * paragraphs + chapter_size * n
     offsets_few = omega (arith, c.up, c.few)
-
--- by a flag
-pub cond_on : (b t : Bool) (x y : ℕ) → b ≡ t → b ≡ true → x ≡ cond t x y
-cond_on b t x y e h = rw (← e, h)
-
-pub cond_off : (b t : Bool) (x y : ℕ) → b ≡ t → b ≡ false → y ≡ cond t x y
-cond_off b t x y e h = rw (← e, h)
-
-pub if_on : (on : Bool) (v x : ℕ) → on ≡ true → v ≡ x → v ≡ cond on x 0
-if_on on v x h e = rw h e
-
-pub if_off : (on : Bool) (x : ℕ) → on ≡ false → 0 ≡ cond on x 0
-if_off on x h = rw h
 
 -- the words of a page
 pub page_size_lem : (x k : ℕ) → k ≡ first_k x → paragraph_size * (chapter_paragraphs - k) ≡ page_words x

@@ -6,111 +6,99 @@ ghost use Rattle.plan.specs.Image.{base, holds_ram, ram_covered_of, size};
 ghost use Rattle.plan.specs.Plan.{has_plain};
 ghost use Rattle.plan.specs.Valid.{is_ram_kind};
 ghost use Rattle.canon.specs.Bin.{page_place, plain_place};
-ghost use Rattle.ledger.specs.Held.{plan_in};
+ghost use Rattle.ledger.specs.Held.{sketched};
 
-use crate::entries::one_if;
-use basics::{both, either};
-use places::{
-    CHAPTER_PAGES, CHAPTER_PARAGRAPHS, CHAPTERS, FLIP_ENTRIES, PAGE_PARAGRAPHS, PARAGRAPH_SIZE,
-    PARAGRAPHS,
-};
+use crate::Sketch;
+use crate::entries::is_ram_kind;
+use places::{CHAPTER_PAGES, CHAPTER_PARAGRAPHS, CHAPTERS, PAGE_PARAGRAPHS, PARAGRAPH_SIZE};
 use switches::first_k;
 
-// Whether chapter x has plain paragraphs.
-fn has_plain(kinds: &[u8; PARAGRAPHS], pages: &[bool; FLIP_ENTRIES], x: usize) -> bool
-    requires { x < chapters }
-    ensures { result ≡ has_plain (plan_in kinds.now pages.now x) }
-{
-    let mut r = false;
-    let mut k = 0;
-    while k < CHAPTER_PARAGRAPHS {
-        r = either(kinds[CHAPTER_PARAGRAPHS * x + k] != 0, r);
-        k += 1;
+impl Sketch {
+    // Whether chapter x has plain paragraphs.
+    fn has_plain(&self, x: usize) -> bool
+        requires { x < chapters }
+        ensures { result ≡ has_plain (sketched self.now x) }
+    {
+        for k in 0..CHAPTER_PARAGRAPHS {
+            if self.kinds[CHAPTER_PARAGRAPHS * x + k] != 0 {
+                return true;
+            }
+        }
+        false
     }
-    r
-}
 
-// How many pages chapter x has below page y.
-fn pages_below(kinds: &[u8; PARAGRAPHS], pages: &[bool; FLIP_ENTRIES], x: usize, y: usize) -> usize
-    requires { (x < chapters) × (y ≤ chapter_pages) }
-    ensures { (result ≡ count (plan_in kinds.now pages.now x).page y) × (result ≤ y) }
-{
-    let mut n = 0;
-    let mut i = 0;
-    while i < y {
-        n = n + one_if(pages[CHAPTER_PAGES * x + i]);
-        i += 1;
+    // Returns how many pages chapter x has below page y.
+    fn pages_below(&self, x: usize, y: usize) -> usize
+        requires { (x < chapters) × (y ≤ chapter_pages) }
+        ensures { (result ≡ count (sketched self.now x).page y) × (result ≤ y) }
+    {
+        let mut n = 0;
+        for i in 0..y {
+            n += usize::from(self.pages[CHAPTER_PAGES * x + i]);
+        }
+        n
     }
-    n
-}
 
-// The Locutus pages of chapter x, and those of the chapters before it.
-fn size_of(kinds: &[u8; PARAGRAPHS], pages: &[bool; FLIP_ENTRIES], x: usize) -> usize
-    requires { x < chapters }
-    ensures { (result ≡ size (plan_in kinds.now pages.now x)) × (result ≤ layers) }
-{
-    one_if(has_plain(kinds, pages, x)) + pages_below(kinds, pages, x, CHAPTER_PAGES)
-}
-
-fn base_of(kinds: &[u8; PARAGRAPHS], pages: &[bool; FLIP_ENTRIES], x: usize) -> usize
-    requires { x ≤ chapters }
-    ensures { (result ≡ base (plan_in kinds.now pages.now) x) × (result ≤ layers * x) }
-{
-    let mut b = 0;
-    let mut i = 0;
-    while i < x {
-        b = b + size_of(kinds, pages, i);
-        i += 1;
+    // Returns the Locutus pages of chapter x.
+    fn size_of(&self, x: usize) -> usize
+        requires { x < chapters }
+        ensures { (result ≡ size (sketched self.now x)) × (result ≤ layers) }
+    {
+        usize::from(self.has_plain(x)) + self.pages_below(x, CHAPTER_PAGES)
     }
-    b
-}
 
-// The Locutus word where plain paragraph p starts.
-pub(crate) fn plain_place(kinds: &[u8; PARAGRAPHS], pages: &[bool; FLIP_ENTRIES], p: usize) -> usize
-    requires { p < paragraphs }
-    ensures { (result ≡ plain_place (plan_in kinds.now pages.now) p) × (result ≤ page_size * slots) }
-{
-    let b = base_of(kinds, pages, p / CHAPTER_PARAGRAPHS);
-    PARAGRAPH_SIZE * (PAGE_PARAGRAPHS * b + p % CHAPTER_PARAGRAPHS)
-}
-
-// The one where page n % 16 of chapter n / 16 starts.
-pub(crate) fn page_place(kinds: &[u8; PARAGRAPHS], pages: &[bool; FLIP_ENTRIES], n: usize) -> usize
-    requires { n < flip_entries }
-    ensures { (result ≡ page_place (plan_in kinds.now pages.now) n) × (result ≤ page_size * slots) }
-{
-    let x = n / CHAPTER_PAGES;
-    let b = base_of(kinds, pages, x);
-    let plain = one_if(has_plain(kinds, pages, x));
-    let before = pages_below(kinds, pages, x, n % CHAPTER_PAGES);
-    PARAGRAPH_SIZE * (PAGE_PARAGRAPHS * (b + plain + before) + first_k(x))
-}
-
-fn is_ram_kind(n: u8) -> bool
-    ensures { result ≡ is_ram_kind n }
-{
-    either(n == 3, n == 7)
-}
-
-// Locutus paragraph p holds RAM of chapter x.
-fn in_ram(kinds: &[u8; PARAGRAPHS], pages: &[bool; FLIP_ENTRIES], x: usize, p: usize) -> bool
-    requires { x < chapters }
-    ensures { result ≡ holds_ram (plan_in kinds.now pages.now x) (base (plan_in kinds.now pages.now) x) p }
-{
-    let b = base_of(kinds, pages, x);
-    let n = kinds[CHAPTER_PARAGRAPHS * x + p % CHAPTER_PARAGRAPHS];
-    both(p / CHAPTER_PARAGRAPHS == b, is_ram_kind(n))
-}
-
-// It holds RAM of some chapter.
-pub fn holds_ram(kinds: &[u8; PARAGRAPHS], pages: &[bool; FLIP_ENTRIES], p: usize) -> bool
-    ensures { result ≡ ram_covered_of (plan_in kinds.now pages.now) p }
-{
-    let mut r = false;
-    let mut x = 0;
-    while x < CHAPTERS {
-        r = either(in_ram(kinds, pages, x, p), r);
-        x += 1;
+    // Returns the Locutus pages of the chapters before chapter x.
+    fn base_of(&self, x: usize) -> usize
+        requires { x ≤ chapters }
+        ensures { (result ≡ base (sketched self.now) x) × (result ≤ layers * x) }
+    {
+        let mut b = 0;
+        for i in 0..x {
+            b += self.size_of(i);
+        }
+        b
     }
-    r
+
+    // Returns the Locutus word at which plain paragraph p starts.
+    pub(crate) fn plain_place(&self, p: usize) -> usize
+        requires { p < paragraphs }
+        ensures { (result ≡ plain_place (sketched self.now) p) × (result ≤ page_size * slots) }
+    {
+        let b = self.base_of(p / CHAPTER_PARAGRAPHS);
+        PARAGRAPH_SIZE * (PAGE_PARAGRAPHS * b + p % CHAPTER_PARAGRAPHS)
+    }
+
+    // Returns the Locutus word at which page n % 16 of chapter n / 16 starts.
+    pub(crate) fn page_place(&self, n: usize) -> usize
+        requires { n < flip_entries }
+        ensures { (result ≡ page_place (sketched self.now) n) × (result ≤ page_size * slots) }
+    {
+        let x = n / CHAPTER_PAGES;
+        let b = self.base_of(x);
+        let plain = usize::from(self.has_plain(x));
+        let before = self.pages_below(x, n % CHAPTER_PAGES);
+        PARAGRAPH_SIZE * (PAGE_PARAGRAPHS * (b + plain + before) + first_k(x))
+    }
+
+    // Whether Locutus paragraph p holds RAM of chapter x.
+    fn in_ram(&self, x: usize, p: usize) -> bool
+        requires { x < chapters }
+        ensures { result ≡ holds_ram (sketched self.now x) (base (sketched self.now) x) p }
+    {
+        let b = self.base_of(x);
+        let n = self.kinds[CHAPTER_PARAGRAPHS * x + p % CHAPTER_PARAGRAPHS];
+        p / CHAPTER_PARAGRAPHS == b && is_ram_kind(n)
+    }
+
+    // Whether Locutus paragraph p holds RAM of some chapter.
+    pub fn holds_ram(&self, p: usize) -> bool
+        ensures { result ≡ ram_covered_of (sketched self.now) p }
+    {
+        for x in 0..CHAPTERS {
+            if self.in_ram(x, p) {
+                return true;
+            }
+        }
+        false
+    }
 }

@@ -1,4 +1,4 @@
-// The canonical lines of a plan that stands in two arrays (02, W-213): those of [mapping], then those of [memattr].
+// A plan in two arrays, and its canonical lines (02, W-213): those of [mapping], then those of [memattr].
 #![tactic(auto)]
 
 mod bin;
@@ -8,14 +8,20 @@ mod homes;
 ghost use Rattle.std.specs.Prelude.{◌+◌, ◌≤◌, ◌≡◌, [], cond, eqb, set};
 ghost use Rattle.places.specs.Limits.{paragraphs};
 ghost use Rattle.canon.specs.Laws.Lines.{canonical_lines, line};
-ghost use Rattle.ledger.specs.Held.{plan_in};
+ghost use Rattle.ledger.specs.Held.{sketched};
 ghost use Rattle.ledger.specs.Code.Lists.{added, list_of, listing_of, mapping_lines, most_lines, most_mapping, rom_lines};
 
-pub use bin::{bin_size, put_bin, word_of};
-use entries::{page_entry, ram_entry, rom_entry, starts_ram, starts_rom};
-pub use homes::holds_ram;
+pub use bin::word_of;
 use lines::{Entry, Line};
 use places::{BinWord, Console, FLIP_ENTRIES, LINE_LIMIT, PARAGRAPHS};
+
+// A plan: the kind of each console paragraph, and whether chapter n / 16 has page n % 16. A kind is a number, as in the tables: their
+// permission bits (01), 1 for ROM, 3 for RAM of 16 bits, 7 for RAM of 8 bits, and 0 for none.
+#[derive(Clone, Copy)]
+pub struct Sketch {
+    pub kinds: [u8; PARAGRAPHS],
+    pub pages: [bool; FLIP_ENTRIES],
+}
 
 // Lines at the front of an array, how many there are, and how many of them are of [mapping]; those past the last place are counted.
 #[derive(Clone, Copy)]
@@ -73,77 +79,66 @@ fn add(f: Found, source: usize, e: Entry) -> Found
     }
 }
 
-// The lines of ROM.
-fn roms_of(kinds: &[u8; PARAGRAPHS], pages: &[bool; FLIP_ENTRIES]) -> Found
-    ensures { (result ≡ list_of (rom_lines (plan_in kinds.now pages.now))) × (result.count ≤ paragraphs) }
-{
-    let mut f = none_found();
-    let mut p = 0;
-    while p < PARAGRAPHS {
-        if starts_rom(kinds, pages, p) {
-            f = add(f, 2 + f.count, rom_entry(kinds, pages, p));
-        }
-        p += 1;
-    }
-    f
-}
-
-// Behind them those of the pages.
-fn with_pages(kinds: &[u8; PARAGRAPHS], pages: &[bool; FLIP_ENTRIES], roms: Found) -> Found
-    requires { (roms ≡ list_of (rom_lines (plan_in kinds.now pages.now))) × (roms.count ≤ paragraphs) }
-    ensures { (result ≡ list_of (mapping_lines (plan_in kinds.now pages.now))) × (result.count ≤ most_mapping) }
-{
-    let mut f = roms;
-    let mut n = 0;
-    while n < FLIP_ENTRIES {
-        if pages[n] {
-            f = add(f, 2 + f.count, page_entry(kinds, pages, n));
-        }
-        n += 1;
-    }
-    f
-}
-
-// The lines that name sections, and one more.
+// Returns the number of the line that names [memattr], and one more: the names of sections count too.
 fn names_before(mapping: usize) -> usize
     ensures { (result ≡ cond (eqb mapping 0) 2 3) × (result ≤ 3) }
 {
     if mapping == 0 { 2 } else { 3 }
 }
 
-// Behind them those of RAM.
-fn with_rams(
-    kinds: &[u8; PARAGRAPHS],
-    pages: &[bool; FLIP_ENTRIES],
-    names: usize,
-    mapping: Found,
-) -> Found
-    requires { (mapping ≡ list_of (mapping_lines (plan_in kinds.now pages.now))) × (mapping.count ≤ most_mapping) × (names ≡ cond (eqb mapping.count 0) 2 3) × (names ≤ 3) }
-    ensures { result ≡ list_of (canonical_lines (plan_in kinds.now pages.now)) }
-{
-    let mut f = mapping;
-    let mut p = 0;
-    while p < PARAGRAPHS {
-        if starts_ram(kinds, pages, p) {
-            f = add(f, names + f.count, ram_entry(kinds, pages, p));
+impl Sketch {
+    // Returns the lines of ROM.
+    fn rom_lines(&self) -> Found
+        ensures { (result ≡ list_of (rom_lines (sketched self.now))) × (result.count ≤ paragraphs) }
+    {
+        let mut f = none_found();
+        for p in 0..PARAGRAPHS {
+            if self.starts_rom(p) {
+                f = add(f, 2 + f.count, self.rom_entry(p));
+            }
         }
-        p += 1;
+        f
     }
-    f
-}
 
-// All canonical lines.
-pub fn lines_of(kinds: &[u8; PARAGRAPHS], pages: &[bool; FLIP_ENTRIES]) -> Listing
-    ensures { result ≡ listing_of (plan_in kinds.now pages.now) }
-{
-    let roms = roms_of(kinds, pages);
-    let mapping = with_pages(kinds, pages, roms);
-    let m = mapping.count;
-    let all = with_rams(kinds, pages, names_before(m), mapping);
-    let lines = all.lines;
-    Listing {
-        mapping: m,
-        count: all.count,
-        lines,
+    // Adds the lines of the pages to those of ROM.
+    fn with_pages(&self, roms: Found) -> Found
+        requires { (roms ≡ list_of (rom_lines (sketched self.now))) × (roms.count ≤ paragraphs) }
+        ensures { (result ≡ list_of (mapping_lines (sketched self.now))) × (result.count ≤ most_mapping) }
+    {
+        let mut f = roms;
+        for n in 0..FLIP_ENTRIES {
+            if self.pages[n] {
+                f = add(f, 2 + f.count, self.page_entry(n));
+            }
+        }
+        f
+    }
+
+    // Adds the lines of RAM to those of [mapping].
+    fn with_rams(&self, names: usize, mapping: Found) -> Found
+        requires { (mapping ≡ list_of (mapping_lines (sketched self.now))) × (mapping.count ≤ most_mapping) × (names ≡ cond (eqb mapping.count 0) 2 3) × (names ≤ 3) }
+        ensures { result ≡ list_of (canonical_lines (sketched self.now)) }
+    {
+        let mut f = mapping;
+        for p in 0..PARAGRAPHS {
+            if self.starts_ram(p) {
+                f = add(f, names + f.count, self.ram_entry(p));
+            }
+        }
+        f
+    }
+
+    // Returns all canonical lines of the plan.
+    pub fn listing(&self) -> Listing
+        ensures { result ≡ listing_of (sketched self.now) }
+    {
+        let mapping = self.with_pages(self.rom_lines());
+        let all = self.with_rams(names_before(mapping.count), mapping);
+        let lines = all.lines;
+        Listing {
+            mapping: mapping.count,
+            count: all.count,
+            lines,
+        }
     }
 }

@@ -4,14 +4,14 @@ ghost use Rattle.basics.specs.Tables.{table};
 ghost use Rattle.places.specs.Limits.{flip_entries, locutus_paragraphs, paragraphs};
 ghost use Rattle.plan.specs.Image.{ram_covered_of};
 ghost use Rattle.canon.specs.Made.{blank_in};
-ghost use Rattle.ledger.specs.Held.{plan_in, words_in};
+ghost use Rattle.ledger.specs.Held.{sketched, words_in};
 ghost use Rattle.retrace.specs.Code.Named.{named_in, word_named};
 ghost use Rattle.rebuild.specs.Fits.{agree, ram_fits};
 ghost use Rattle.rebuild.specs.Code.Retraced.{marks_fit, unnamed_in};
 
 use basics::both;
-use ledger::{holds_ram, word_of};
-use places::{FLIP_ENTRIES, LOCUTUS_PARAGRAPHS, PARAGRAPH_SIZE, PARAGRAPHS};
+use ledger::{Sketch, word_of};
+use places::{LOCUTUS_PARAGRAPHS, PARAGRAPH_SIZE, PARAGRAPHS};
 
 // Two tables of words are the same, and two of bytes.
 pub(crate) fn agree_words(a: &[u16; PARAGRAPHS], b: &[u16; PARAGRAPHS]) -> bool
@@ -98,29 +98,24 @@ fn is_blank(ram: &[u16], p: usize) -> bool
 }
 
 // Paragraph p is not the plan's RAM, or it is blank.
-fn ram_fits_at(
-    kinds: &[u8; PARAGRAPHS],
-    pages: &[bool; FLIP_ENTRIES],
-    ram: &[u16],
-    p: usize,
-) -> bool
+fn ram_fits_at(s: &Sketch, ram: &[u16], p: usize) -> bool
     requires { p < locutus_paragraphs }
-    ensures { result ≡ (not (ram_covered_of (plan_in kinds.now pages.now) p) || blank_in (words_in ram.now) p) }
+    ensures { result ≡ (not (ram_covered_of (sketched s.now) p) || blank_in (words_in ram.now) p) }
 {
-    if !holds_ram(kinds, pages, p) {
+    if !s.holds_ram(p) {
         return true;
     }
     is_blank(ram, p)
 }
 
 // The plan's RAM is all zeros.
-pub(crate) fn ram_fits(kinds: &[u8; PARAGRAPHS], pages: &[bool; FLIP_ENTRIES], ram: &[u16]) -> bool
-    ensures { result ≡ ram_fits (plan_in kinds.now pages.now) (words_in ram.now) }
+pub(crate) fn ram_fits(s: &Sketch, ram: &[u16]) -> bool
+    ensures { result ≡ ram_fits (sketched s.now) (words_in ram.now) }
 {
     let mut r = true;
     let mut p = 0;
     while p < LOCUTUS_PARAGRAPHS {
-        r = both(ram_fits_at(kinds, pages, ram, p), r);
+        r = both(ram_fits_at(s, ram, p), r);
         p += 1;
     }
     r

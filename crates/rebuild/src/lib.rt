@@ -9,16 +9,15 @@ ghost use Rattle.basics.specs.Tables.{table};
 ghost use Rattle.places.specs.Limits.{flip_entries, lent_limit, locutus_paragraphs, page_size, paragraphs};
 ghost use Rattle.tables.specs.Tables.{tables};
 ghost use Rattle.retrace.specs.Code.Named.{named_in, word_named};
-ghost use Rattle.ledger.specs.Code.Lists.{listing_of};
-ghost use Rattle.ledger.specs.Held.{plan_in, words_in};
+ghost use Rattle.ledger.specs.Held.{sketched, words_in};
 ghost use Rattle.rebuild.specs.Code.Retraced.{drawing_fits, listing_fits, retraced_of};
 
 use basics::both;
 use compare::{agree_bytes, agree_words, names_fit, ram_fits};
 use layout::Drawing;
-use ledger::{Listing, lines_of};
+use ledger::{Listing, Sketch};
 use places::{FLIP_ENTRIES, LENT_LIMIT, LINE_LIMIT, LOCUTUS_PARAGRAPHS, PAGE_SIZE, PARAGRAPHS};
-use retrace::{Sketch, marks_of, plan_behind};
+use retrace::{marks_of, plan_behind};
 
 // The plan behind an image, its canonical lines, and whether they build the image's tables and named words.
 #[derive(Clone, Copy)]
@@ -65,7 +64,7 @@ fn drawing_fits(
 // Lines that are not too many, drawn; and the plan's RAM is all zeros.
 fn listing_fits(
     l: Listing,
-    s: Sketch,
+    s: &Sketch,
     mapping: &[u16; PARAGRAPHS],
     permissions: &[u8; PARAGRAPHS],
     flips: &[u16; FLIP_ENTRIES],
@@ -74,7 +73,7 @@ fn listing_fits(
     named: &[bool; LOCUTUS_PARAGRAPHS],
 ) -> bool
     requires { named.now ≡ table locutus_paragraphs (named_in zeros.now ones.now) }
-    ensures { result ≡ listing_fits l (plan_in s.kinds s.pages) (tables mapping.now permissions.now flips.now) (word_named zeros.now ones.now) (words_in zeros.now) }
+    ensures { result ≡ listing_fits l (sketched s.now) (tables mapping.now permissions.now flips.now) (word_named zeros.now ones.now) (words_in zeros.now) }
 {
     let n = l.count;
     if n == 0 {
@@ -85,21 +84,10 @@ fn listing_fits(
     }
     let lines = l.lines;
     let d = layout::draw(n as u32, lines);
-    let kinds = s.kinds;
-    let pages = s.pages;
     both(
         drawing_fits(d, mapping, permissions, flips, zeros, ones, named),
-        ram_fits(&kinds, &pages, zeros),
+        ram_fits(s, zeros),
     )
-}
-
-// The canonical lines of a plan.
-fn listing_of(s: Sketch) -> Listing
-    ensures { result ≡ listing_of (plan_in s.kinds s.pages) }
-{
-    let kinds = s.kinds;
-    let pages = s.pages;
-    lines_of(&kinds, &pages)
 }
 
 fn retrace_tables(
@@ -114,8 +102,8 @@ fn retrace_tables(
 {
     let named = marks_of(zeros, ones);
     let s = plan_behind(permissions, flips, &named);
-    let l = listing_of(s);
-    let fits = listing_fits(l, s, mapping, permissions, flips, zeros, ones, &named);
+    let l = s.listing();
+    let fits = listing_fits(l, &s, mapping, permissions, flips, zeros, ones, &named);
     Retraced {
         sketch: s,
         listing: l,

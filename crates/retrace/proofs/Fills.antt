@@ -20,7 +20,7 @@ use Rattle.retrace.specs.Code.Named.{named_in, word_named}
 use Rattle.retrace.specs.Code.Shown.{chapter_of, marked_in, plan_from, shown_at, shown_behind, sketch_of}
 use Rattle.retrace.specs.Laws.Behind.{chapter_behind_lem}
 use Rattle.retrace.specs.declared.row.Shown.{Shown}
-use Rattle.retrace.specs.declared.Sketch.{Sketch}
+use Rattle.ledger.specs.declared.Sketch.{Sketch}
 
 abbrev pub blank_row : Shown
 blank_row = record { paged = false; empty = 0; under = false }

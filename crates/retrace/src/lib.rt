@@ -10,18 +10,12 @@ ghost use Rattle.places.specs.Limits.{chapters, flip_entries, paragraphs};
 ghost use Rattle.plan.specs.Plan.{has_page, kinds};
 ghost use Rattle.retrace.specs.Code.Shown.{plan_from, shown_behind, sketch_of};
 
+use ledger::Sketch;
 pub use named::marks_of;
 use places::{
     CHAPTER_PAGES, CHAPTER_PARAGRAPHS, CHAPTERS, FLIP_ENTRIES, LOCUTUS_PARAGRAPHS, PARAGRAPHS,
 };
 use row::{Shown, kind_of, page_of, row_at, size_of};
-
-// A plan: the kind of each console paragraph, and whether chapter n / 16 has page n % 16.
-#[derive(Clone, Copy)]
-pub struct Sketch {
-    pub kinds: [u8; PARAGRAPHS],
-    pub pages: [bool; FLIP_ENTRIES],
-}
 
 // What each chapter's row of flip entries shows: each behind the Locutus pages of those before it.
 fn rows_of(

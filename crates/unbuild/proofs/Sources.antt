@@ -14,7 +14,7 @@ use Rattle.canon.specs.Laws.Bin.{bin_size}
 use Rattle.canon.proofs.Theorems.Bin.{length_bin}
 use Rattle.ledger.specs.Held.{plan_in, words_in}
 use Rattle.ledger.specs.declared.Listing.{Listing}
-use Rattle.retrace.specs.declared.Sketch.{Sketch}
+use Rattle.ledger.specs.declared.Sketch.{Sketch}
 use Rattle.sheet.specs.Code.Sheets.{sheet_of, sheet_size}
 use Rattle.sheet.specs.Laws.Sheets.{cfg_few, sheet_front}
 use Rattle.sheet.specs.declared.Sheet.{Sheet}

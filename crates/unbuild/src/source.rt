@@ -1,18 +1,15 @@
 // The BIN and the CFG of what was retraced: 31, 32, 29, or both written.
-ghost use Rattle.std.specs.Prelude.{◌≤◌, ◌*◌, max, ◌≡◌, false, not, length, take};
+ghost use Rattle.std.specs.Prelude.{◌≤◌, ◌≡◌, false, not, length, take};
 ghost use Rattle.basics.specs.Lists.{put_front};
 ghost use Rattle.places.specs.Limits.{bin_limit};
-ghost use Rattle.canon.specs.Laws.Bin.{bin_size};
-ghost use Rattle.ledger.specs.Held.{plan_in, words_in};
 ghost use Rattle.sheet.specs.Code.Sheets.{sheet_of, sheet_size};
 ghost use Rattle.unbuild.specs.Code.Answers.{AnswersBy, bare, bin_in, cfgIn};
 
 use crate::Unbuilding;
 use basics::{Refusal, either, put_bytes};
-use ledger::{Listing, bin_size, put_bin};
+use ledger::{Listing, Sketch};
 use places::BIN_LIMIT;
 use rebuild::Retraced;
-use retrace::Sketch;
 use sheet::{Sheet, sheet_of};
 
 // A refusal, and zero in all else.
@@ -26,24 +23,7 @@ pub(crate) fn refuse(r: Refusal) -> Unbuilding
     }
 }
 
-// How many bytes the BIN has.
-fn size_of(s: Sketch) -> usize
-    ensures { result ≡ 2 * max 1 (bin_size (plan_in s.kinds s.pages)) }
-{
-    let kinds = s.kinds;
-    let pages = s.pages;
-    bin_size(&kinds, &pages)
-}
-
-// The BIN, and the CFG, each at the front of its buffer, where there is room.
-fn write_bin(s: Sketch, ram: &[u16], bin: &mut [u8])
-    ensures { bin.new ≡ put_front (bin_in s ram.now) bin.old }
-{
-    let kinds = s.kinds;
-    let pages = s.pages;
-    put_bin(bin, &kinds, &pages, ram)
-}
-
+// The CFG at the front of its buffer, where there is room.
 fn write_cfg(s: Sheet, cfg: &mut [u8])
     requires { s.length ≤ sheet_size }
     ensures { cfg.new ≡ put_front (take s.length s.bytes) cfg.old }
@@ -54,11 +34,11 @@ fn write_cfg(s: Sheet, cfg: &mut [u8])
 }
 
 // 29, where either buffer is too short; else both are written.
-fn write_both(s: Sketch, l: Listing, ram: &[u16], bin: &mut [u8], cfg: &mut [u8]) -> Unbuilding
-    requires { length (bin_in s ram.now) ≤ bin_limit }
-    ensures { AnswersBy false (bin_in s ram.now) (cfgIn l) bin.old cfg.old result bin.new cfg.new }
+fn write_both(s: &Sketch, l: Listing, ram: &[u16], bin: &mut [u8], cfg: &mut [u8]) -> Unbuilding
+    requires { length (bin_in s.now ram.now) ≤ bin_limit }
+    ensures { AnswersBy false (bin_in s.now ram.now) (cfgIn l) bin.old cfg.old result bin.new cfg.new }
 {
-    let n = size_of(s);
+    let n = s.bin_size();
     let lines = l.lines;
     let text = sheet_of(l.mapping, l.count, lines);
     let m = text.length;
@@ -69,7 +49,7 @@ fn write_both(s: Sketch, l: Listing, ram: &[u16], bin: &mut [u8], cfg: &mut [u8]
             cfg: m,
         };
     }
-    write_bin(s, ram, bin);
+    s.put_bin(bin, ram);
     write_cfg(text, cfg);
     Unbuilding {
         refusal: basics::no_refusal(),
@@ -87,8 +67,8 @@ pub(crate) fn write_source(k: Retraced, ram: &[u16], bin: &mut [u8], cfg: &mut [
     if !k.fits {
         return refuse(basics::refuse(31, 0));
     }
-    if BIN_LIMIT < size_of(s) {
+    if BIN_LIMIT < s.bin_size() {
         return refuse(basics::refuse(32, 0));
     }
-    write_both(s, l, ram, bin, cfg)
+    write_both(&s, l, ram, bin, cfg)
 }

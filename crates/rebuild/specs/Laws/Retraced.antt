@@ -28,7 +28,7 @@ use Rattle.ledger.specs.declared.Listing.{Listing}
 use Rattle.retrace.specs.Code.Named.{named_in, word_named}
 use Rattle.retrace.specs.Code.Shown.{marked_in, plan_from, sketch_of}
 use Rattle.retrace.specs.Laws.Behind.{behind_any}
-use Rattle.retrace.specs.declared.Sketch.{Sketch}
+use Rattle.ledger.specs.declared.Sketch.{Sketch}
 use Rattle.rebuild.specs.Code.Retraced.{drawing_fits, listing_fits, marks_fit, plan_named, retraced_of}
 use Rattle.rebuild.specs.Fits.{fits, names_fit, ram_fits, tables_fit}
 use Rattle.rebuild.specs.Laws.Drawn.{canonical_drawing}

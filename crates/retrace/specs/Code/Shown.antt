@@ -7,7 +7,7 @@ use Rattle.tables.specs.Tables.{tables}
 use Rattle.plan.specs.Plan.{Chapter, Plan, has_page, kinds}
 use Rattle.behind.specs.Behind.{absent, base_behind, behind, has_entries, hidden, kind_shown}
 use Rattle.retrace.specs.declared.row.Shown.{Shown}
-use Rattle.retrace.specs.declared.Sketch.{Sketch}
+use Rattle.ledger.specs.declared.Sketch.{Sketch}
 
 -- flip entry y of chapter x; whether Locutus paragraph p is marked
 abbrev pub row_in : List ℕ → ℕ → ℕ → ℕ

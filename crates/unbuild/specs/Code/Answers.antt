@@ -8,7 +8,7 @@ use Rattle.load.specs.Load.{flash_asked, loading_of, refusal_by_size}
 use Rattle.canon.specs.Bin.{canonical_bin}
 use Rattle.ledger.specs.Held.{plan_in, words_in}
 use Rattle.ledger.specs.declared.Listing.{Listing}
-use Rattle.retrace.specs.declared.Sketch.{Sketch}
+use Rattle.ledger.specs.declared.Sketch.{Sketch}
 use Rattle.sheet.specs.Code.Sheets.{cfg_lines}
 use Rattle.unbuild.specs.Content.{image_jlp}
 use Rattle.unbuild.specs.Unbuild.{bin_after, cfg_after, unbuilding_of}

@@ -1,11 +1,7 @@
 -- `ledger::bin::put_each` meets its contract. The loop's invariant: the first i words are written.
-use Prim.Native.Nat.{◌-◌}
 use lib.ListN.{length}
 use Rattle.ledger.proofs.Bins.{Words}
 use Rattle.ledger.proofs.bin.put_each.Given as goal
 
 abbrev pub invariant-loop-i : goal.invariant-loop-i
 invariant-loop-i l = Words l.words (length l.words) l.initial.out l.out l.i
-
-abbrev pub decreases-loop-i : goal.decreases-loop-i
-decreases-loop-i l = length l.words - l.i

@@ -1,10 +1,6 @@
 -- `ledger::bin::put_past` meets its contract. The loop's invariant: the first i words are written.
-use Prim.Native.Nat.{◌-◌}
 use Rattle.ledger.proofs.Bins.{Words, from}
 use Rattle.ledger.proofs.bin.put_past.Given as goal
 
 abbrev pub invariant-loop-i : goal.invariant-loop-i
 invariant-loop-i l = Words (from l.ram l.a l.n) l.n l.initial.out l.out l.i
-
-abbrev pub decreases-loop-i : goal.decreases-loop-i
-decreases-loop-i l = l.n - l.i

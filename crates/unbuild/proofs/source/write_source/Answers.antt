@@ -6,8 +6,8 @@ use Rattle.unbuild.proofs.source.write_source.Goals as goal
 pub returns-then-not-k : goal.returns-then-not-k
 returns-then-not-k c = search (rules, source_unfit)
 
-pub returns-then-size_of-gt-BIN_LIMIT : goal.returns-then-size_of-gt-BIN_LIMIT
-returns-then-size_of-gt-BIN_LIMIT c = search (rules, source_long)
+pub returns-then-bin_size-gt-BIN_LIMIT : goal.returns-then-bin_size-gt-BIN_LIMIT
+returns-then-bin_size-gt-BIN_LIMIT c = search (rules, source_long)
 
 pub write_both-requires : goal.write_both-requires
 write_both-requires c = search (rules, size_low)

@@ -1,7 +1,0 @@
--- `ledger::lines_of` meets its contract, by what its callees ensure.
-use borrow.Author.Rules.{rules}
-use Rattle.ledger.proofs.Gathers.{listing_is}
-use Rattle.ledger.proofs.lines_of.Goals as goal
-
-pub returns : goal.returns
-returns c = search (rules, listing_is)
