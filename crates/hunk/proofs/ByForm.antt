@@ -1,38 +1,20 @@
 -- What a start byte says, and what stands at a place: one law for each case of the code, with its premises as the cases and calls give them.
 use Prim.Native.Nat.{ℕ, ◌+◌, ◌<◌, ◌≤◌, ◌-◌}
 use mathlib.Core.List.{List}
-use mathlib.Core.Path.{◌≡◌, sym, ◌∙◌, ap, refl}
+use mathlib.Core.Path.{◌≡◌, sym, refl}
 use mathlib.Core.Bool.{false}
 use native.Mathlib.Omega.{arith}
 use lib.ListN.{get_or, length}
 use borrow.Author.Tests.{le-leb, lt-leb}
-use mir.Syntax.{w8, w64}
-use mir.Val.{Fits}
 use Rattle.hunk.specs.declared.Form.{Form}
 use Rattle.hunk.specs.declared.Form.TheVariants.{Bytes, Decles, Words, Reserved}
 use Rattle.std.specs.Prelude.{Ok, Err, Some, None}
 use mathlib.Core.Logic.{◌⊎◌, inl, inr}
 use Rattle.basics.specs.Laws.Tests.{and_false}
-use Rattle.hunk.specs.Forms.{form_of, is_reserved, count_for, most_for, size_for, count_of, size_of}
+use Rattle.hunk.specs.Forms.{form_of, is_reserved, count_for, size_for, count_of, size_of}
 use Rattle.hunk.specs.Hunk.{whole_at}
-use Rattle.hunk.specs.Laws.Forms.{Starts, starts_of, count_most}
+use Rattle.hunk.specs.Laws.Forms.{Starts, starts_of}
 use Rattle.hunk.specs.Code.Blocks.{block_at}
-
--- a start byte is a byte
-module _ (f : Form) (n : ℕ) (h : n ≤ most_for f) where
-  pub fit_bytes : f ≡ Bytes → Fits w8 n
-  fit_bytes e = let k : n ≤ most_for Bytes = rw e at h in omega arith
-
-  pub fit_decles : f ≡ Decles → Fits w8 (0x3F + n)
-  fit_decles e = let k : n ≤ most_for Decles = rw e at h in omega arith
-
-  pub fit_words : f ≡ Words → Fits w8 (0xBF + n)
-  fit_words e = let k : n ≤ most_for Words = rw e at h in omega arith
-
-pub fit_wider : (x : ℕ) → Fits w8 x → Fits w64 x
-fit_wider x h = omega arith
-
-pub ruleset fitting = (fit_bytes, fit_decles, fit_words, fit_wider)
 
 -- the words that a start byte counts
 module _ (f : Form) (b : ℕ) (ef : f ≡ form_of b) where
@@ -44,10 +26,6 @@ module _ (f : Form) (b : ℕ) (ef : f ≡ form_of b) where
 
   pub from_words : f ≡ Words → 0xBF ≤ b
   from_words e = let h : Starts Words b = rw e at starts_in_lem in omega arith
-
-  pub count_small : (n : ℕ) → n ≡ count_for f b → n < 256
-  unfolding count_of
-  count_small n en = let h : count_for (form_of b) b ≤ 128 = count_most b in omega (arith, en ∙ ap (λ (g : Form). count_for g b) ef)
 
 -- a form that is named
 is_named : (f : Form) → (f ≡ Reserved → ⊥) → is_reserved f ≡ false

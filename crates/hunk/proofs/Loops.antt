@@ -1,19 +1,19 @@
 -- The loops over a hunk's data blocks: each knows the data blocks before its place.
 use Rattle.std.specs.Prelude.{Option, Result, Ok, Err, Some, None, is_ok}
 use Rattle.std.specs.Result.{result_unwrap_or}
-use Prim.Native.Nat.{ℕ, ◌+◌, ◌*◌, ◌-◌, ◌<◌, ◌≤◌, ◌^◌}
+use Prim.Native.Nat.{ℕ, ◌+◌, ◌-◌, ◌<◌, ◌≤◌, ◌^◌}
 use mathlib.Core.List.{List, [], ◌∷◌, ◌++◌, append-nil}
 use mathlib.Core.Path.{◌≡◌, refl, sym, ◌∙◌, ap}
 use mathlib.Core.Bool.{Bool, true, false}
 use mathlib.Core.Logic.{inl, inr}
 use native.Mathlib.Omega.{arith}
 use lib.Dec.{ltb, leb}
-use lib.ListN.{get_or, length, length-append}
-use borrow.Author.Tests.{ltb-true, ltb-false, lt-ltb, leb-true, leb-false}
+use lib.ListN.{length, length-append}
+use borrow.Author.Tests.{ltb-true, ltb-false, leb-true, leb-false}
 use mir.Syntax.{w64}
 use mir.Val.{Fits}
 use Rattle.basics.specs.Lists.{lay, laid, joined}
-use Rattle.basics.specs.Laws.Tests.{cases, same_test, true_is_not_false}
+use Rattle.basics.specs.Laws.Tests.{cases, true_is_not_false}
 use Rattle.basics.specs.Laws.Each.{joined_append}
 use Rattle.basics.specs.Laws.Lay.{Inside, length_lay, lay_append, lay_table}
 use Rattle.basics.specs.Laws.Tables.{length_table}
@@ -26,19 +26,6 @@ use Rattle.hunk.specs.Hunk.{address, count_at, size_at, words_at, whole_at, data
 use Rattle.hunk.specs.Code.Blocks.{Found, data_at, block_at, Room, Storable}
 use Rattle.hunk.specs.Laws.Walk.{Intact, intact, past_end, Run, none, run_up, run_more, words_in, length_words, data_all, More, data_split}
 use Rattle.hunk.specs.Laws.Refusals.{Reached, reach_none, reach_more, reach_end, reach_wrong, reach_past, cut_short, WholeIn, whole_words, store_passed, store_refused}
-
--- the address, from its bytes
-pub address_bytes : (s : List ℕ) (x y z : ℕ) → x ≡ get_or s 0 0 → y ≡ get_or s 1 0 → z ≡ get_or s 2 0 → record { 0 = x + 256 * y + 65536 * z } ≡ address s
-address_bytes s x y z e f g = rw (e, f, g)
-
--- words that go past, by the code's tests
-pub past_many : (a n m : ℕ) → m < n → true ≡ ltb m (a + n)
-past_many a n m h = sym (lt-ltb m (a + n) (omega arith))
-
-pub past_far : (a n m : ℕ) → n ≤ m → ltb (m - n) a ≡ ltb m (a + n)
-past_far a n m h =
-    same_test (ltb (m - n) a) (ltb m (a + n)) (λ t. lt-ltb m (a + n) (omega (arith, ltb-true (m - n) a t)))
-    (λ t. lt-ltb (m - n) a (omega (arith, ltb-true m (a + n) t)))
 
 -- what stands at a place, by the code's cases
 block_cases : {A : Type 0} (s : List ℕ) (p : ℕ) (b : Found) → b ≡ block_at s p

@@ -3,7 +3,7 @@ use Prim.Native.Nat.{ℕ, ◌+◌, ◌-◌, ◌*◌, ◌/◌, ◌%◌, ◌≤◌
 use mathlib.Core.List.{List}
 use mathlib.Core.Path.{◌≡◌, sym, ap, ◌∙◌}
 use native.Mathlib.Omega.{arith}
-use lib.ListN.{length, get_or, set, drop, length-set, get_or-eq_default}
+use lib.ListN.{length, get_or, set, drop}
 use lib.Seq.{get_or-drop}
 use borrow.Author.Tests.{ne_eqb}
 use Rattle.basics.specs.Bytes.{bytes16}
@@ -15,10 +15,6 @@ use Rattle.basics.specs.Laws.Puts.{put_all}
 use Rattle.hunk.specs.declared.Form.{Form}
 use Rattle.hunk.specs.declared.Form.TheVariants.{Bytes, Decles, Words, Reserved}
 use Rattle.hunk.specs.Forms.{lower, uppers, packet, packets, body_for}
-
--- past the last word
-pub no_word : (ws : List ℕ) (i : ℕ) → length ws ≤ i → 0 ≡ get_or ws i 0
-no_word ws i h = sym (get_or-eq_default ws 0 h)
 
 -- one byte more of a loop
 pub lower_more : (ws out₀ out : List ℕ) (p i j v : ℕ) → out ≡ laid p j (lower (drop i ws)) out₀ → v ≡ get_or ws (i + j) 0 % 256
@@ -76,9 +72,6 @@ module _ (ws : List ℕ) (i p : ℕ) (out₀ : List ℕ) where
       rw (ne_eqb _ _ z, m, get_or-drop))
       ∙ sym (laid_add p 1 n (packet ws i) out₀)
 
-  pub short_same : (u : ℕ) (f : ℕ → ℕ) (next : List ℕ) → next ≡ laid (p + 1) (length ws - i) f (set out₀ p u) → length next ≡ length out₀
-  short_same u f next e = ap length e ∙ length_laid (p + 1) f (set out₀ p u) (length ws - i) ∙ length-set out₀ p u
-
 -- packets one after the other
 packets_at : (ws : List ℕ) (k i : ℕ) → i < 5 → packets ws (5 * k + i) ≡ packet ws (4 * k) i
 unfolding packets
@@ -102,13 +95,7 @@ module _ (ws out₀ out : List ℕ) (k : ℕ) (e : out ≡ laid 0 (5 * k) (packe
       let j : 5 * (k + 1) ≡ 5 * k + 5 = omega arith in
       rw j (packets_more 5 next (omega arith) f)
 
-  pub packets_done : (n : ℕ) → k ≤ n → n ≤ k → out ≡ laid 0 (5 * n) (packets ws) out₀
-  packets_done n h l = let d : k ≡ n = omega arith in rw d at e
-
   module _ (q : k ≡ length ws / 4) where
-    pub packets_whole : 4 * k ≡ length ws → out ≡ laid 0 ((length ws + 3) / 4 + length ws) (packets ws) out₀
-    packets_whole h = let d : 5 * k ≡ (length ws + 3) / 4 + length ws = omega arith in rw d at e
-
     pub packets_short : (4 * k ≡ length ws → ⊥) → (next : List ℕ) → next ≡ laid (5 * k) (1 + (length ws - 4 * k)) (packet ws (4 * k)) out
         → next ≡ laid 0 ((length ws + 3) / 4 + length ws) (packets ws) out₀
     packets_short h next f =

@@ -37,13 +37,6 @@ module _ (s : List ℕ) (at k u l : ℕ) (eu : u ≡ get_or s at 0) (el : l ≡ 
 
 pub ruleset decles = (decle_0, decle_1, decle_2, decle_3)
 
--- a loop that stores n words, done
-pub laid_done : (a n i : ℕ) (w : ℕ → ℕ) (t m : List ℕ) → i ≤ n → n ≤ i → t ≡ laid a i w m → t ≡ laid a n w m
-laid_done a n i w t m h k e = let d : i ≡ n = omega arith in e ∙ ap (λ (j : ℕ). laid a j w m) d
-
-pub laid_done_4 : (a n i : ℕ) (w : ℕ → ℕ) (t m : List ℕ) → i ≤ n → n ≤ i → t ≡ laid a (4 * i) w m → t ≡ laid a (4 * n) w m
-laid_done_4 a n i w t m h k e = laid_done a (4 * n) (4 * i) w t m (omega arith) (omega arith) e
-
 -- a whole packet, stored
 module _ (s : List ℕ) (at a u v w x y : ℕ) (ram : List ℕ) (eu : u ≡ get_or s at 0) (ev : v ≡ get_or s (at + 1) 0) (ew : w ≡ get_or s (at + 2) 0) (ex : x ≡ get_or s (at + 3) 0) (ey : y ≡ get_or s (at + 4) 0) where
   byte : (i j l : ℕ) → i ≡ j → l ≡ get_or s i 0 → l ≡ get_or s j 0

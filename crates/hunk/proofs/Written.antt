@@ -23,23 +23,6 @@ use Rattle.hunk.specs.Hunk.{hunk, hunk_payload, payload_size}
 use Rattle.hunk.specs.Laws.Cuts.{Piece, cuts_none, cuts_more}
 use Rattle.hunk.specs.Laws.Sizes.{piece_smallest, length_data, length_payload, cuts_most, size_most}
 
--- the words before the last, and the last behind them
-module _ (f : Form) (out ws : List ℕ) (l : length out ≡ length (body_for f (but_last ws)) + 2) (ys : List ℕ) (ey : ys ≡ body_for f (but_last ws)) where
-  abbrev begun : List ℕ
-  begun = put_mid 0 (length out - 2 - 0) out ys
-
-  wrote_begun : Wrote out begun (body_for f (but_last ws))
-  wrote_begun = wrote_part out out [] 0 (length out - 2 - 0) ys (body_for f (but_last ws)) (wrote_none out) refl (omega arith) (omega arith) ey
-
-  pub behind_written : (k : ℕ) (zs : List ℕ) → k ≡ length begun - (length out - 2) → zs ≡ le16 (last_of ws)
-      → put_mid (length out - 2) k begun zs ≡ body_for f (but_last ws) ++ le16 (last_of ws)
-  behind_written k zs ek ez =
-      let x : List ℕ = body_for f (but_last ws) in
-      let n : length begun ≡ length out = wrote_long out begun x wrote_begun in
-      wrote_all out _ (x ++ le16 (last_of ws))
-      (wrote_part out begun x (length out - 2) k zs (le16 (last_of ws)) wrote_begun (omega arith) (omega arith) (omega arith) ez)
-      (length-append x (le16 (last_of ws)) ∙ sym l)
-
 -- a data block: its start byte, and what stands behind it
 module _ (f : Form) (out ws : List ℕ) (l : length out ≡ length (data_in f ws)) where
   data_long : length out ≡ 1 + length (body_for f (but_last ws) ++ le16 (last_of ws))
@@ -69,9 +52,6 @@ module _ (f : Form) (out ws : List ℕ) (l : length out ≡ length (data_in f ws
             wrote_all out _ (x ++ y)
             (wrote_part out (set out 0 v) x 1 k ys y c refl (omega (arith, data_long, length-set out 0 v)) (omega (arith, data_long, length-set out 0 v)) ey) (sym l)
 
-        pub data_same : length (put_mid 1 k (set out 0 v) ys) ≡ length out
-        data_same = ap length data_written ∙ sym l
-
 -- the data blocks of the cuts of some words
 abbrev blocks_of : List ℕ → List ℕ
 blocks_of ws = joined data_of (cuts_of ws)
@@ -84,9 +64,6 @@ module _ (ws : List ℕ) (i n j : ℕ) (h : i < length ws) (en : n ≡ min data_
   pub cut_in : j ≤ length ws
   cut_in = omega arith
 
-  pub cut_words : j - i < 256
-  cut_words = omega arith
-
   cut_long : length cut ≡ j - i
   cut_long = length-take (j - i) (drop i ws) ∙ omega (arith, length-drop i ws)
 
@@ -95,9 +72,6 @@ module _ (ws : List ℕ) (i n j : ℕ) (h : i < length ws) (en : n ≡ min data_
 
   pub cut_some : 1 ≤ length cut
   cut_some = piece.some
-
-  pub cut_few : length cut < 256
-  cut_few = omega (arith, piece.most)
 
   cut_blocks : blocks_of (drop i ws) ≡ data_of cut ++ blocks_of (drop j ws)
   unfolding joined
@@ -125,9 +99,6 @@ module _ (ws : List ℕ) (i n j : ℕ) (h : i < length ws) (en : n ≡ min data_
 pub record Sizing (ws : List ℕ) (long i : ℕ) : Type 0 where
   pub up : i ≤ length ws
   pub rest : long + length (blocks_of (drop i ws)) ≡ length (blocks_of ws)
-
-pub sizing_none : (ws : List ℕ) → Sizing ws 0 0
-sizing_none ws = record { up = omega arith; rest = omega arith }
 
 pub sizing_all : (ws : List ℕ) (long i : ℕ) → Sizing ws long i → length ws ≤ i → long ≡ length (blocks_of ws)
 unfolding joined
@@ -162,9 +133,6 @@ pub record Writing (ws out₀ out : List ℕ) (p i : ℕ) : Type 0 where
   pub place : p ≡ length x
   pub rest : x ++ blocks_of (drop i ws) ≡ blocks_of ws
 
-pub writing_none : (ws out : List ℕ) → length out ≡ length (blocks_of ws) → Writing ws out out 0 0
-writing_none ws out l = record { up = omega arith; long = l; x = []; wrote = wrote_none out; place = refl; rest = refl }
-
 module _ (ws out₀ out : List ℕ) (p i : ℕ) (c : Writing ws out₀ out p i) where
   pub writing_long : length out ≡ length out₀
   writing_long = wrote_long out₀ out c.x c.wrote
@@ -193,9 +161,6 @@ module _ (ws out₀ out : List ℕ) (p i : ℕ) (c : Writing ws out₀ out p i) 
           ap length (cut_blocks ws i n j h en ej),
           length-append (data_of (take (j - i) (drop i ws))) (blocks_of (drop j ws)),
         )
-
-    pub writing_fits : length out₀ < 2 ^ 64 → Fits w64 (p + k)
-    writing_fits l = omega (arith, next_room, writing_long)
 
     module _ (e : ℕ) (ee : e ≡ p + k) where
       pub writing_room : e ≤ length out

@@ -17,6 +17,3 @@ returns-in-Decles c = search (rules, bodies)
 
 pub returns-in-Words : goal.returns-in-Words
 returns-in-Words c = search (rules, bodies)
-
-pub returns-in-Reserved : goal.returns-in-Reserved
-returns-in-Reserved c = search (rules, bodies)

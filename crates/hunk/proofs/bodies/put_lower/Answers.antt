@@ -1,7 +1,6 @@
 -- `hunk::bodies::put_lower` meets its contract. The loop's invariant: the lower bytes of j words are laid.
 use Rattle.basics.specs.Laws.Lists.{laid_none}
 use borrow.Author.Rules.{rules}
-use Rattle.hunk.proofs.Stored.{laid_done}
 use Rattle.hunk.proofs.Packed.{lower_more}
 use Rattle.hunk.proofs.bodies.put_lower.Goals as goal
 
@@ -10,6 +9,3 @@ loop-j-init c = search (rules, laid_none)
 
 pub loop-j-preserved : goal.loop-j-preserved
 loop-j-preserved c = search (rules, lower_more)
-
-pub returns : goal.returns
-returns c = search (rules, laid_done)

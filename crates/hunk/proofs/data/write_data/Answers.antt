@@ -1,6 +1,6 @@
 -- `hunk::data::write_data` meets its contract: the start byte, and what stands behind it.
 use borrow.Author.Rules.{rules}
-use Rattle.hunk.proofs.Written.{data_some, data_begins, data_behind, data_written, data_same}
+use Rattle.hunk.proofs.Written.{data_some, data_begins, data_behind, data_written}
 use Rattle.hunk.proofs.data.write_data.Goals as goal
 
 pub bounds-out-0 : goal.bounds-out-0
@@ -14,9 +14,6 @@ slice_bounds-put_behind-start c = search (rules, data_begins)
 
 pub put_behind-requires : goal.put_behind-requires
 put_behind-requires c = search (rules, data_behind)
-
-pub shape_of-out : goal.shape_of-out
-shape_of-out c = search (rules, data_same)
 
 pub returns : goal.returns
 returns c = search (rules, data_written)

@@ -8,9 +8,3 @@ overflow_sub-result c = search (rules, from_decles)
 
 pub overflow_sub-result-in-Words : goal.overflow_sub-result-in-Words
 overflow_sub-result-in-Words c = search (rules, from_words)
-
-pub returns-in-Decles : goal.returns-in-Decles
-returns-in-Decles c = cc
-
-pub returns-in-Words : goal.returns-in-Words
-returns-in-Words c = cc

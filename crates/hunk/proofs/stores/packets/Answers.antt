@@ -1,7 +1,7 @@
 -- `hunk::stores::packets` meets its contract. The loop's invariant: the decles of j packets are laid.
 use borrow.Author.Rules.{rules}
 use Rattle.basics.specs.Laws.Lists.{laid_none}
-use Rattle.hunk.proofs.Stored.{packed_turn, laid_done_4}
+use Rattle.hunk.proofs.Stored.{packed_turn}
 use Rattle.hunk.proofs.stores.packets.Goals as goal
 
 pub loop-j-init : goal.loop-j-init
@@ -9,6 +9,3 @@ loop-j-init c = search (rules, laid_none)
 
 pub loop-j-preserved : goal.loop-j-preserved
 loop-j-preserved c = search (rules, packed_turn)
-
-pub returns : goal.returns
-returns c = search (rules, laid_done_4)
