@@ -1,68 +1,120 @@
 -- What a line says, from words and numbers that the code has read: one law for each way out.
 use Prim.Native.Nat.{ℕ}
-use mathlib.Core.Path.{◌≡◌, sym, ap, ◌∙◌}
+use Rattle.std.specs.Prelude.{Option, Some, None}
+use mathlib.Core.Path.{◌≡◌, refl, sym, ◌∙◌}
 use mathlib.Core.Bool.{Bool, true, false, cond}
+use mathlib.Core.Logic.{◌⊎◌, ⊎_elim}
 use mathlib.Core.List.{List}
+use lib.Dec.{eqb}
 use lib.ListN.{length}
 use borrow.Author.Tests.{ne_eqb}
+use Rattle.std.specs.Option.{option_map}
+use Rattle.places.specs.declared.BinWord.{BinWord}
+use Rattle.places.specs.declared.Console.{Console}
+use Rattle.places.specs.declared.Page.{Page}
+use Rattle.places.specs.Places.{bin_word, console, page}
 use Rattle.text.specs.Spelling.{is}
-use Rattle.grammar.specs.declared.Number.{Number}
-use Rattle.grammar.specs.declared.Number.TheVariants.{Is, Not}
+use Rattle.lines.specs.declared.Width.{Width}
+use Rattle.lines.specs.declared.Width.TheVariants.{Sixteen, Eight}
+use Rattle.lines.specs.declared.Entry.{Entry}
+use Rattle.lines.specs.declared.Entry.TheVariants.{Rom, Paged}
 use Rattle.grammar.specs.declared.Says.{Says}
-use Rattle.grammar.specs.declared.Says.TheVariants.{Blank, Outside}
+use Rattle.grammar.specs.declared.Says.TheVariants.{Blank, Outside, Claims}
 use Rattle.grammar.specs.declared.Section.{Section}
-use Rattle.grammar.specs.declared.Section.TheVariants.{Nowhere, Mapping, Memattr}
 use Rattle.grammar.specs.Words.{word}
-use Rattle.grammar.specs.Grammar.{◌>>=◌, offset, address, one_digit, bits, after, rom_line, paged_line, ram_line, mapping_line, memattr_line, heading_line, entry_line, words_say}
-use Rattle.grammar.specs.Code.Steps.{rom_of, paged_of, ram_of}
+use Rattle.grammar.specs.Grammar.{◌>>=◌, rom, paged, offset, address, one_digit, bits, after, width_of, rom_line, paged_line, ram_line, mapping_line, memattr_line, heading_line, entry_line, words_say}
+use Rattle.grammar.specs.Code.Steps.{claimed, where_true, go_on, mapping_steps, memattr_steps}
 
--- a number that is there goes on, and one that is not ends the reading
-pub bind_is : (x : Number) (n : ℕ) (k : ℕ → Says) (r : Says) → x ≡ Is n → r ≡ k n → r ≡ ◌>>=◌ x k
-unfolding ◌>>=◌
-bind_is x n k r e f = rw e f
+-- a step that goes on, and one that does not
+module _ {A : Type 0} (x v : Option A) (k : A → Says) (so : v ≡ x) where
+  pub on_some : (a : A) (r : Says) → v ≡ Some a → r ≡ k a → r ≡ go_on x k
+  unfolding go_on
+  on_some a r e f = rw (← so, e) f
 
-pub bind_not : (x : Number) (k : ℕ → Says) → x ≡ Not → Outside ≡ ◌>>=◌ x k
-unfolding ◌>>=◌
-bind_not x k e = rw e
+  pub on_none : (r : Option Entry) → v ≡ None → r ≡ None → claimed r ≡ go_on x k
+  unfolding go_on
+  on_none r e f = rw (← so, e, f)
 
--- an entry's words, as the code has read them
-module _ (ws : List (List ℕ)) (r : Says) (dash : Bool) (p : dash ≡ is "-" (word ws 1)) (equals : Bool) (q : equals ≡ is "=" (word ws 3)) where
-  module _ (lo h hi a at : Number) (u : lo ≡ offset (word ws 0)) (v : h ≡ offset (word ws 2)) (w : hi ≡ after dash h) (x : a ≡ address (word ws 4)) (y : at ≡ after equals a) where
-    pub rom_words_lem : r ≡ rom_of lo hi at → r ≡ rom_line ws
-    unfolding rom_line rom_of
-    rom_words_lem e = e ∙ rw (u, w, v, p, y, x, q)
+-- the definition's lines are the code's steps
+front_steps : (x : Option ℕ) (t : Bool) (y : Option ℕ) (u : Bool) (z : Option ℕ) (k : ℕ → ℕ → ℕ → Says) (h : BinWord → BinWord → Console → Says)
+    → ((a b c : ℕ) → k a b c ≡ h (bin_word a) (bin_word b) (console c))
+    → ◌>>=◌ x (λ lo. ◌>>=◌ (after t y) (λ hi. ◌>>=◌ (after u z) (λ at. k lo hi at)))
+    ≡ go_on (option_map bin_word x) (λ lo. go_on (where_true t) (λ _. go_on (option_map bin_word y) (λ hi. go_on (where_true u) (λ _. go_on (option_map console z) (λ at. h lo hi at)))))
+unfolding ◌>>=◌ go_on
+front_steps None t y u z k h e = refl
+front_steps (Some a) false y u z k h e = refl
+front_steps (Some a) true None u z k h e = refl
+front_steps (Some a) true (Some b) false z k h e = refl
+front_steps (Some a) true (Some b) true None k h e = refl
+front_steps (Some a) true (Some b) true (Some c) k h e = e a b c
 
-    pub paged_words_lem : (paged : Bool) (d y : Number) → paged ≡ is "PAGE" (word ws 5) → d ≡ one_digit (word ws 6) → y ≡ after paged d → r ≡ paged_of lo hi at y → r ≡ paged_line ws
-    unfolding paged_line paged_of
-    paged_words_lem paged d z f g h e = e ∙ rw (u, w, v, p, y, x, q, h, g, f)
+page_steps : (t : Bool) (y : Option ℕ) (k : ℕ → Says) (h : Page → Says) → ((a : ℕ) → k a ≡ h (page a))
+    → ◌>>=◌ (after t y) k ≡ go_on (where_true t) (λ _. go_on (option_map page y) h)
+unfolding ◌>>=◌ go_on
+page_steps false y k h e = refl
+page_steps true None k h e = refl
+page_steps true (Some a) k h e = e a
 
-  pub ram_words_lem : (lo h hi b n m : Number) (ram : Bool) → lo ≡ address (word ws 0) → h ≡ address (word ws 2) → hi ≡ after dash h
-      → ram ≡ is "RAM" (word ws 4) → b ≡ bits (word ws 5) → n ≡ after ram b → m ≡ after equals n → r ≡ ram_of lo hi m → r ≡ ram_line ws
-  unfolding ram_line ram_of
-  ram_words_lem lo h hi b n m ram u v w f g k x e = e ∙ rw (u, w, v, p, x, q, k, g, f)
+width_steps : (x : Option ℕ) (t : Bool) (y : Option ℕ) (u v : Bool) (z : Option ℕ) (k : ℕ → ℕ → ℕ → Says) (h : Console → Console → Width → Says)
+    → ((a b c : ℕ) → k a b c ≡ h (console a) (console b) (width_of c))
+    → ◌>>=◌ x (λ lo. ◌>>=◌ (after t y) (λ hi. ◌>>=◌ (after u (after v z)) (λ at. k lo hi at)))
+    ≡ go_on (option_map console x) (λ lo. go_on (where_true t) (λ _. go_on (option_map console y) (λ hi. go_on (where_true u) (λ _. go_on (where_true v) (λ _. go_on (option_map width_of z) (λ at. h lo hi at))))))
+unfolding ◌>>=◌ go_on
+width_steps None t y u v z k h e = refl
+width_steps (Some a) false y u v z k h e = refl
+width_steps (Some a) true None u v z k h e = refl
+width_steps (Some a) true (Some b) false v z k h e = refl
+width_steps (Some a) true (Some b) true false z k h e = refl
+width_steps (Some a) true (Some b) true true None k h e = refl
+width_steps (Some a) true (Some b) true true (Some c) k h e = e a b c
+
+module _ (ws : List (List ℕ)) (n : ℕ) (so : n ≡ length ws) where
+  five_is : n ≡ 5 → mapping_steps n ws ≡ rom_line ws
+  unfolding mapping_steps rom_line
+  five_is h =
+      sym (front_steps (offset (word ws 0)) (is "-" (word ws 1)) (offset (word ws 2)) (is "=" (word ws 3)) (address (word ws 4))
+      (λ a b c. Claims (rom a b c)) (λ lo hi at. cond (eqb n 5) (Claims (Rom lo hi at)) (go_on (where_true (is "PAGE" (word ws 5))) (λ _. go_on (option_map page (one_digit (word ws 6))) (λ y. Claims (Paged lo hi at y)))))
+      (λ a b c. rw h refl))
+
+  seven_is : (n ≡ 5 → ⊥) → mapping_steps n ws ≡ paged_line ws
+  unfolding mapping_steps paged_line
+  seven_is h =
+      sym (front_steps (offset (word ws 0)) (is "-" (word ws 1)) (offset (word ws 2)) (is "=" (word ws 3)) (address (word ws 4))
+      (λ a b c. ◌>>=◌ (after (is "PAGE" (word ws 5)) (one_digit (word ws 6))) (λ y. Claims (paged a b c y)))
+      (λ lo hi at. cond (eqb n 5) (Claims (Rom lo hi at)) (go_on (where_true (is "PAGE" (word ws 5))) (λ _. go_on (option_map page (one_digit (word ws 6))) (λ y. Claims (Paged lo hi at y)))))
+      (λ a b c.
+      page_steps (is "PAGE" (word ws 5)) (one_digit (word ws 6)) (λ y. Claims (paged a b c y)) (λ y. Claims (Paged (bin_word a) (bin_word b) (console c) y)) (λ y. refl)
+      ∙ simp (ne_eqb n 5 h)))
+
+  pub mapping_of : (r : Says) → ((n ≡ 5 → ⊥) × (n ≡ 7)) ⊎ (n ≡ 5) → r ≡ mapping_steps n ws → r ≡ mapping_line ws
+  unfolding mapping_line
+  mapping_of r h e =
+      e ∙ ⊎_elim (λ p. seven_is p.0 ∙ rw (← so, ne_eqb n 5 p.0, p.1) refl) (λ p. five_is p ∙ rw (← so, p) refl) h
+
+  pub mapping_not : (n ≡ 5 → ⊥) → (n ≡ 7 → ⊥) → Outside ≡ mapping_line ws
+  unfolding mapping_line
+  mapping_not h k = rw (← so, ne_eqb n 5 h, ne_eqb n 7 k)
+
+  pub memattr_of : (r : Says) → n ≡ 6 → r ≡ memattr_steps ws → r ≡ memattr_line ws
+  unfolding memattr_steps memattr_line ram_line
+  memattr_of r h e =
+      e ∙ rw (← so, h)
+      (sym (width_steps (address (word ws 0)) (is "-" (word ws 1)) (address (word ws 2)) (is "=" (word ws 3)) (is "RAM" (word ws 4)) (bits (word ws 5)) _ _ (λ a b c. refl)))
+
+  pub memattr_not : (n ≡ 6 → ⊥) → Outside ≡ memattr_line ws
+  unfolding memattr_line
+  memattr_not h = rw (← so, ne_eqb n 6 h)
+
+-- an entry's words tell whether it has a page
+module _ (n : ℕ) (x y r : Says) where
+  pub with_five : n ≡ 5 → r ≡ x → r ≡ cond (eqb n 5) x y
+  with_five h e = rw h e
+
+  pub with_seven : (n ≡ 5 → ⊥) → r ≡ y → r ≡ cond (eqb n 5) x y
+  with_seven h e = rw (ne_eqb n 5 h) e
 
 -- how many words there are tells what a line may be
 module _ (ws : List (List ℕ)) (n : ℕ) (so : n ≡ length ws) where
-  pub five_words : (r : Says) → n ≡ 5 → r ≡ rom_line ws → r ≡ mapping_line ws
-  unfolding mapping_line
-  five_words r h e = rw (← so, h) e
-
-  pub seven_words : (r : Says) → n ≡ 7 → r ≡ paged_line ws → r ≡ mapping_line ws
-  unfolding mapping_line
-  seven_words r h e = rw (← so, h) e
-
-  pub other_words : (n ≡ 5 → ⊥) → (n ≡ 7 → ⊥) → Outside ≡ mapping_line ws
-  unfolding mapping_line
-  other_words h k = rw (← so, ne_eqb n 5 h, ne_eqb n 7 k)
-
-  pub six_words : (r : Says) → n ≡ 6 → r ≡ ram_line ws → r ≡ memattr_line ws
-  unfolding memattr_line
-  six_words r h e = rw (← so, h) e
-
-  pub not_six_words : (n ≡ 6 → ⊥) → Outside ≡ memattr_line ws
-  unfolding memattr_line
-  not_six_words h = rw (← so, ne_eqb n 6 h)
-
   module _ (sec : Section) where
     pub no_words : n ≡ 0 → Blank ≡ words_say sec ws
     unfolding words_say
@@ -72,19 +124,23 @@ module _ (ws : List (List ℕ)) (n : ℕ) (so : n ≡ length ws) where
     unfolding words_say
     one_word r w h f e = rw (← so, h, ← f) e
 
-    more_words : (n ≡ 0 → ⊥) → (n ≡ 1 → ⊥) → entry_line sec ws ≡ words_say sec ws
+    pub more_words : (n ≡ 0 → ⊥) → (n ≡ 1 → ⊥) → (r : Says) → r ≡ entry_line sec ws → r ≡ words_say sec ws
     unfolding words_say
-    more_words h k = rw (← so, ne_eqb n 0 h, ne_eqb n 1 k)
+    more_words h k r e = rw (← so, ne_eqb n 0 h, ne_eqb n 1 k) e
 
-    module _ (h : n ≡ 0 → ⊥) (k : n ≡ 1 → ⊥) where
-      pub entry_nowhere : sec ≡ Nowhere → Outside ≡ words_say sec ws
-      entry_nowhere e = ap (λ (s : Section). entry_line s ws) (sym e) ∙ more_words h k
+-- the bits of a RAM word
+module _ (w : List ℕ) (s t : Bool) (p : s ≡ is "16" w) where
+  pub bits_sixteen : s ≡ true → Some Sixteen ≡ option_map width_of (bits w)
+  unfolding bits
+  bits_sixteen e = rw (← p, e)
 
-      pub entry_mapping : (r : Says) → sec ≡ Mapping → r ≡ mapping_line ws → r ≡ words_say sec ws
-      entry_mapping r e x = x ∙ ap (λ (s : Section). entry_line s ws) (sym e) ∙ more_words h k
+  pub bits_eight : s ≡ false → t ≡ is "8" w → t ≡ true → Some Eight ≡ option_map width_of (bits w)
+  unfolding bits
+  bits_eight e q f = rw (← p, e, ← q, f)
 
-      pub entry_memattr : (r : Says) → sec ≡ Memattr → r ≡ memattr_line ws → r ≡ words_say sec ws
-      entry_memattr r e x = x ∙ ap (λ (s : Section). entry_line s ws) (sym e) ∙ more_words h k
+  pub bits_neither : s ≡ false → t ≡ is "8" w → t ≡ false → None ≡ option_map width_of (bits w)
+  unfolding bits
+  bits_neither e q f = rw (← p, e, ← q, f)
 
 -- a choice by two flags
 module _ {A : Type 0} (x y z : A) (b c s t : Bool) (p : s ≡ b) where

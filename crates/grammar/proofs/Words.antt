@@ -14,20 +14,18 @@ use Rattle.basics.specs.Laws.Lists.{length_part}
 use Rattle.basics.specs.Laws.Tests.{cases, true_is_not_false}
 use Rattle.text.specs.Bytes.{until}
 use Rattle.text.specs.Laws.Bytes.{until_hit, until_miss, until_most, until_passes}
+use denote.Enum.Bare.{sameb}
+use Rattle.grammar.specs.contracts.Kind.{the_type}
 use Rattle.grammar.specs.declared.Kind.{Kind}
 use Rattle.grammar.specs.declared.Kind.TheVariants.{Blank, Sign, Comment, Letter}
 use Rattle.grammar.specs.declared.Word.{Word}
 use Rattle.grammar.specs.Words.{kind_of, Cut, cut, before, push, words_after, words_of, word}
-use Rattle.grammar.specs.Code.Steps.{is_blank, is_letter, ends_run, run_end, NextWord}
+use Rattle.grammar.specs.Code.Steps.{is_blank, is_letter, same_kind, ends_run, run_end, NextWord}
 
 -- a byte before a cut, by its kind
 cut_kind : (b : ℕ) (s : List ℕ) (k : Kind) → kind_of b ≡ k → cut (b ∷ s) ≡ before k b (cut s)
 unfolding cut
 cut_kind b s k e = ap (λ (j : Kind). before j b (cut s)) e
-
--- what the code has told of a byte's kind
-pub told : (f : Kind → Bool) (b : ℕ) (k j : Kind) (r : Bool) → k ≡ kind_of b → k ≡ j → r ≡ f j → r ≡ f (kind_of b)
-told f b k j r p q e = e ∙ ap f (sym q ∙ p)
 
 blank_is : (k : Kind) → is_blank k ≡ true → k ≡ Blank
 blank_is Blank e = refl
@@ -180,10 +178,32 @@ count_end s at n x so h =
     let e : length (words_of (drop at s)) ≡ 0 = rw (drop_of_length-le s h) in
     omega arith
 
--- a loop that passes bytes of a kind
-module _ (f : Kind → Bool) (s : List ℕ) (i x : ℕ) (u : Bool) (so : x ≡ i + until (ends_run f) (drop i s)) (l : i < length s) (p : u ≡ f (kind_of (get_or s i 0))) where
-  pub run_ends : not u ≡ true → i ≡ x
-  run_ends e = until_hit (ends_run f) s i x so (get_or s (i + 1) 0) l refl (ap not (sym p) ∙ e)
+-- kinds that the code has compared
+told_same : (a b : Kind) → sameb the_type a b ≡ same_kind b a
+told_same Blank Blank = refl
+told_same Blank Sign = refl
+told_same Blank Comment = refl
+told_same Blank Letter = refl
+told_same Sign Blank = refl
+told_same Sign Sign = refl
+told_same Sign Comment = refl
+told_same Sign Letter = refl
+told_same Comment Blank = refl
+told_same Comment Sign = refl
+told_same Comment Comment = refl
+told_same Comment Letter = refl
+told_same Letter Blank = refl
+told_same Letter Sign = refl
+told_same Letter Comment = refl
+told_same Letter Letter = refl
 
-  pub run_goes_on : not u ≡ false → x ≡ i + 1 + until (ends_run f) (drop (i + 1) s)
-  run_goes_on e = until_miss (ends_run f) s i x so (get_or s (i + 1) 0) l refl (ap not (sym p) ∙ e)
+-- a loop that passes bytes of a kind
+module _ (j : Kind) (s : List ℕ) (i x : ℕ) (u : Bool) (so : x ≡ i + until (ends_run (same_kind j)) (drop i s)) (l : i < length s) (k : Kind) (p : k ≡ kind_of (get_or s i 0)) (d : u ≡ not (sameb the_type k j)) where
+  another : u ≡ ends_run (same_kind j) (get_or s i 0) (get_or s (i + 1) 0)
+  another = d ∙ ap not (told_same k j ∙ ap (same_kind j) p)
+
+  pub run_ends : u ≡ true → i ≡ x
+  run_ends e = until_hit (ends_run (same_kind j)) s i x so (get_or s (i + 1) 0) l refl (sym another ∙ e)
+
+  pub run_goes_on : u ≡ false → x ≡ i + 1 + until (ends_run (same_kind j)) (drop (i + 1) s)
+  run_goes_on e = until_miss (ends_run (same_kind j)) s i x so (get_or s (i + 1) 0) l refl (sym another ∙ e)

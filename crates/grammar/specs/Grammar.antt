@@ -1,5 +1,5 @@
 -- What a line says, by its words and the section that it stands in (01, What a CFG may say).
-use Rattle.std.specs.Prelude.{ℕ, ◌+◌, ◌*◌, cond, ◌&&◌, Bool, List, [], ◌∷◌, leb, eqb, length}
+use Rattle.std.specs.Prelude.{Option, Some, None, ℕ, ◌+◌, ◌*◌, cond, ◌&&◌, Bool, List, [], ◌∷◌, leb, eqb, length}
 use Prim.Native.Char.{code}
 use Rattle.places.specs.Places.{bin_word, console, page}
 use Rattle.text.specs.Spelling.{is, digit_of}
@@ -7,8 +7,6 @@ use Rattle.lines.specs.declared.Width.{Width}
 use Rattle.lines.specs.declared.Width.TheVariants.{Sixteen, Eight}
 use Rattle.lines.specs.declared.Entry.{Entry}
 use Rattle.lines.specs.declared.Entry.TheVariants.{Rom, Paged, Ram}
-use Rattle.grammar.specs.declared.Number.{Number}
-use Rattle.grammar.specs.declared.Number.TheVariants.{Is, Not}
 use Rattle.grammar.specs.declared.Says.{Says}
 use Rattle.grammar.specs.declared.Says.TheVariants.{Outside, Claims, Heading, Blank}
 use Rattle.grammar.specs.declared.Section.TheVariants.{Mapping, Memattr, Nowhere}
@@ -16,38 +14,38 @@ use Rattle.grammar.specs.declared.Section.{Section}
 use Rattle.grammar.specs.Words.{words_of, word}
 
 -- hex digits to the word's end, after those that make n
-unfoldable pub hex_from : ℕ → List ℕ → Number
-hex_from n [] = Is n
-hex_from n (b ∷ w) = cond (eqb (digit_of b) 16) Not (hex_from (n * 16 + digit_of b) w)
+unfoldable pub hex_from : ℕ → List ℕ → Option ℕ
+hex_from n [] = Some n
+hex_from n (b ∷ w) = cond (eqb (digit_of b) 16) None (hex_from (n * 16 + digit_of b) w)
 
-abbrev pub hex_of : List ℕ → Number
+abbrev pub hex_of : List ℕ → Option ℕ
 hex_of w = hex_from 0 w
 
 -- `$` and 1 to `most` hex digits
-unfoldable pub dollar : ℕ → List ℕ → Number
-dollar most [] = Not
-dollar most (b ∷ w) = cond (leb 1 (length w) && leb (length w) most && eqb b (code "$")) (hex_of w) Not
+unfoldable pub dollar : ℕ → List ℕ → Option ℕ
+dollar most [] = None
+dollar most (b ∷ w) = cond (leb 1 (length w) && leb (length w) most && eqb b (code "$")) (hex_of w) None
 
 -- an offset in the BIN has 1 to 5 digits, an address 1 to 4; a page number is one digit, with no `$`
-abbrev pub offset : List ℕ → Number
+abbrev pub offset : List ℕ → Option ℕ
 offset w = dollar 5 w
 
-abbrev pub address : List ℕ → Number
+abbrev pub address : List ℕ → Option ℕ
 address w = dollar 4 w
 
-unfoldable pub one_digit : List ℕ → Number
-one_digit w = cond (eqb (length w) 1) (hex_of w) Not
+unfoldable pub one_digit : List ℕ → Option ℕ
+one_digit w = cond (eqb (length w) 1) (hex_of w) None
 
 -- the bits of a RAM word
-unfoldable pub bits : List ℕ → Number
-bits w = cond (is "16" w) (Is 16) (cond (is "8" w) (Is 8) Not)
+unfoldable pub bits : List ℕ → Option ℕ
+bits w = cond (is "16" w) (Some 16) (cond (is "8" w) (Some 8) None)
 
 abbrev pub width_of : ℕ → Width
 width_of n = cond (eqb n 16) Sixteen Eight
 
 -- a number, where the word before it is spelt so
-abbrev pub after : Bool → Number → Number
-after spelt n = cond spelt n Not
+abbrev pub after : Bool → Option ℕ → Option ℕ
+after spelt n = cond spelt n None
 
 -- an entry from its numbers
 abbrev pub rom : ℕ → ℕ → ℕ → Entry
@@ -60,9 +58,9 @@ abbrev pub ram : ℕ → ℕ → Width → Entry
 ram lo hi w = Ram (console lo) (console hi) w
 
 -- where a number is missing, the line is outside the grammar
-unfoldable pub ◌>>=◌ : Number → (ℕ → Says) → Says
-◌>>=◌ (Is n) entry = entry n
-◌>>=◌ Not entry = Outside
+unfoldable pub ◌>>=◌ : Option ℕ → (ℕ → Says) → Says
+◌>>=◌ (Some n) entry = entry n
+◌>>=◌ None entry = Outside
 
 -- `$lo - $hi = $addr`
 unfoldable pub rom_line : List (List ℕ) → Says

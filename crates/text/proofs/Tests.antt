@@ -1,21 +1,20 @@
 -- What the code decides of a byte and the next: a law for each way out.
 use Prim.Native.Nat.{ℕ, zero, suc, ◌+◌, ◌<◌, ◌≤◌}
 use mathlib.Core.Path.{◌≡◌, refl, ap, ◌∙◌, sym}
-use mathlib.Core.Bool.{Bool, true, false, ◌&&◌, ◌||◌, not, cond}
+use mathlib.Core.Bool.{Bool, true, false, not, cond}
 use mathlib.Core.List.{List}
 use native.Mathlib.Omega.{arith}
 use native.Mathlib.Numerals.{add-one}
-use lib.Dec.{eqb, leb, ltb}
+use lib.Dec.{ltb}
 use lib.ListN.{length, get_or, drop, take, get_or-eq_default}
-use borrow.Author.Tests.{leb-true, ltb-true, ltb-false}
+use borrow.Author.Tests.{ltb-true, ltb-false}
 use Rattle.std.specs.List.{count_by}
 use Rattle.std.proofs.lemmas.List.{take_all}
 use Rattle.std.proofs.lemmas.List.Sums.{count_by_more_yes, count_by_more_no}
 use Rattle.basics.specs.Counts.{count}
-use Rattle.basics.specs.Laws.Tests.{cases, and_left, and_right}
-use Rattle.text.specs.Bytes.{tab, lf, cr_lf, allowed, foreign, until}
+use Rattle.basics.specs.Laws.Tests.{cases}
+use Rattle.text.specs.Bytes.{allowed, foreign, until}
 use Rattle.text.specs.Lines.{ends}
-use Rattle.text.specs.Spelling.{digit_of}
 use Rattle.text.specs.Laws.Bytes.{until_hit, until_miss}
 
 -- the first that is not allowed

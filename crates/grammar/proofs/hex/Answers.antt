@@ -9,8 +9,8 @@ returns-then-d-eq16 c = search hex_other
 pub overflow_add-n : goal.overflow_add-n
 overflow_add-n c = search (rules, sum_fits)
 
-pub loop-i-preserved : goal.loop-i-preserved
-loop-i-preserved c = search (rules, hex_grows, hex_digit)
+pub loop-b-preserved : goal.loop-b-preserved
+loop-b-preserved c = search (rules, hex_grows, hex_digit)
 
 pub returns : goal.returns
 returns c = search hex_end

@@ -1,18 +1,15 @@
 -- `grammar::read_line` meets its contract: no word, one word, or an entry by its section.
-use Rattle.grammar.proofs.Entries.{no_words, one_word, entry_nowhere, entry_mapping, entry_memattr}
+use Rattle.grammar.proofs.Entries.{no_words, one_word, more_words}
 use Rattle.grammar.proofs.read_line.Goals as goal
 
-pub returns-then-n-eq0 : goal.returns-then-n-eq0
-returns-then-n-eq0 c = search no_words
+pub returns-in-0 : goal.returns-in-0
+returns-in-0 c = search no_words
 
-pub returns-then-n-eq1 : goal.returns-then-n-eq1
-returns-then-n-eq1 c = search one_word
+pub returns-in-1 : goal.returns-in-1
+returns-in-1 c = search one_word
 
-pub returns-in-Nowhere : goal.returns-in-Nowhere
-returns-in-Nowhere c = search entry_nowhere
+pub returns-in-Some : goal.returns-in-Some
+returns-in-Some c = search (more_words, c.in-Some.ensures)
 
-pub returns-in-Mapping : goal.returns-in-Mapping
-returns-in-Mapping c = search entry_mapping
-
-pub returns-in-Memattr : goal.returns-in-Memattr
-returns-in-Memattr c = search entry_memattr
+pub returns-in-None : goal.returns-in-None
+returns-in-None c = search (more_words, c.in-None.ensures)

@@ -1,6 +1,6 @@
 -- Every number that a line names fits its type: a BIN offset has five hex digits at most, an address four, a page one.
-use Rattle.std.specs.Prelude.{ℕ, ◌≤◌, ◌-◌, ◌+◌, ◌<◌, ◌*◌, ◌^◌, suc, ◌≡◌, refl, Bool, true, cond, false, ◌&&◌, List, [], ◌∷◌, leb, eqb, length}
-use Rattle.std.proofs.Common.{◌∙◌, ap, sym, subst, arith, pow-suc, mul_assoc, lit≤, lit<, leb-true, eqb-true}
+use Rattle.std.specs.Prelude.{Option, Some, None, ℕ, ◌≤◌, ◌-◌, ◌+◌, ◌<◌, ◌*◌, ◌^◌, suc, ◌≡◌, refl, Bool, true, cond, false, ◌&&◌, List, [], ◌∷◌, leb, eqb, length}
+use Rattle.std.proofs.Common.{◌∙◌, ap, subst, arith, pow-suc, mul_assoc, lit≤, lit<, leb-true, eqb-true}
 use Rattle.std.proofs.Math.Nat.{pow-le-pow_right}
 use Rattle.std.proofs.lemmas.Bool.{eqb-false}
 use Rattle.basics.specs.Laws.Tests.{and_right, and_left}
@@ -8,8 +8,6 @@ use Rattle.places.specs.Limits.{chapter_pages}
 use Rattle.text.specs.Spelling.{is, digit_of}
 use Rattle.lines.specs.declared.Entry.{Entry}
 use Rattle.lines.specs.declared.Entry.TheVariants.{Rom, Paged, Ram}
-use Rattle.grammar.specs.declared.Number.TheVariants.{Not, Is}
-use Rattle.grammar.specs.declared.Number.{Number}
 use Rattle.grammar.specs.declared.Says.{Says}
 use Rattle.grammar.specs.declared.Says.TheVariants.{Blank, Heading, Claims, Outside}
 use Rattle.grammar.specs.declared.Section.{Section}
@@ -19,7 +17,7 @@ use Rattle.grammar.specs.Code.Steps.{Below}
 use Rattle.grammar.specs.Words.{words_of, word}
 
 -- hex digits
-not_is : {A : Type 0} {n : ℕ} → Not ≡ Is n → A
+not_is : {A : Type 0} {n : ℕ} → None ≡ Some n → A
 not_is e = let z : ◌≡◌ {A = ℕ} 0 1 = cc in absurd (omega arith)
 
 at_most : (t : Bool) (x y : ℕ) → (t ≡ true → x ≤ 16) → y ≤ 16 → cond t x y ≤ 16
@@ -33,13 +31,13 @@ digit_most b =
     (at_most (leb 97 b && leb b 102) (b - 97 + 10) 16 (λ e. let k : b ≤ 102 = leb-true b 102 (and_right (leb 97 b) (leb b 102) e) in omega arith)
     (lit≤ tt)))
 
-hex_below : (w : List ℕ) (n m b : ℕ) → n < b → hex_from n w ≡ Is m → m < b * 16 ^ length w
+hex_below : (w : List ℕ) (n m b : ℕ) → n < b → hex_from n w ≡ Some m → m < b * 16 ^ length w
 unfolding hex_from
 hex_below [] n m b h e = let q : n ≡ m = cc in omega arith
 hex_below (x ∷ w) n m b h e = go (eqb (digit_of x) 16) refl e (hex_below w (n * 16 + digit_of x) m (b * 16))
   where
-    go : (t : Bool) → eqb (digit_of x) 16 ≡ t → cond t Not (hex_from (n * 16 + digit_of x) w) ≡ Is m
-        → (n * 16 + digit_of x < b * 16 → hex_from (n * 16 + digit_of x) w ≡ Is m → m < b * 16 * 16 ^ length w) → m < b * 16 ^ suc (length w)
+    go : (t : Bool) → eqb (digit_of x) 16 ≡ t → cond t None (hex_from (n * 16 + digit_of x) w) ≡ Some m
+        → (n * 16 + digit_of x < b * 16 → hex_from (n * 16 + digit_of x) w ≡ Some m → m < b * 16 * 16 ^ length w) → m < b * 16 ^ suc (length w)
     go true q f ih = not_is f
     go false q f ih =
         let d : digit_of x ≡ 16 → ⊥ = eqb-false (digit_of x) 16 q in
@@ -53,7 +51,7 @@ unfolding dollar
 dollar_below most [] n e = not_is e
 dollar_below most (x ∷ w) n e = go (leb 1 (length w) && leb (length w) most && eqb x 36) refl e
   where
-    go : (t : Bool) → (leb 1 (length w) && leb (length w) most && eqb x 36) ≡ t → cond t (hex_of w) Not ≡ Is n → n < 16 ^ most
+    go : (t : Bool) → (leb 1 (length w) && leb (length w) most && eqb x 36) ≡ t → cond t (hex_of w) None ≡ Some n → n < 16 ^ most
     go false q f = not_is f
     go true q f =
         let l : length w ≤ most =
@@ -65,25 +63,15 @@ pub digit_below : (w : List ℕ) → Below chapter_pages (one_digit w)
 unfolding one_digit
 digit_below w n e = go (eqb (length w) 1) refl e
   where
-    go : (t : Bool) → eqb (length w) 1 ≡ t → cond t (hex_of w) Not ≡ Is n → n < 16
+    go : (t : Bool) → eqb (length w) 1 ≡ t → cond t (hex_of w) None ≡ Some n → n < 16
     go false q f = not_is f
     go true q f =
         let l : 16 ^ length w ≡ 16 = ap (λ (k : ℕ). 16 ^ k) (eqb-true (length w) 1 q) in
         omega (arith, hex_below w 0 n 1 (lit< tt) f)
 
-after_below : (m : ℕ) (t : Bool) (x : Number) → Below m x → Below m (after t x)
+after_below : (m : ℕ) (t : Bool) (x : Option ℕ) → Below m x → Below m (after t x)
 after_below m true x h n e = h n e
 after_below m false x h n e = not_is e
-
--- the numbers that the code casts
-pub address_fits : (w : List ℕ) (x : Number) → x ≡ address w → Below 65536 x
-address_fits w x e n q = dollar_below 4 w n (sym e ∙ q)
-
-pub after_fits : (w : List ℕ) (t : Bool) (x y : Number) → y ≡ after t x → x ≡ address w → Below 65536 y
-after_fits w t x y f e n q = after_below 65536 t (address w) (dollar_below 4 w) n (ap (after t) (sym e) ∙ sym f ∙ q)
-
-pub digit_fits : (w : List ℕ) (t : Bool) (x y : Number) → y ≡ after t x → x ≡ one_digit w → Below 256 y
-digit_fits w t x y f e n q = let l : n < 16 = after_below 16 t (one_digit w) (digit_below w) n (ap (after t) (sym e) ∙ sym f ∙ q) in omega arith
 
 -- what an entry names: BIN offsets below 2^20, addresses below 2^16, a page below 16
 abbrev pub Fitting : Entry → Type 0
@@ -102,16 +90,16 @@ sound_of : (e : Entry) → Fitting e → Sound (Claims e)
 sound_of e h f q = let z : e ≡ f = cc in subst Fitting z h
 
 -- a number that is there goes on, and must be below its bound there
-bind_sound : (m : ℕ) (x : Number) (k : ℕ → Says) → Below m x → ((n : ℕ) → n < m → Sound (k n)) → Sound (◌>>=◌ x k)
+bind_sound : (m : ℕ) (x : Option ℕ) (k : ℕ → Says) → Below m x → ((n : ℕ) → n < m → Sound (k n)) → Sound (◌>>=◌ x k)
 unfolding ◌>>=◌
-bind_sound m Not k h f = sound_outside
-bind_sound m (Is n) k h f = f n (h n refl)
+bind_sound m None k h f = sound_outside
+bind_sound m (Some n) k h f = f n (h n refl)
 
 -- any number will do
-bind_any : (x : Number) (k : ℕ → Says) → ((n : ℕ) → Sound (k n)) → Sound (◌>>=◌ x k)
+bind_any : (x : Option ℕ) (k : ℕ → Says) → ((n : ℕ) → Sound (k n)) → Sound (◌>>=◌ x k)
 unfolding ◌>>=◌
-bind_any Not k f = sound_outside
-bind_any (Is n) k f = f n
+bind_any None k f = sound_outside
+bind_any (Some n) k f = f n
 
 module _ (ws : List (List ℕ)) where
   offset_0 : Below 0x100000 (offset (word ws 0))

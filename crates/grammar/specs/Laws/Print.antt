@@ -1,5 +1,5 @@
 -- An entry's text says that entry, where its numbers have as many digits.
-use Rattle.std.specs.Prelude.{◌%◌, ◌*◌, ◌+◌, ◌-◌, ◌/◌, ◌<◌, ◌≤◌, ℕ, ◌≡◌, refl, List, [], ◌++◌, ◌∷◌, ltb}
+use Rattle.std.specs.Prelude.{Some, ◌%◌, ◌*◌, ◌+◌, ◌-◌, ◌/◌, ◌<◌, ◌≤◌, ℕ, ◌≡◌, refl, List, [], ◌++◌, ◌∷◌, ltb}
 use Prim.Native.Char.{code}
 use Rattle.std.proofs.Common.{◌∙◌, ap, arith, le-leb, ltb-false, ltb-true, ne_eqb}
 use Rattle.std.proofs.lemmas.Bool.{lt-leb}
@@ -11,7 +11,6 @@ use Rattle.lines.specs.declared.Width.TheVariants.{Eight, Sixteen}
 use Rattle.grammar.specs.Grammar.{◌>>=◌, bits, dollar, heading_line, hex_from, line_says, mapping_line, memattr_line, one_digit, paged, paged_line, ram, ram_line, rom, rom_line, words_say}
 use Rattle.grammar.specs.Print.{entry_text, five_digits, four_digits}
 use Rattle.grammar.specs.Words.{Cut, cut, words_after}
-use Rattle.grammar.specs.declared.Number.TheVariants.{Is}
 use Rattle.grammar.specs.declared.Says.TheVariants.{Claims, Heading}
 use Rattle.grammar.specs.declared.Section.{Section}
 use Rattle.grammar.specs.declared.Section.TheVariants.{Mapping, Memattr}
@@ -63,7 +62,7 @@ hex_more : (n b d : ℕ) (w : List ℕ) → Digit b d → hex_from n (b ∷ w) �
 unfolding hex_from
 hex_more n b d w i = rw (i.value, ne_eqb d 16 (omega (arith, i.below)))
 
-hex_end : (n : ℕ) → hex_from n [] ≡ Is n
+hex_end : (n : ℕ) → hex_from n [] ≡ Some n
 unfolding hex_from
 hex_end n = refl
 
@@ -73,7 +72,7 @@ nibble n = omega arith
 joined_four : (k a b c d n x y : ℕ) → n ≡ x * 16 + d → x ≡ y * 16 + c → y ≡ a * 16 + b → (((k * 16 + a) * 16 + b) * 16 + c) * 16 + d ≡ k * 65536 + n
 joined_four k a b c d n x y e f g = omega arith
 
-pub hex_four : (k n : ℕ) → n < 65536 → hex_from k (upper_digit (n / 4096 % 16) ∷ upper_digit (n / 256 % 16) ∷ upper_digit (n / 16 % 16) ∷ upper_digit (n % 16) ∷ []) ≡ Is (k * 65536 + n)
+pub hex_four : (k n : ℕ) → n < 65536 → hex_from k (upper_digit (n / 4096 % 16) ∷ upper_digit (n / 256 % 16) ∷ upper_digit (n / 16 % 16) ∷ upper_digit (n % 16) ∷ []) ≡ Some (k * 65536 + n)
 hex_four k n h =
     let e : n ≡ n / 16 * 16 + n % 16 = omega arith in
     let f : n / 16 ≡ n / 256 * 16 + n / 16 % 16 = omega arith in
@@ -84,13 +83,13 @@ hex_four k n h =
     ∙ hex_more ((k * 16 + n / 4096 % 16) * 16 + n / 256 % 16) _ _ _ (digit_is (n / 16 % 16) (nibble (n / 16)))
     ∙ hex_more (((k * 16 + n / 4096 % 16) * 16 + n / 256 % 16) * 16 + n / 16 % 16) _ _ _ (digit_is (n % 16) (nibble n))
     ∙ hex_end ((((k * 16 + n / 4096 % 16) * 16 + n / 256 % 16) * 16 + n / 16 % 16) * 16 + n % 16)
-    ∙ ap Is (joined_four k (n / 4096 % 16) (n / 256 % 16) (n / 16 % 16) (n % 16) n (n / 16) (n / 256) e f g)
+    ∙ ap Some (joined_four k (n / 4096 % 16) (n / 256 % 16) (n / 16 % 16) (n % 16) n (n / 16) (n / 256) e f g)
 
-pub dollar_four : (n : ℕ) → n < 65536 → dollar 4 (four_digits n) ≡ Is n
+pub dollar_four : (n : ℕ) → n < 65536 → dollar 4 (four_digits n) ≡ Some n
 unfolding dollar
-dollar_four n h = hex_four 0 n h ∙ ap Is (omega arith)
+dollar_four n h = hex_four 0 n h ∙ ap Some (omega arith)
 
-pub dollar_five : (n : ℕ) → n < 0x100000 → dollar 5 (five_digits n) ≡ Is n
+pub dollar_five : (n : ℕ) → n < 0x100000 → dollar 5 (five_digits n) ≡ Some n
 unfolding dollar
 dollar_five n h =
     let t : n / 65536 % 16 ≡ n / 65536 = omega arith in
@@ -98,13 +97,13 @@ dollar_five n h =
     let b : n % 65536 / 256 % 16 ≡ n / 256 % 16 = omega arith in
     let c : n % 65536 / 16 % 16 ≡ n / 16 % 16 = omega arith in
     let d : n % 65536 % 16 ≡ n % 16 = omega arith in
-    let e : hex_from (0 * 16 + n / 65536 % 16) (upper_digit (n / 4096 % 16) ∷ upper_digit (n / 256 % 16) ∷ upper_digit (n / 16 % 16) ∷ upper_digit (n % 16) ∷ []) ≡ Is ((0 * 16 + n / 65536 % 16) * 65536 + n % 65536) =
+    let e : hex_from (0 * 16 + n / 65536 % 16) (upper_digit (n / 4096 % 16) ∷ upper_digit (n / 256 % 16) ∷ upper_digit (n / 16 % 16) ∷ upper_digit (n % 16) ∷ []) ≡ Some ((0 * 16 + n / 65536 % 16) * 65536 + n % 65536) =
     rw (a, b, c, d) at (hex_four (0 * 16 + n / 65536 % 16) (n % 65536) (omega arith)) in
-    hex_more 0 _ _ _ (digit_is (n / 65536 % 16) (nibble (n / 65536))) ∙ e ∙ ap Is (rw t (omega arith))
+    hex_more 0 _ _ _ (digit_is (n / 65536 % 16) (nibble (n / 65536))) ∙ e ∙ ap Some (rw t (omega arith))
 
-page_is : (y : ℕ) → y < 16 → one_digit (upper_digit y ∷ []) ≡ Is y
+page_is : (y : ℕ) → y < 16 → one_digit (upper_digit y ∷ []) ≡ Some y
 unfolding one_digit
-page_is y h = hex_more 0 _ _ _ (digit_is y h) ∙ hex_end (0 * 16 + y) ∙ ap Is (omega arith)
+page_is y h = hex_more 0 _ _ _ (digit_is y h) ∙ hex_end (0 * 16 + y) ∙ ap Some (omega arith)
 
 -- the words of an entry's text
 abbrev cut_as : List ℕ → List (List ℕ) → Cut
