@@ -5,6 +5,7 @@ pub mod Bytes
 pub mod Tables
 pub mod Filling
 pub mod Counts
+pub mod Ranges
 pub mod Joined
 pub mod Rows
 pub mod Refusals

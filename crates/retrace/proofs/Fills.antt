@@ -2,21 +2,17 @@
 use Prim.Native.Nat.{◌%◌, ◌*◌, ◌+◌, ◌/◌, ◌<◌, ◌≤◌, ℕ}
 use mathlib.Core.List.{List, []}
 use mathlib.Core.Path.{◌∙◌, ◌≡◌, ap, refl}
-use mathlib.Core.Bool.{Bool, ◌&&◌, false, true}
+use mathlib.Core.Bool.{Bool, false}
 use native.Mathlib.Omega.{arith}
 use native.Mathlib.Numerals.{add-one}
-use lib.Dec.{eqb}
 use lib.ListN.{get_or, length, length-replicate, replicate, set}
-use Rattle.basics.specs.Counts.{all}
-use Rattle.basics.specs.Laws.Counts.{all_more, all_none}
 use Rattle.basics.specs.Laws.Tables.{Filled, filled_all, filled_more, filled_none, get_d_table}
 use Rattle.basics.specs.Tables.{table}
-use Rattle.places.specs.Limits.{chapters, flip_entries, layers, locutus_paragraphs, paragraphs, slots}
+use Rattle.places.specs.Limits.{chapters, flip_entries, layers, paragraphs, slots}
 use Rattle.tables.specs.Tables.{tables}
 use Rattle.plan.specs.Image.{size}
 use Rattle.plan.specs.Plan.{Chapter, has_page, kinds}
 use Rattle.behind.specs.Behind.{base_behind}
-use Rattle.retrace.specs.Code.Named.{named_in, word_named}
 use Rattle.retrace.specs.Code.Shown.{chapter_of, marked_in, plan_from, shown_at, shown_behind, sketch_of}
 use Rattle.retrace.specs.Laws.Behind.{chapter_behind_lem}
 use Rattle.retrace.specs.declared.row.Shown.{Shown}
@@ -68,66 +64,16 @@ module _ (ps fs : List ℕ) (ms : List Bool) where
   row_at : (rows : List Shown) (x : ℕ) → rows ≡ table chapters (shown_behind ps fs ms) → x < 16 → get_or rows x blank_row ≡ shown_behind ps fs ms x
   row_at rows x e h = rw e (get_d_table blank_row chapters (shown_behind ps fs ms) x h)
 
-  abbrev pub Kinds : List ℕ → ℕ → Type 0
-  Kinds ks p = Filled 0 paragraphs (kinds (plan_from ps fs ms)) p ks
+  pub kinds_at : (rows : List Shown) (p v : ℕ) → rows ≡ table chapters (shown_behind ps fs ms) → p < paragraphs
+      → v ≡ (chapter_of ps ps (get_or rows (p / 16) blank_row) (p / 16)).kind (p % 16) → v ≡ kinds (plan_from ps fs ms) p
+  kinds_at rows p v er h ev =
+      ev ∙ rw (row_at rows (p / 16) er (omega arith)) (ap (λ (d : Chapter). d.kind (p % 16)) (chapter_behind_lem ps fs ms (p / 16) (base (p / 16))))
 
-  pub kinds_none : (ks : List ℕ) → length ks ≡ paragraphs → Kinds ks 0
-  kinds_none ks e = filled_none 0 paragraphs (kinds (plan_from ps fs ms)) ks e
-
-  pub kinds_more : (rows : List Shown) (ks : List ℕ) (p v : ℕ) → rows ≡ table chapters (shown_behind ps fs ms) → Kinds ks p → p < paragraphs
-      → v ≡ (chapter_of ps ps (get_or rows (p / 16) blank_row) (p / 16)).kind (p % 16) → Kinds (set ks p v) (p + 1)
-  kinds_more rows ks p v er c h ev =
-      filled_more 0 paragraphs (kinds (plan_from ps fs ms)) p v ks c h
-      (ev ∙ rw (row_at rows (p / 16) er (omega arith)) (ap (λ (d : Chapter). d.kind (p % 16)) (chapter_behind_lem ps fs ms (p / 16) (base (p / 16)))))
-
-  pub kinds_all : (ks : List ℕ) (p : ℕ) → Kinds ks p → paragraphs ≤ p → ks ≡ table paragraphs (kinds (plan_from ps fs ms))
-  kinds_all ks p c h = filled_all 0 paragraphs (kinds (plan_from ps fs ms)) p ks c h
-
-  abbrev pub Pages : List Bool → ℕ → Type 0
-  Pages gs n = Filled false flip_entries (has_page (plan_from ps fs ms)) n gs
-
-  pub pages_none : (gs : List Bool) → length gs ≡ flip_entries → Pages gs 0
-  pages_none gs e = filled_none false flip_entries (has_page (plan_from ps fs ms)) gs e
-
-  pub pages_more : (rows : List Shown) (gs : List Bool) (n : ℕ) (v : Bool) → rows ≡ table chapters (shown_behind ps fs ms) → Pages gs n → n < flip_entries
-      → v ≡ (chapter_of fs fs (get_or rows (n / 16) blank_row) (n / 16)).page (n % 16) → Pages (set gs n v) (n + 1)
-  pages_more rows gs n v er c h ev =
-      filled_more false flip_entries (has_page (plan_from ps fs ms)) n v gs c h
-      (ev ∙ rw (row_at rows (n / 16) er (omega arith)) (ap (λ (d : Chapter). d.page (n % 16)) (chapter_behind_lem ps fs ms (n / 16) (base (n / 16)))))
-
-  pub pages_all : (gs : List Bool) (n : ℕ) → Pages gs n → flip_entries ≤ n → gs ≡ table flip_entries (has_page (plan_from ps fs ms))
-  pages_all gs n c h = filled_all false flip_entries (has_page (plan_from ps fs ms)) n gs c h
+  pub pages_at : (rows : List Shown) (n : ℕ) (v : Bool) → rows ≡ table chapters (shown_behind ps fs ms) → n < flip_entries
+      → v ≡ (chapter_of fs fs (get_or rows (n / 16) blank_row) (n / 16)).page (n % 16) → v ≡ has_page (plan_from ps fs ms) n
+  pages_at rows n v er h ev =
+      ev ∙ rw (row_at rows (n / 16) er (omega arith)) (ap (λ (d : Chapter). d.page (n % 16)) (chapter_behind_lem ps fs ms (n / 16) (base (n / 16))))
 
   pub sketch_is : (ks : List ℕ) (gs : List Bool) → ks ≡ table paragraphs (kinds (plan_from ps fs ms)) → gs ≡ table flip_entries (has_page (plan_from ps fs ms))
       → ◌≡◌ {A = Sketch} (record { kinds = ks; pages = gs }) (sketch_of (plan_from ps fs ms))
   sketch_is ks gs ek eg = rw (ek, eg)
-
--- the words of a paragraph
-module _ (zs os : List ℕ) where
-  pub record Words (p : ℕ) (r : Bool) (i : ℕ) : Type 0 where
-    pub up : i ≤ 256
-    pub is : r ≡ all i (λ j. word_named zs os (256 * p + j))
-
-  pub words_none : (p : ℕ) → Words p true 0
-  words_none p = record { up = omega arith; is = all_none (λ j. word_named zs os (256 * p + j)) }
-
-  pub words_more : (p : ℕ) (r : Bool) (i : ℕ) (v : Bool) (a b : ℕ) → Words p r i → i < 256 → a ≡ get_or zs (256 * p + i) 0 → b ≡ get_or os (256 * p + i) 0 → v ≡ (eqb a b && r)
-      → Words p v (i + 1)
-  words_more p r i v a b c h ea eb ev =
-      record { up = omega arith; is = all_more (λ j. word_named zs os (256 * p + j)) i (eqb a b) r v c.is (rw (ea, eb)) ev }
-
-  pub words_all : (p : ℕ) (r : Bool) (i : ℕ) → Words p r i → 256 ≤ i → r ≡ named_in zs os p
-  words_all p r i c h = let z : i ≡ 256 = omega (arith, c.up) in c.is ∙ ap (λ (m : ℕ). all m (λ j. word_named zs os (256 * p + j))) z
-
-  -- marks
-  abbrev pub Marks : List Bool → ℕ → Type 0
-  Marks ms p = Filled false locutus_paragraphs (named_in zs os) p ms
-
-  pub marks_none : (ms : List Bool) → length ms ≡ locutus_paragraphs → Marks ms 0
-  marks_none ms e = filled_none false locutus_paragraphs (named_in zs os) ms e
-
-  pub marks_more : (ms : List Bool) (p : ℕ) (v : Bool) → Marks ms p → p < locutus_paragraphs → v ≡ named_in zs os p → Marks (set ms p v) (p + 1)
-  marks_more ms p v c h e = filled_more false locutus_paragraphs (named_in zs os) p v ms c h e
-
-  pub marks_all : (ms : List Bool) (p : ℕ) → Marks ms p → locutus_paragraphs ≤ p → ms ≡ table locutus_paragraphs (named_in zs os)
-  marks_all ms p c h = filled_all false locutus_paragraphs (named_in zs os) p ms c h

@@ -16,6 +16,7 @@ use places::{
     CHAPTER_PAGES, CHAPTER_PARAGRAPHS, CHAPTERS, FLIP_ENTRIES, LOCUTUS_PARAGRAPHS, PARAGRAPHS,
 };
 use row::{Shown, kind_of, page_of, row_at, size_of};
+use std::array;
 
 // What each chapter's row of flip entries shows: each behind the Locutus pages of those before it.
 fn rows_of(
@@ -32,12 +33,10 @@ fn rows_of(
     };
     let mut rows = [blank; CHAPTERS];
     let mut b = 0;
-    let mut x = 0;
-    while x < CHAPTERS {
+    for x in 0..CHAPTERS {
         let s = row_at(flips, marks, x, b);
         rows[x] = s;
-        b = b + size_of(permissions, flips, s, x);
-        x += 1;
+        b += size_of(permissions, flips, s, x);
     }
     rows
 }
@@ -52,15 +51,10 @@ fn kinds_of(
     requires { rows ≡ table chapters (shown_behind permissions.now flips.now marks.now) }
     ensures { result ≡ table paragraphs (kinds (plan_from permissions.now flips.now marks.now)) }
 {
-    let mut kinds = [0u8; PARAGRAPHS];
-    let mut p = 0;
-    while p < PARAGRAPHS {
+    array::from_fn(|p| {
         let x = p / CHAPTER_PARAGRAPHS;
-        let s = rows[x];
-        kinds[p] = kind_of(permissions, s, x, p % CHAPTER_PARAGRAPHS);
-        p += 1;
-    }
-    kinds
+        kind_of(permissions, rows[x], x, p % CHAPTER_PARAGRAPHS)
+    })
 }
 
 fn pages_of(
@@ -72,15 +66,10 @@ fn pages_of(
     requires { rows ≡ table chapters (shown_behind permissions.now flips.now marks.now) }
     ensures { result ≡ table flip_entries (has_page (plan_from permissions.now flips.now marks.now)) }
 {
-    let mut pages = [false; FLIP_ENTRIES];
-    let mut n = 0;
-    while n < FLIP_ENTRIES {
+    array::from_fn(|n| {
         let x = n / CHAPTER_PAGES;
-        let s = rows[x];
-        pages[n] = page_of(flips, s, x, n % CHAPTER_PAGES);
-        n += 1;
-    }
-    pages
+        page_of(flips, rows[x], x, n % CHAPTER_PAGES)
+    })
 }
 
 // The plan behind these permissions and flip entries, where the marked Locutus paragraphs are named.
@@ -92,7 +81,8 @@ pub fn plan_behind(
     ensures { result ≡ sketch_of (plan_from permissions.now flips.now marks.now) }
 {
     let rows = rows_of(permissions, flips, marks);
-    let kinds = kinds_of(permissions, flips, marks, rows);
-    let pages = pages_of(permissions, flips, marks, rows);
-    Sketch { kinds, pages }
+    Sketch {
+        kinds: kinds_of(permissions, flips, marks, rows),
+        pages: pages_of(permissions, flips, marks, rows),
+    }
 }

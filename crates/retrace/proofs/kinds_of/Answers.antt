@@ -1,13 +1,8 @@
--- `retrace::kinds_of` meets its contract. The loop's invariant: the first p kinds are there.
+-- `retrace::kinds_of` meets its contract.
 use borrow.Author.Rules.{rules}
-use Rattle.retrace.proofs.Fills.{kinds_none, kinds_more, kinds_all}
+use Rattle.basics.specs.Laws.Filling.{table_from_fn}
+use Rattle.retrace.proofs.Fills.{kinds_at}
 use Rattle.retrace.proofs.kinds_of.Goals as goal
 
-pub loop-p-init : goal.loop-p-init
-loop-p-init c = search (rules, kinds_none)
-
-pub loop-p-preserved : goal.loop-p-preserved
-loop-p-preserved c = search (rules, kinds_more)
-
 pub returns : goal.returns
-returns c = search (rules, kinds_all)
+returns c = table_from_fn _ _ _ _ (λ i y q l k. search (rules, kinds_at)) 0 _ c.from_fn.ensures.items

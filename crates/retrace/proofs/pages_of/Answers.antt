@@ -1,13 +1,8 @@
--- `retrace::pages_of` meets its contract. The loop's invariant: the first n pages are there.
-use borrow.Author.Rules.{rules}
-use Rattle.retrace.proofs.Fills.{pages_none, pages_more, pages_all}
+-- `retrace::pages_of` meets its contract.
+use Rattle.std.proofs.Common.{rules, false}
+use Rattle.basics.specs.Laws.Filling.{table_from_fn}
+use Rattle.retrace.proofs.Fills.{pages_at}
 use Rattle.retrace.proofs.pages_of.Goals as goal
 
-pub loop-n-init : goal.loop-n-init
-loop-n-init c = search (rules, pages_none)
-
-pub loop-n-preserved : goal.loop-n-preserved
-loop-n-preserved c = search (rules, pages_more)
-
 pub returns : goal.returns
-returns c = search (rules, pages_all)
+returns c = table_from_fn _ _ _ _ (λ i y q l k. search (rules, pages_at)) false _ c.from_fn.ensures.items

@@ -1,11 +1,7 @@
 -- `retrace::rows_of` meets its contract. The loop's invariant: the rows of the first x chapters are there, which have b pages.
-use Prim.Native.Nat.{◌-◌}
-use Rattle.places.specs.Limits.{chapters}
 use Rattle.retrace.proofs.Fills.{Rows}
 use Rattle.retrace.proofs.rows_of.Given as goal
 
 abbrev pub invariant-loop-x : goal.invariant-loop-x
 invariant-loop-x l = Rows l.permissions l.flips l.marks l.rows l.b l.x
 
-abbrev pub decreases-loop-x : goal.decreases-loop-x
-decreases-loop-x l = chapters - l.x

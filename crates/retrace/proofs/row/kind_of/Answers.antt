@@ -3,8 +3,8 @@ use borrow.Author.Rules.{rules}
 use Rattle.retrace.proofs.Rows.{kind_paged, kind_plain}
 use Rattle.retrace.proofs.row.kind_of.Goals as goal
 
-pub returns-then-both : goal.returns-then-both
-returns-then-both c = search (rules, kind_paged)
+pub returns-then-first_k-k : goal.returns-then-first_k-k
+returns-then-first_k-k c = search (rules, kind_paged)
 
 pub returns : goal.returns
 returns c = search (rules, kind_plain)
