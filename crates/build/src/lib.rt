@@ -4,7 +4,7 @@
 ghost use Rattle.std.specs.Prelude.{◌+◌, ◌*◌, ◌≤◌, ◌≡◌, false, ltb, length, take};
 ghost use Rattle.basics.specs.Bytes.{le32};
 ghost use Rattle.basics.specs.Lists.{part};
-ghost use Rattle.places.specs.Limits.{lent_limit, page_size};
+ghost use Rattle.places.specs.Limits.{lent_limit, line_limit, page_size};
 ghost use Rattle.label.specs.Label.{wrong_label};
 ghost use Rattle.save.specs.Writing.{writing_of, written_of};
 ghost use Rattle.cfg.specs.File.{entries_of};
@@ -189,15 +189,14 @@ fn press(
     bin: &[u8],
     cfg: &[u8],
     label: &[u8],
-    count: u32,
-    lines: [Line; LINE_LIMIT],
+    lines: &[Line],
     out: &mut [u8],
 ) -> Building
-    requires { Accepted bin.now (take count lines) }
-    ensures { Pressed bin.now cfg.now label.now (take count lines) out.old result out.new }
+    requires { Accepted bin.now (take line_limit lines.now) }
+    ensures { Pressed bin.now cfg.now label.now (take line_limit lines.now) out.old result out.new }
 {
     let mut ram = [0u16; LENT_LIMIT];
-    let d = layout::lay_out(bin, count, lines, &mut ram);
+    let d = layout::lay_out(bin, lines, &mut ram);
     if is_large(d.pages) {
         return refuse(basics::refuse(20, 0));
     }
@@ -220,7 +219,8 @@ fn build_lines(bin: &[u8], cfg: &[u8], label: &[u8], r: Reading, out: &mut [u8])
     if j.number != 0 {
         return refuse(j);
     }
-    press(bin, cfg, label, r.count, lines, out)
+    let n = (r.count as usize).min(LINE_LIMIT);
+    press(bin, cfg, label, &lines[..n], out)
 }
 
 // 22 to 24, then the lines, beside a BIN that 21 passes.

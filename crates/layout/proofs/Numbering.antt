@@ -7,6 +7,7 @@ use native.Mathlib.Omega.{arith}
 use native.Mathlib.Numerals.{add-one}
 use lib.ListN.{length, get_or, replicate, length-replicate, get_or-replicate, set, length-set}
 use lib.Dec.{eqb}
+use Rattle.std.proofs.lemmas.List.{set-get_or}
 use lib.Seq.{get_or-set_same, get_or-set_other}
 use borrow.Author.Tests.{eqb-true, eq-eqb, eqb-false, ne_eqb}
 use Rattle.basics.specs.Counts.{count, nth}
@@ -53,9 +54,9 @@ and_yes true c e = e
 and_yes false c e = refl
 
 module _ (used : List Bool) (page slot : List ℕ) (n s : ℕ) (c : Numbering used page slot n s) where
-  pub numbering_more : s < slots → (v k : ℕ) → v ≡ cond (is_used used s) s (get_or slot n 0) → (k ≡ cond (is_used used s) 1 0) × (k ≤ 1)
+  numbering_by : s < slots → (v k : ℕ) → v ≡ cond (is_used used s) s (get_or slot n 0) → (k ≡ cond (is_used used s) 1 0) × (k ≤ 1)
       → Numbering used (set page s n) (set slot n v) (n + k) (s + 1)
-  numbering_more h v k ev ek =
+  numbering_by h v k ev ek =
       record {
         up = omega arith;
         few = omega (arith, c.few, ek.1);
@@ -80,6 +81,14 @@ module _ (used : List Bool) (page slot : List ℕ) (n s : ℕ) (c : Numbering us
             (nth_next (is_used used) s i
             ∙ ap (λ (b : Bool). cond b s (nth (is_used used) s i)) (and_false (is_used used s) _ (ne_eqb (count (is_used used) s) i (λ z. d (sym (c.pages ∙ z)))))));
       }
+
+  pub numbering_used : s < slots → is_used used s ≡ true → Numbering used (set page s n) (set slot n s) (n + 1) (s + 1)
+  numbering_used h e = numbering_by h s 1 (rw e refl) (rw e refl, omega arith)
+
+  pub numbering_free : s < slots → is_used used s ≡ false → Numbering used (set page s n) slot n (s + 1)
+  numbering_free h e =
+      let z : n + 0 ≡ n = omega arith in
+      rw (set-get_or slot n 0, z) at (numbering_by h (get_or slot n 0) 0 (rw e refl) (rw e refl, omega arith))
 
   pub numbering_all : slots ≤ s → record { page = page; slot = slot; pages = n } ≡ numbered_of used
   unfolding numbered_of

@@ -10,5 +10,5 @@ one_draw κs a y z e f = same
 pub one_lay_out : OneAnswer lay_out.Learnt
 one_lay_out κs a y z e f p q = same p.0 q.0
 
-pub one_lay_out_ram : OneLent lay_out.Learnt (λ κs e. e.1.1.1.0.now)
+pub one_lay_out_ram : OneLent lay_out.Learnt (λ κs e. e.1.1.0.now)
 one_lay_out_ram κs a y z e f p q = same p.1 q.1

@@ -1,9 +1,8 @@
 -- The tables of a survey, place by place.
-use Prim.Native.Nat.{ℕ, ◌≤◌, ◌<◌, ◌+◌, ◌*◌, ◌-◌}
+use Prim.Native.Nat.{ℕ, ◌≤◌, ◌<◌, ◌+◌, ◌*◌}
 use mathlib.Core.List.{List}
 use mathlib.Core.Path.{◌≡◌, refl, sym, ap, ◌∙◌}
-use mathlib.Core.Bool.{Bool, true, false, cond, ◌||◌}
-use mathlib.Core.Option.{none, some}
+use mathlib.Core.Bool.{Bool, true, false, ◌||◌}
 use native.Mathlib.Omega.{arith}
 use lib.ListN.{get_or}
 use lib.Dec.{eqb, ltb}
@@ -11,22 +10,9 @@ use borrow.Author.Tests.{eq-eqb, ne_eqb, lt-ltb, le-ltb}
 use Rattle.basics.specs.Counts.{all}
 use Rattle.basics.specs.Laws.Counts.{all_at, all_of, all_more}
 use Rattle.basics.specs.Laws.Tests.{cases, true_is_not_false, or_left, or_right}
-use Rattle.places.specs.Limits.{line_limit, chapter_paragraphs, paragraphs}
+use Rattle.places.specs.Limits.{chapter_paragraphs}
 use Rattle.switches.specs.Flips.{first_k}
-use Rattle.lines.specs.declared.Line.{Line}
-use Rattle.lines.specs.Kinds.{kind_by, kind_of}
-use Rattle.layout.specs.Code.Survey.{under_in, Few}
-
--- a number's line is one of the lines
-pub few_place : (o : List ℕ) → Few o → (p i : ℕ) → p < paragraphs → i ≡ get_or o p 0 - 1 → i < line_limit
-few_place o f p i h e = omega (arith, f.each p (omega arith))
-
--- the kind of a line, and of none
-pub kind_none : (n : ℕ) (l : Line) → n ≡ 0 → 0 ≡ kind_of (cond (eqb n 0) none (some l))
-kind_none n l h = rw (eq-eqb n 0 h)
-
-pub kind_some : (n k : ℕ) (l : Line) → (n ≡ 0 → ⊥) → k ≡ kind_by l.entry → k ≡ kind_of (cond (eqb n 0) none (some l))
-kind_some n k l h e = rw (ne_eqb n 0 h) e
+use Rattle.layout.specs.Code.Survey.{under_in}
 
 -- plain ROM throughout, k paragraphs of a chapter
 abbrev pub rom_at : List ℕ → ℕ → ℕ → Bool

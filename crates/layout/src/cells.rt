@@ -1,26 +1,22 @@
-// Which line is behind each cell, a paragraph of a layer: the first of the lines that holds it, by its number from 1 on.
-ghost use Rattle.std.specs.Prelude.{◌≤◌, ◌-◌, ◌≡◌, take};
+// Which line is behind each cell, a paragraph of a layer: the first of the lines that holds it, by its number from 1 on, and 0
+// where there is none. As options the numbers would take twice the memory.
+ghost use Rattle.std.specs.Prelude.{◌≤◌, ◌≡◌, length};
 ghost use Rattle.places.specs.Limits.{line_limit};
-ghost use Rattle.layout.specs.Code.Survey.{takes, claimed, Cells};
+ghost use Rattle.layout.specs.Code.Survey.{claimed, Cells};
+ghost use Rattle.layout.specs.Code.Pour.{numbered};
 
-use basics::both;
 use lines::{Entry, Line, layer_of};
-use places::{CELLS, Console, LAYERS, LINE_LIMIT, PARAGRAPH_SIZE, PARAGRAPHS};
+use places::{CELLS, Console, LAYERS, PARAGRAPH_SIZE, PARAGRAPHS};
 
-// The place of the line of a number; any place where the number is 0.
-pub(crate) fn place_of(number: u8) -> usize
-    ensures { result ≡ number - 1 }
+// The line of a number.
+pub(crate) fn line_of(lines: &[Line], number: u8) -> Option<Line>
+    requires { number ≤ length lines.now }
+    ensures { result ≡ numbered lines.now number }
 {
-    if number == 0 { 0 } else { number as usize - 1 }
-}
-
-fn taken(held: bool, number: u8, owner: u8) -> u8
-    ensures { result ≡ takes held number owner }
-{
-    if both(held, owner == 0) {
-        number
+    if number == 0 {
+        None
     } else {
-        owner
+        Some(lines[usize::from(number) - 1])
     }
 }
 
@@ -32,26 +28,21 @@ fn claim(numbers: &mut [u8; CELLS], e: Entry, number: u8)
     if LAYERS <= t {
         return;
     }
-    let mut p = 0;
-    while p < PARAGRAPHS {
-        let held = lines::holds(e, Console((PARAGRAPH_SIZE * p) as u16));
+    for p in 0..PARAGRAPHS {
         let i = PARAGRAPHS * t + p;
-        numbers[i] = taken(held, number, numbers[i]);
-        p += 1;
+        if numbers[i] == 0 && lines::holds(e, Console((PARAGRAPH_SIZE * p) as u16)) {
+            numbers[i] = number;
+        }
     }
 }
 
-pub(crate) fn cells_of(n: usize, lines: [Line; LINE_LIMIT]) -> [u8; CELLS]
-    requires { n ≤ line_limit }
-    ensures { Cells lines (take n lines) result }
+pub(crate) fn cells_of(lines: &[Line]) -> [u8; CELLS]
+    requires { length lines.now ≤ line_limit }
+    ensures { Cells lines.now lines.now result }
 {
     let mut numbers = [0u8; CELLS];
-    let mut k = 0;
-    while k < n {
-        let l = lines[k];
-        let e = l.entry;
-        claim(&mut numbers, e, (k + 1) as u8);
-        k += 1;
+    for k in 0..lines.len() {
+        claim(&mut numbers, lines[k].entry, (k + 1) as u8);
     }
     numbers
 }

@@ -10,6 +10,7 @@ mod pour;
 mod survey;
 
 ghost use Rattle.std.specs.Prelude.{◌≡◌, take};
+ghost use Rattle.places.specs.Limits.{line_limit};
 ghost use Rattle.layout.specs.Drawing.{drawing_of, ram_of};
 ghost use Rattle.layout.specs.Code.Entries.{drawn_by};
 
@@ -44,18 +45,19 @@ fn drawn(s: &Survey) -> Drawing
     }
 }
 
-// The tables, pages and marks of a CFG's lines.
-pub fn draw(count: u32, lines: [Line; LINE_LIMIT]) -> Drawing
-    ensures { result ≡ drawing_of (take count lines) }
+// The tables, pages and marks of lines, of which as many count as a CFG may have.
+pub fn draw(lines: &[Line]) -> Drawing
+    ensures { result ≡ drawing_of (take line_limit lines.now) }
 {
-    drawn(&survey_of(count, lines))
+    drawn(&survey_of(&lines[..LINE_LIMIT.min(lines.len())]))
 }
 
 // The same, with the words of all pages laid into a RAM.
-pub fn lay_out(bin: &[u8], count: u32, lines: [Line; LINE_LIMIT], ram: &mut [u16]) -> Drawing
-    ensures { (result ≡ drawing_of (take count lines)) × (ram.new ≡ ram_of bin.now (take count lines) ram.old) }
+pub fn lay_out(bin: &[u8], lines: &[Line], ram: &mut [u16]) -> Drawing
+    ensures { (result ≡ drawing_of (take line_limit lines.now)) × (ram.new ≡ ram_of bin.now (take line_limit lines.now) ram.old) }
 {
-    let s = survey_of(count, lines);
+    let lines = &lines[..LINE_LIMIT.min(lines.len())];
+    let s = survey_of(lines);
     pour(bin, lines, &s, ram);
     drawn(&s)
 }

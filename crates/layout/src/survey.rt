@@ -1,18 +1,16 @@
 // The survey of some lines, table by table.
-ghost use Rattle.std.specs.Prelude.{◌/◌, ◌%◌, ◌<◌, ◌≡◌, cond, eqb, take};
-ghost use Rattle.std.proofs.Math.Option.{none, some};
+ghost use Rattle.std.specs.Prelude.{◌/◌, ◌%◌, ◌<◌, ◌≤◌, ◌≡◌, length};
 ghost use Rattle.basics.specs.Tables.{table};
-ghost use Rattle.places.specs.Limits.{chapters, layers, slots, paragraphs};
+ghost use Rattle.places.specs.Limits.{line_limit, chapters, layers, slots, paragraphs};
 ghost use Rattle.lines.specs.Kinds.{kind_of};
-ghost use Rattle.layout.specs.Code.Survey.{Few, used_in, paged_in, kind_in, under_in, Surveyed};
+ghost use Rattle.layout.specs.Code.Survey.{line_of, Few, used_in, paged_in, kind_in, under_in, Surveyed};
 
-use crate::cells::{cells_of, place_of};
+use crate::cells::{cells_of, line_of};
 use crate::found::Survey;
 use crate::pages::{Numbered, number};
-use basics::least;
 use lines::{Line, kind_of};
 use places::{
-    CELLS, CHAPTER_PAGES, CHAPTER_PARAGRAPHS, CHAPTERS, LAYERS, LINE_LIMIT, PARAGRAPHS, SLOTS,
+    CELLS, CHAPTER_PAGES, CHAPTER_PARAGRAPHS, CHAPTERS, LAYERS, PARAGRAPHS, SLOTS,
 };
 use std::array;
 
@@ -54,22 +52,22 @@ fn paged_of(used: &[bool; SLOTS]) -> [bool; CHAPTERS]
     array::from_fn(|x| is_paged(used, x))
 }
 
-// The kind of a line that may be none.
-fn kind_if(number: u8, l: Line) -> u8
-    ensures { result ≡ kind_of (cond (eqb number 0) none (some l)) }
+// The kind of the line of a number.
+fn kind_at(lines: &[Line], number: u8) -> u8
+    requires { number ≤ length lines.now }
+    ensures { result ≡ kind_of (line_of lines.now number) }
 {
-    let e = l.entry;
-    if number == 0 {
-        return 0;
+    match line_of(lines, number) {
+        Some(line) => kind_of(line.entry),
+        None => 0,
     }
-    kind_of(e)
 }
 
-fn kinds_of(numbers: &[u8; CELLS], lines: [Line; LINE_LIMIT]) -> [u8; PARAGRAPHS]
-    requires { Few numbers.now }
-    ensures { result ≡ table paragraphs (kind_in lines numbers.now) }
+fn kinds_of(numbers: &[u8; CELLS], lines: &[Line]) -> [u8; PARAGRAPHS]
+    requires { Few lines.now numbers.now }
+    ensures { result ≡ table paragraphs (kind_in lines.now numbers.now) }
 {
-    array::from_fn(|p| kind_if(numbers[p], lines[place_of(numbers[p])]))
+    array::from_fn(|p| kind_at(lines, numbers[p]))
 }
 
 // Whether plain ROM covers the flippable range of chapter x.
@@ -91,10 +89,11 @@ fn under_of(kinds: &[u8; PARAGRAPHS]) -> [bool; CHAPTERS]
     array::from_fn(|x| is_under(kinds, x))
 }
 
-pub(crate) fn survey_of(count: u32, lines: [Line; LINE_LIMIT]) -> Survey
-    ensures { Surveyed lines (take count lines) result }
+pub(crate) fn survey_of(lines: &[Line]) -> Survey
+    requires { length lines.now ≤ line_limit }
+    ensures { Surveyed lines.now result }
 {
-    let cells = cells_of(least(count as usize, LINE_LIMIT), lines);
+    let cells = cells_of(lines);
     let kinds = kinds_of(&cells, lines);
     let used = used_of(&cells);
     let paged = paged_of(&used);

@@ -83,7 +83,7 @@ fn listing_fits(
         return false;
     }
     let lines = l.lines;
-    let d = layout::draw(n as u32, lines);
+    let d = layout::draw(&lines[..n]);
     both(
         drawing_fits(d, mapping, permissions, flips, zeros, ones, named),
         ram_fits(s, zeros),

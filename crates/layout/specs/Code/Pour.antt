@@ -1,14 +1,18 @@
 -- The words of each Locutus paragraph, by a survey.
-use Rattle.std.specs.Prelude.{ℕ, ◌+◌, ◌*◌, ◌-◌, ◌/◌, ◌%◌, ◌<◌, ◌≤◌, min, List, ◌≡◌, length, get_or}
+use Rattle.std.specs.Prelude.{Option, Some, None, cond, eqb, ℕ, ◌+◌, ◌*◌, ◌-◌, ◌/◌, ◌%◌, ◌<◌, ◌≤◌, min, List, ◌≡◌, length, get_or}
 use Rattle.basics.specs.Lists.{laid}
 use Rattle.places.specs.Places.{console}
-use Rattle.places.specs.Limits.{line_limit, cells, paragraph_size, page_paragraphs}
+use Rattle.places.specs.Limits.{cells, paragraph_size, page_paragraphs}
 use Rattle.lines.specs.declared.Line.{Line}
 use Rattle.lines.specs.Lines.{first}
 use Rattle.layout.specs.declared.found.Survey.{Survey}
 use Rattle.layout.specs.Layout.{written_of}
 use Rattle.layout.specs.Code.Survey.{no_line, line_of}
 use Rattle.layout.specs.Code.Entries.{paragraph_in, held_in}
+
+-- the line of a number, as the code hands it out
+abbrev pub numbered : List Line → ℕ → Option Line
+numbered lines n = cond (eqb n 0) None (Some (get_or lines (n - 1) no_line))
 
 -- word w of a BIN
 unfoldable pub word_in : List ℕ → ℕ → ℕ
@@ -21,7 +25,7 @@ written_in bin lines s i =
 
 -- each line that is held is one of the lines, and begins no later than the paragraph
 pub record Begins (lines : List Line) (s : Survey) : Type 0 where
-  pub few : (p : ℕ) → p < cells → held_in s p ≤ line_limit
+  pub few : (p : ℕ) → p < cells → held_in s p ≤ length lines
   pub start : (p : ℕ) → p < cells → (held_in s p ≡ 0 → ⊥)
       → first (get_or lines (held_in s p - 1) no_line).entry ≤ paragraph_size * paragraph_in s p
 

@@ -4,7 +4,7 @@ use Rattle.std.proofs.Math.Option.{Option, none, some}
 use Rattle.basics.specs.Counts.{count, nth, any}
 use Rattle.basics.specs.Lists.{laid}
 use Rattle.basics.specs.Tables.{table}
-use Rattle.places.specs.Limits.{line_limit, chapters, chapter_paragraphs, chapter_pages, paragraphs, paragraph_size, layers, slots, cells}
+use Rattle.places.specs.Limits.{chapters, chapter_paragraphs, chapter_pages, paragraphs, paragraph_size, layers, slots, cells}
 use Rattle.lines.specs.declared.Line.{Line}
 use Rattle.lines.specs.declared.Entry.{Entry}
 use Rattle.lines.specs.declared.Entry.TheVariants.{Rom}
@@ -34,13 +34,13 @@ claimed e number o =
     o
 
 -- numbers are those of lines
-pub record Few (o : List ℕ) : Type 0 where
-  pub each : (i : ℕ) → i < cells → get_or o i 0 ≤ line_limit
+pub record Few (all : List Line) (o : List ℕ) : Type 0 where
+  pub each : (i : ℕ) → i < cells → get_or o i 0 ≤ length all
 
 -- the cells that have, of all lines, the numbers of those among the first of them
 pub record Cells (all ls : List Line) (o : List ℕ) : Type 0 where
   pub long : length o ≡ cells
-  pub few : Few o
+  pub few : Few all o
   pub line : (i : ℕ) → i < cells → line_of all (get_or o i 0) ≡ line_in ls (i / paragraphs) (i % paragraphs)
 
 -- layer t of chapter x is in use; chapter x has PAGE lines; the kinds of plain paragraphs, and plain ROM throughout: each by tables
@@ -68,9 +68,9 @@ numbered_of u =
       pages = count (is_used u) slots;
     }
 
--- a survey of some lines, where `all` are numbered
-pub record Surveyed (all ls : List Line) (s : Survey) : Type 0 where
-  pub cells_are : Cells all ls s.cells
+-- a survey of some lines
+pub record Surveyed (ls : List Line) (s : Survey) : Type 0 where
+  pub cells_are : Cells ls ls s.cells
   pub kinds_are : s.kinds ≡ table paragraphs (kind_at ls)
   pub used_are : s.used ≡ table slots (used ls)
   pub paged_are : s.paged ≡ table chapters (paged ls)

@@ -10,7 +10,7 @@ use Rattle.basics.specs.Options.{is_some}
 use Rattle.basics.specs.Lists.{laid}
 use Rattle.basics.specs.Laws.Lists.{length_laid, laid_in, laid_out}
 use Rattle.basics.specs.Laws.Tests.{cases, and_right}
-use Rattle.places.specs.Limits.{line_limit, cells, layers, paragraphs, paragraph_size}
+use Rattle.places.specs.Limits.{cells, layers, paragraphs, paragraph_size}
 use Rattle.lines.specs.declared.Line.{Line}
 use Rattle.lines.specs.declared.Entry.{Entry}
 use Rattle.lines.specs.Lines.{layer, holds, line_at}
@@ -87,8 +87,8 @@ module _ (all : List Line) where
         line = λ i h. rw (get_or-replicate {A = ℕ} cells i 0 0 h);
       }
 
-  module _ (ls : List Line) (o : List ℕ) (w : Cells all ls o) (l : Line) (number : ℕ) (most : suc number ≤ line_limit) (is : get_or all number no_line ≡ l) where
-    few_by : (b : Bool) (n : ℕ) → n ≤ line_limit → cond b (suc number) n ≤ line_limit
+  module _ (ls : List Line) (o : List ℕ) (w : Cells all ls o) (l : Line) (number : ℕ) (most : suc number ≤ length all) (is : get_or all number no_line ≡ l) where
+    few_by : (b : Bool) (n : ℕ) → n ≤ length all → cond b (suc number) n ≤ length all
     few_by true n h = most
     few_by false n h = h
 

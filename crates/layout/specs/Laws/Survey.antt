@@ -1,16 +1,15 @@
 -- The tables of a survey are those of its lines.
-use Rattle.std.specs.Prelude.{ℕ, ◌+◌, ◌*◌, ◌/◌, ◌%◌, ◌<◌, ◌≤◌, suc, min, List, ◌≡◌, Bool, false, ◌||◌, length, get_or, take, eqb, ltb}
+use Rattle.std.specs.Prelude.{ℕ, ◌+◌, ◌*◌, ◌/◌, ◌%◌, ◌<◌, ◌≤◌, suc, List, ◌≡◌, Bool, false, ◌||◌, get_or, eqb, ltb}
 use Rattle.std.proofs.Math.Path.{sym, ap}
 use Rattle.std.proofs.Common.{◌∙◌, arith}
 use Rattle.std.proofs.Math.Bool.{not}
 use Rattle.basics.specs.Options.{is_some}
 use Rattle.basics.specs.Counts.{count, nth}
 use Rattle.basics.specs.Tables.{table}
-use Rattle.basics.specs.Laws.Lists.{take_min}
 use Rattle.basics.specs.Laws.Tables.{get_d_table, table_same}
 use Rattle.basics.specs.Laws.Counts.{any_same, all_same, count_same, count_most}
 use Rattle.basics.specs.Laws.Nth.{nth_same, nth_below}
-use Rattle.places.specs.Limits.{line_limit, chapters, chapter_paragraphs, chapter_pages, paragraphs, layers, slots}
+use Rattle.places.specs.Limits.{chapters, chapter_paragraphs, chapter_pages, paragraphs, layers, slots}
 use Rattle.switches.specs.Flips.{first_k}
 use Rattle.lines.specs.declared.Line.{Line}
 use Rattle.lines.specs.Kinds.{kind_of}
@@ -87,31 +86,27 @@ module _ (u : List Bool) (r : Numbered) (e : r ≡ numbered_of u) where
   unfolding numbered_of
   numbered_within n h = rw (e, get_d_table 0 slots (nth (is_used u) slots) n h) (nth_below (is_used u) slots slots n (omega arith) (omega arith))
 
--- as the code comes to it, for so many of all lines
+-- as the code comes to it
 pub surveyed :
-    (m n : ℕ) (all : List Line) (o v : List ℕ) (u p d : List Bool) (r : Numbered) → length all ≡ line_limit → n ≡ min m line_limit
-    → Cells all (take n all) o → v ≡ table paragraphs (kind_in all o) → u ≡ table slots (λ s. used_in o (s / layers) (s % layers))
-    → p ≡ table chapters (paged_in u) → d ≡ table chapters (under_in v) → r ≡ numbered_of u
+    (ls : List Line) (o v : List ℕ) (u p d : List Bool) (r : Numbered) → Cells ls ls o → v ≡ table paragraphs (kind_in ls o)
+    → u ≡ table slots (λ s. used_in o (s / layers) (s % layers)) → p ≡ table chapters (paged_in u) → d ≡ table chapters (under_in v) → r ≡ numbered_of u
     → (few : r.pages ≤ slots) (small : (s : ℕ) → s < slots → get_or r.page s 0 ≤ slots) (within : (n : ℕ) → n < slots → get_or r.slot n 0 < slots)
-    → Surveyed all (take m all)
+    → Surveyed ls
     (record { cells = o; kinds = v; used = u; paged = p; under = d; page = r.page; slot = r.slot; pages = r.pages; few = few; small = small; within = within })
-surveyed m n all o v u p d r long en w ev eu ep ed er few small within = rw (take_min n m all (en ∙ rw long)) at made
+surveyed ls o v u p d r w ev eu ep ed er few small within =
+    record {
+      cells_are = w;
+      kinds_are = kinds_are;
+      used_are = used_are;
+      paged_are = ep ∙ table_same false chapters (paged_in u) (paged ls) (λ x h. paged_by ls u used_are x h);
+      under_are = ed ∙ table_same false chapters (under_in v) (under ls) (λ x h. under_by ls v kinds_are x h);
+      page_are = ap (λ (q : Numbered). q.page) er ∙ page_by ls u used_are;
+      slot_are = ap (λ (q : Numbered). q.slot) er ∙ slot_by ls u used_are;
+      pages_are = ap (λ (q : Numbered). q.pages) er ∙ pages_by ls u used_are;
+    }
   where
-    kinds_are : v ≡ table paragraphs (kind_at (take n all))
-    kinds_are = ev ∙ table_same 0 paragraphs (kind_in all o) (kind_at (take n all)) (λ i h. kind_by_lem w i h)
+    kinds_are : v ≡ table paragraphs (kind_at ls)
+    kinds_are = ev ∙ table_same 0 paragraphs (kind_in ls o) (kind_at ls) (λ i h. kind_by_lem w i h)
 
-    used_are : u ≡ table slots (used (take n all))
-    used_are = eu ∙ table_same false slots (λ s. used_in o (s / layers) (s % layers)) (used (take n all)) (λ s h. used_by w s h)
-
-    made : Surveyed all (take n all) (record { cells = o; kinds = v; used = u; paged = p; under = d; page = r.page; slot = r.slot; pages = r.pages; few = few; small = small; within = within })
-    made =
-        record {
-          cells_are = w;
-          kinds_are = kinds_are;
-          used_are = used_are;
-          paged_are = ep ∙ table_same false chapters (paged_in u) (paged (take n all)) (λ x h. paged_by (take n all) u used_are x h);
-          under_are = ed ∙ table_same false chapters (under_in v) (under (take n all)) (λ x h. under_by (take n all) v kinds_are x h);
-          page_are = ap (λ (q : Numbered). q.page) er ∙ page_by (take n all) u used_are;
-          slot_are = ap (λ (q : Numbered). q.slot) er ∙ slot_by (take n all) u used_are;
-          pages_are = ap (λ (q : Numbered). q.pages) er ∙ pages_by (take n all) u used_are;
-        }
+    used_are : u ≡ table slots (used ls)
+    used_are = eu ∙ table_same false slots (λ s. used_in o (s / layers) (s % layers)) (used ls) (λ s h. used_by w s h)

@@ -1,11 +1,6 @@
 -- `layout::cells::claim` meets its contract. The loop's invariant: the first p cells of the layer are claimed.
-use Prim.Native.Nat.{◌-◌}
-use Rattle.places.specs.Limits.{paragraphs}
 use Rattle.layout.proofs.Claiming.{Claiming}
 use Rattle.layout.proofs.cells.claim.Given as goal
 
 abbrev pub invariant-loop-p : goal.invariant-loop-p
 invariant-loop-p l = Claiming l.e l.number l.t l.initial.numbers l.p l.numbers
-
-abbrev pub decreases-loop-p : goal.decreases-loop-p
-decreases-loop-p l = paragraphs - l.p
