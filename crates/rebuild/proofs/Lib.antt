@@ -1,3 +1,2 @@
-pub mod Loops
-pub mod Answers
+pub mod Tables
 pub mod Same

@@ -12,8 +12,7 @@ ghost use Rattle.retrace.specs.Code.Named.{named_in, word_named};
 ghost use Rattle.ledger.specs.Held.{sketched, words_in};
 ghost use Rattle.rebuild.specs.Code.Retraced.{drawing_fits, listing_fits, retraced_of};
 
-use basics::both;
-use compare::{agree_bytes, agree_words, names_fit, ram_fits};
+use compare::{names_fit, ram_fits};
 use layout::Drawing;
 use ledger::{Listing, Sketch};
 use places::{FLIP_ENTRIES, LENT_LIMIT, LINE_LIMIT, LOCUTUS_PARAGRAPHS, PAGE_SIZE, PARAGRAPHS};
@@ -27,87 +26,50 @@ pub struct Retraced {
     pub fits: bool,
 }
 
-// So many pages as Locutus has.
-fn pages_fit(pages: u16) -> bool
-    ensures { result ≡ leb (page_size * pages) lent_limit }
-{
-    PAGE_SIZE * pages as usize <= LENT_LIMIT
+// An image to be retraced: its tables, the words that it leaves in a RAM of zeros and in one of ones, and which Locutus paragraphs it names by them.
+#[derive(Clone, Copy)]
+struct Image<'a> {
+    mapping: &'a [u16; PARAGRAPHS],
+    permissions: &'a [u8; PARAGRAPHS],
+    flips: &'a [u16; FLIP_ENTRIES],
+    zeros: &'a [u16],
+    ones: &'a [u16],
+    named: &'a [bool; LOCUTUS_PARAGRAPHS],
+    ghost sizes: { (length mapping.now ≡ paragraphs) × (length permissions.now ≡ paragraphs) × (length flips.now ≡ flip_entries) },
+    ghost named_all: { named.now ≡ table locutus_paragraphs (named_in zeros.now ones.now) },
 }
 
-// What was drawn is the image's.
-fn drawing_fits(
-    d: Drawing,
-    mapping: &[u16; PARAGRAPHS],
-    permissions: &[u8; PARAGRAPHS],
-    flips: &[u16; FLIP_ENTRIES],
-    zeros: &[u16],
-    ones: &[u16],
-    named: &[bool; LOCUTUS_PARAGRAPHS],
-) -> bool
-    requires { named.now ≡ table locutus_paragraphs (named_in zeros.now ones.now) }
-    ensures { result ≡ drawing_fits d (tables mapping.now permissions.now flips.now) (word_named zeros.now ones.now) }
-{
-    let m = d.mapping;
-    let p = d.permissions;
-    let f = d.flips;
-    let drawn = d.marks;
-    let flat = both(
-        agree_words(&m, mapping),
-        both(agree_bytes(&p, permissions), agree_words(&f, flips)),
-    );
-    both(
-        pages_fit(d.pages),
-        both(flat, names_fit(zeros, ones, named, &drawn)),
-    )
-}
-
-// Lines that are not too many, drawn; and the plan's RAM is all zeros.
-fn listing_fits(
-    l: Listing,
-    s: &Sketch,
-    mapping: &[u16; PARAGRAPHS],
-    permissions: &[u8; PARAGRAPHS],
-    flips: &[u16; FLIP_ENTRIES],
-    zeros: &[u16],
-    ones: &[u16],
-    named: &[bool; LOCUTUS_PARAGRAPHS],
-) -> bool
-    requires { named.now ≡ table locutus_paragraphs (named_in zeros.now ones.now) }
-    ensures { result ≡ listing_fits l (sketched s.now) (tables mapping.now permissions.now flips.now) (word_named zeros.now ones.now) (words_in zeros.now) }
-{
-    let n = l.count;
-    if n == 0 {
-        return false;
+impl<'a> Image<'a> {
+    // What was drawn is the image's, with so many pages as Locutus has.
+    fn fits_drawing(&self, d: &Drawing) -> bool
+        ensures { result ≡ drawing_fits d.now (tables self.now.mapping.now self.now.permissions.now self.now.flips.now) (word_named self.now.zeros.now self.now.ones.now) }
+    {
+        PAGE_SIZE * usize::from(d.pages) <= LENT_LIMIT
+            && d.mapping == *self.mapping
+            && d.permissions == *self.permissions
+            && d.flips == *self.flips
+            && names_fit(self.zeros, self.ones, self.named, &d.marks)
     }
-    if LINE_LIMIT < n {
-        return false;
-    }
-    let lines = l.lines;
-    let d = layout::draw(&lines[..n]);
-    both(
-        drawing_fits(d, mapping, permissions, flips, zeros, ones, named),
-        ram_fits(s, zeros),
-    )
-}
 
-fn retrace_tables(
-    mapping: &[u16; PARAGRAPHS],
-    permissions: &[u8; PARAGRAPHS],
-    flips: &[u16; FLIP_ENTRIES],
-    zeros: &[u16],
-    ones: &[u16],
-) -> Retraced
-    requires { (length permissions.now ≡ paragraphs) × (length flips.now ≡ flip_entries) }
-    ensures { result ≡ retraced_of (tables mapping.now permissions.now flips.now) zeros.now ones.now }
-{
-    let named = marks_of(zeros, ones);
-    let s = plan_behind(permissions, flips, &named);
-    let l = s.listing();
-    let fits = listing_fits(l, &s, mapping, permissions, flips, zeros, ones, &named);
-    Retraced {
-        sketch: s,
-        listing: l,
-        fits,
+    // Lines that are not too many, drawn; and the plan's RAM is all zeros.
+    fn fits_listing(&self, l: &Listing, s: &Sketch) -> bool
+        ensures { result ≡ listing_fits l.now (sketched s.now) (tables self.now.mapping.now self.now.permissions.now self.now.flips.now) (word_named self.now.zeros.now self.now.ones.now) (words_in self.now.zeros.now) }
+    {
+        (1..=LINE_LIMIT).contains(&l.count)
+            && self.fits_drawing(&layout::draw(&l.lines[..l.count]))
+            && ram_fits(s, self.zeros)
+    }
+
+    fn retraced(&self) -> Retraced
+        ensures { result ≡ retraced_of (tables self.now.mapping.now self.now.permissions.now self.now.flips.now) self.now.zeros.now self.now.ones.now }
+    {
+        let sketch = plan_behind(self.permissions, self.flips, self.named);
+        let listing = sketch.listing();
+        Retraced {
+            sketch,
+            listing,
+            fits: self.fits_listing(&listing, &sketch),
+        }
     }
 }
 
@@ -121,5 +83,14 @@ pub fn retrace_image(
 ) -> Retraced
     ensures { result ≡ retraced_of (tables mapping permissions flips) zeros.now ones.now }
 {
-    retrace_tables(&mapping, &permissions, &flips, zeros, ones)
+    let named = marks_of(zeros, ones);
+    let image = Image {
+        mapping: &mapping,
+        permissions: &permissions,
+        flips: &flips,
+        zeros,
+        ones,
+        named: &named,
+    };
+    image.retraced()
 }

@@ -1,14 +1,15 @@
--- `rebuild::compare::names_fit` meets its contract. The loop's invariant: r says whether the first p paragraphs fit.
-use borrow.Author.Rules.{rules}
-use Rattle.basics.specs.Laws.Joined.{everywhere_none, everywhere_by, everywhere_all}
+-- `rebuild::compare::names_fit` meets its contract: its closure asks the mark, and whether all words of the paragraph are named, or none.
+use Rattle.std.proofs.Common.{rules, arith, refl}
+use Rattle.std.proofs.lemmas.Iterator.{YieldsList-from_range}
+use Rattle.std.specs.Prelude.{cond, false, get_or}
+use Rattle.places.specs.Limits.{locutus_paragraphs}
+use Rattle.basics.specs.Laws.Ranges.{all_below}
+use Rattle.rebuild.specs.Code.Retraced.{unnamed_in}
 use Rattle.rebuild.specs.Laws.Names.{names_by}
 use Rattle.rebuild.proofs.compare.names_fit.Goals as goal
 
-pub loop-p-init : goal.loop-p-init
-loop-p-init c = search (rules, everywhere_none)
-
-pub loop-p-preserved : goal.loop-p-preserved
-loop-p-preserved c = everywhere_by _ _ _ _ _ _ c.loop-p.invariant c.loop-p-test.true c.paragraph_fits.ensures c.both-r.ensures
-
 pub returns : goal.returns
-returns c = search (rules, everywhere_all, names_by)
+returns c =
+    names_by c.args.zeros.now c.args.ones.now c.args.drawn.now _ _ c.requires
+    (all_below (λ p. cond (get_or c.args.drawn.now p false) (get_or c.args.named.now p false) (unnamed_in c.args.zeros.now c.args.ones.now p)) _ _ _
+    c.all.ensures.ran (YieldsList-from_range 0 _ locutus_paragraphs refl (omega arith)) (λ x b q k. search rules))

@@ -1,13 +1,15 @@
--- `rebuild::compare::ram_fits` meets its contract. The loop's invariant: r says whether the first p paragraphs fit.
-use borrow.Author.Rules.{rules}
-use Rattle.basics.specs.Laws.Joined.{everywhere_none, everywhere_by, everywhere_all}
+-- `rebuild::compare::ram_fits` meets its contract.
+use Rattle.std.proofs.Common.{rules, arith, refl}
+use Rattle.std.proofs.lemmas.Iterator.{YieldsList-from_range}
+use Rattle.std.specs.Prelude.{not, ◌||◌}
+use Rattle.places.specs.Limits.{locutus_paragraphs}
+use Rattle.plan.specs.Image.{ram_covered_of}
+use Rattle.canon.specs.Made.{blank_in}
+use Rattle.basics.specs.Laws.Ranges.{all_below}
+use Rattle.ledger.specs.Held.{sketched, words_in}
 use Rattle.rebuild.proofs.compare.ram_fits.Goals as goal
 
-pub loop-p-init : goal.loop-p-init
-loop-p-init c = search (rules, everywhere_none)
-
-pub loop-p-preserved : goal.loop-p-preserved
-loop-p-preserved c = everywhere_by _ _ _ _ _ _ c.loop-p.invariant c.loop-p-test.true c.ram_fits_at.ensures c.both-r.ensures
-
 pub returns : goal.returns
-returns c = search (rules, everywhere_all)
+returns c =
+    all_below (λ p. not (ram_covered_of (sketched c.args.s.now) p) || blank_in (words_in c.args.ram.now) p) _ _ _ c.all.ensures.ran
+    (YieldsList-from_range 0 _ locutus_paragraphs refl (omega arith)) (λ x b q k. search rules)

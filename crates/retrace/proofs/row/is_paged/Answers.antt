@@ -10,7 +10,8 @@ use Rattle.retrace.proofs.row.is_paged.Goals as goal
 pub returns-then-may_flip : goal.returns-then-may_flip
 returns-then-may_flip c =
     paged_is _ _ _ _ c.may_flip.ensures c.if-may_flip.true
-    (any_below (λ y. not (eqb (row_in c.args.flips.now c.args.x y) 0)) _ _ _ c.any.ensures.ran (YieldsList-from_range 0 _ 16 refl (omega arith)) (λ x b q k. search rules))
+    (any_below (λ y. not (eqb (row_in c.args.flips.now c.args.x y) 0)) _ _ _ c.any.ensures.ran (YieldsList-from_range 0 _ 16 refl (omega arith))
+    (λ x b q k. search rules))
 
 pub returns-else-may_flip : goal.returns-else-may_flip
 returns-else-may_flip c = search (rules, unpaged)
