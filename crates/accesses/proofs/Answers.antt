@@ -16,8 +16,7 @@ use Rattle.basics.specs.Laws.Tests.{cases}
 use Rattle.cart.specs.declared.Cartridge.{Cartridge}
 use Rattle.cart.specs.Run.{after}
 use Rattle.text.specs.Lines.{lines_of}
-use Rattle.accesses.specs.declared.Checked.{Checked}
-use Rattle.accesses.specs.declared.Checked.TheVariants.{Wrong, Good}
+use Rattle.std.specs.Prelude.{Result, Ok, Err}
 use Rattle.accesses.specs.declared.Ran.{Ran}
 use Rattle.accesses.specs.Accesses.{accesses_of, malformed_line, reads_of}
 use Rattle.accesses.specs.Runs.{refusal_of, run_of, world, left, ran_of, answers_in}
@@ -25,27 +24,30 @@ use Rattle.accesses.specs.Code.Steps.{checked_of, Runnable, refused_with, ran_to
 use Rattle.accesses.specs.Laws.Accesses.{as_many}
 
 -- what the checking pass says of the list
-wrong-is : (list : List ℕ) (m : ℕ) → checked_of list ≡ Wrong m → (0 < malformed_line list) × (m ≡ malformed_line list)
+wrong-is : (list : List ℕ) (q : Refusal) → checked_of list ≡ Err q → (0 < malformed_line list) × (q ≡ refuse 33 (malformed_line list))
 unfolding checked_of
-wrong-is list m h =
-    cases (ltb 0 (malformed_line list)) (λ e. let q : Wrong (malformed_line list) ≡ Wrong m = rw e at h in (ltb-true _ _ e, cc))
-    (λ e. let q : Good (length (lines_of list)) (reads_of list) ≡ Wrong m = rw e at h in let z : ◌≡◌ {A = ℕ} 0 1 = cc in absurd (omega arith))
+wrong-is list r h =
+    cases (ltb 0 (malformed_line list)) (λ e. let q : Err (refuse 33 (malformed_line list)) ≡ Err r = rw e at h in (ltb-true _ _ e, cc))
+    (λ e. let q : Ok (length (lines_of list), reads_of list) ≡ Err r = rw e at h in cc)
 
 record Good-is (list : List ℕ) (a b : ℕ) : Type 0 where
   none : malformed_line list ≡ 0
   lines : a ≡ length (lines_of list)
   reads : b ≡ reads_of list
 
-good-is : (list : List ℕ) (a b : ℕ) → checked_of list ≡ Good a b → Good-is list a b
+good-is : (list : List ℕ) (a b : ℕ) → checked_of list ≡ Ok (a, b) → Good-is list a b
 unfolding checked_of
 good-is list a b h =
-    cases (ltb 0 (malformed_line list))
-    (λ e. let q : Wrong (malformed_line list) ≡ Good a b = rw e at h in let z : ◌≡◌ {A = ℕ} 0 1 = cc in absurd (omega arith))
+    cases (ltb 0 (malformed_line list)) (λ e. let q : Err (refuse 33 (malformed_line list)) ≡ Ok (a, b) = rw e at h in cc)
     (λ e.
-    let q : Good (length (lines_of list)) (reads_of list) ≡ Good a b = rw e at h in
-    record { none = omega (arith, ltb-false 0 (malformed_line list) e); lines = cc; reads = cc })
+    let q : Ok (length (lines_of list), reads_of list) ≡ Ok (a, b) = rw e at h in
+    let pairs : ◌≡◌ {A = ℕ × ℕ} (a, b) (length (lines_of list), reads_of list) = cc in
+    record { none = omega (arith, ltb-false 0 (malformed_line list) e); lines = ap (λ (p : ℕ × ℕ). p.0) pairs; reads = ap (λ (p : ℕ × ℕ). p.1) pairs })
 
-pub runnable : (list : List ℕ) (k : Checked) (lines reads limit n room : ℕ) → k ≡ checked_of list → k ≡ Good lines reads → n ≡ min limit lines → reads ≤ room → Runnable list n room
+abbrev pub Found : Type 0
+Found = Result (ℕ × ℕ) Refusal
+
+pub runnable : (list : List ℕ) (k : Found) (lines reads limit n room : ℕ) → k ≡ checked_of list → k ≡ Ok (lines, reads) → n ≡ min limit lines → reads ≤ room → Runnable list n room
 runnable list k lines reads limit n room a b e l =
     let g = good-is list lines reads (sym a ∙ b) in
     record { good = g.none; lines = omega (arith, g.lines, min-le_right limit lines); fits = omega (arith, g.reads) }
@@ -73,13 +75,13 @@ module _ (c : Cartridge) (list : List ℕ) (limit : ℕ) (flash ram out : List �
         rw z (sym (put_room [] out (omega arith))),
       )
 
-  pub answer-33 : (k : Checked) (m : ℕ) (q : Refusal) (r : Ran) → k ≡ checked_of list → k ≡ Wrong m → q ≡ refuse 33 m → r ≡ refused_with c q 0 → Answered c list limit r flash ram out flash ram out
-  answer-33 k m q r a b d e =
-      let w = wrong-is list m (sym a ∙ b) in
+  pub answer-33 : (k : Found) (q : Refusal) (r : Ran) → k ≡ checked_of list → k ≡ Err q → r ≡ refused_with c q 0 → Answered c list limit r flash ram out flash ram out
+  answer-33 k q r a b e =
+      let w = wrong-is list q (sym a ∙ b) in
       let f : refusal_of list (length out) ≡ refuse 33 (malformed_line list) = rw (lt-ltb 0 (malformed_line list) w.0) in
-      refused_all (refuse 33 m) 0 (λ z. omega arith) (f ∙ ap (refuse 33) (sym w.1)) refl r (e ∙ ap (λ (x : Refusal). refused_with c x 0) d)
+      refused_all (refuse 33 (malformed_line list)) 0 (λ z. omega arith) f refl r (e ∙ ap (λ (x : Refusal). refused_with c x 0) w.1)
 
-  module _ (k : Checked) (lines reads : ℕ) (a : k ≡ checked_of list) (b : k ≡ Good lines reads) where
+  module _ (k : Found) (lines reads : ℕ) (a : k ≡ checked_of list) (b : k ≡ Ok (lines, reads)) where
     good : Good-is list lines reads
     good = good-is list lines reads (sym a ∙ b)
 

@@ -23,44 +23,43 @@ use Rattle.cart.specs.Run as Run
 use Rattle.text.specs.Lines.{lines_of, line_end, next_line}
 use Rattle.text.specs.Laws.Lines.{line_at_lem, no_lines}
 use Rattle.accesses.specs.declared.Made.{Made}
-use Rattle.accesses.specs.declared.Reply.{Reply}
-use Rattle.accesses.specs.declared.Reply.TheVariants.{Nothing, Word}
-use Rattle.accesses.specs.declared.Says.{Says}
-use Rattle.accesses.specs.declared.Says.TheVariants.{Malformed, Read, Write, Reset}
+use Rattle.std.specs.Prelude.{Option as Maybe, Some, None, true, is_some}
+use Rattle.accesses.specs.declared.Access.{Access as Coded}
+use Rattle.accesses.specs.declared.Access.TheVariants.{Read, Write, Reset}
 use Rattle.accesses.specs.Line.{line_says}
 use Rattle.accesses.specs.Accesses.{accesses_in, accesses_of, malformed_from, reads_in, reads_by}
 use Rattle.cart.specs.Reads.{heard}
 use Rattle.accesses.specs.Runs.{world}
-use Rattle.accesses.specs.Code.Steps.{says, tabled, stepped, answered, made, count_of, noted, Fits, Runnable, ran_to, answers_to}
+use Rattle.accesses.specs.Code.Steps.{coded, says, tabled, stepped, answered, made, count_of, noted, Fits, Runnable, ran_to, answers_to}
 use Rattle.accesses.specs.Laws.Accesses.{accesses_one, malformed_one, first_good, some_of, reads_take}
 
 -- an access, as the code has it
-told : (w : World) (x : Access) → stepped w (says (some x)) ≡ step w x
+told : (w : World) (x : Access) → stepped w (coded x) ≡ step w x
 told w (Run.Read a) = refl
 told w (Run.Write a v) = refl
 told w Run.Reset = refl
 
-abbrev replied : Reply → List ℕ
-replied Nothing = []
-replied (Word n) = n ∷ []
+abbrev replied : Maybe ℕ → List ℕ
+replied None = []
+replied (Some n) = n ∷ []
 
-counted : (r : Reply) → count_of r ≡ length (replied r)
-counted Nothing = refl
-counted (Word n) = refl
+counted : (r : Maybe ℕ) → count_of r ≡ length (replied r)
+counted None = refl
+counted (Some n) = refl
 
-answers_one : (w : World) (x : Access) (ys : List Access) → map heard (answers w (x ∷ ys)) ≡ replied (answered w (says (some x))) ++ map heard (answers (step w x) ys)
+answers_one : (w : World) (x : Access) (ys : List Access) → map heard (answers w (x ∷ ys)) ≡ replied (answered w (coded x)) ++ map heard (answers (step w x) ys)
 answers_one w (Run.Read a) ys = refl
 answers_one w (Run.Write a v) ys = refl
 answers_one w Run.Reset ys = refl
 
-reads_one : (w : World) (x : Access) → count_of (answered w (says (some x))) ≡ reads_by x
+reads_one : (w : World) (x : Access) → count_of (answered w (coded x)) ≡ reads_by x
 reads_one w (Run.Read a) = refl
 reads_one w (Run.Write a v) = refl
 reads_one w Run.Reset = refl
 
-wrote_reply : (out₀ out x : List ℕ) (k : ℕ) (r : Reply) → Wrote out₀ out x → k ≡ length x → k + count_of r ≤ length out₀ → Wrote out₀ (noted r k out) (x ++ replied r)
-wrote_reply out₀ out x k Nothing h e f = rw (append-nil x) h
-wrote_reply out₀ out x k (Word n) h e f = wrote_set out₀ out x k n n h e (omega arith) refl
+wrote_reply : (out₀ out x : List ℕ) (k : ℕ) (r : Maybe ℕ) → Wrote out₀ out x → k ≡ length x → k + count_of r ≤ length out₀ → Wrote out₀ (noted r k out) (x ++ replied r)
+wrote_reply out₀ out x k None h e f = rw (append-nil x) h
+wrote_reply out₀ out x k (Some n) h e f = wrote_set out₀ out x k n n h e (omega arith) refl
 
 -- lent tables, and all else that goes with them, are the world that a line leaves
 module _ (im ip m p flips : List ℕ) (readable : ℕ) (j : Jlp) (flash ram : List ℕ) where
@@ -71,13 +70,12 @@ module _ (im ip m p flips : List ℕ) (readable : ℕ) (j : Jlp) (flash ram : Li
   with_parts v =
       tabled (active im ip) (active v.cartridge.mapping v.cartridge.permissions) flips v.cartridge.readable v.cartridge.jlp v.flash v.ram
 
-  held : (s : Says) → with_parts (stepped W s) ≡ stepped W s
-  held Malformed = refl
+  held : (s : Coded) → with_parts (stepped W s) ≡ stepped W s
   held (Read a) = refl
   held (Write a v) = refl
   held Reset = refl
 
-  pub left_world : (s : Says) (m₁ p₁ : List ℕ) (readable₁ : ℕ) (j₁ : Jlp) (flash₁ ram₁ : List ℕ)
+  pub left_world : (s : Coded) (m₁ p₁ : List ℕ) (readable₁ : ℕ) (j₁ : Jlp) (flash₁ ram₁ : List ℕ)
       → m₁ ≡ (stepped W s).cartridge.mapping → p₁ ≡ (stepped W s).cartridge.permissions → readable₁ ≡ (stepped W s).cartridge.readable
       → j₁ ≡ (stepped W s).cartridge.jlp → flash₁ ≡ (stepped W s).flash → ram₁ ≡ (stepped W s).ram
       → tabled (active im ip) (active m₁ p₁) flips readable₁ j₁ flash₁ ram₁ ≡ stepped W s
@@ -150,11 +148,19 @@ module _ (w₀ : World) (xs : List Access) (out₀ : List ℕ) (n : ℕ) (list :
         first = ap (λ (i : ℕ). take i (rest_at list at)) q ∙ ap (λ (ys : List Access). take (suc (h.left - 1)) ys) (ap accesses_in here ∙ accesses_one line ls g.0 g.1);
       }
 
-  module _ (l : lines < n) (s : Says) (e : s ≡ says (line_says (part list at (line_end list at)))) (r : Reply) (f : r ≡ answered w s) where
-    said_is : s ≡ says (some (turn l).access)
-    said_is = e ∙ ap says (turn l).line_says_lem
+  module _ (l : lines < n) (o : Maybe Coded) (e : o ≡ says (line_says (part list at (line_end list at)))) where
+    some_is : o ≡ Some (coded (turn l).access)
+    some_is = e ∙ ap says (turn l).line_says_lem
 
-    reply_is : r ≡ answered w (says (some (turn l).access))
+    -- so that it may be taken out
+    pub running_some : is_some o ≡ true
+    running_some = ap is_some some_is
+
+  module _ (l : lines < n) (o : Maybe Coded) (e : o ≡ says (line_says (part list at (line_end list at)))) (s : Coded) (g : o ≡ Some s) (r : Maybe ℕ) (f : r ≡ answered w s) where
+    said_is : s ≡ coded (turn l).access
+    said_is = let q : Some s ≡ Some (coded (turn l).access) = sym g ∙ some_is l o e in cc
+
+    reply_is : r ≡ answered w (coded (turn l).access)
     reply_is = f ∙ ap (answered w) said_is
 
     reads_left : reads_in (take h.left (rest_at list at)) ≡ count_of r + reads_in (take (turn l).more (rest_at list (next_line list at)))
@@ -175,7 +181,7 @@ module _ (w₀ : World) (xs : List Access) (out₀ : List ℕ) (n : ℕ) (list :
         let tail : take h.left (rest_at list at) ≡ x ∷ ys = t.first in
         let world : step w x ≡ v = sym (a ∙ ap (stepped w) said_is ∙ told w x) in
         let here = line_at_lem list at (running_within l) in
-        let o : suc lines + 1 ≡ suc (lines + 1) = omega arith in
+        let one : suc lines + 1 ≡ suc (lines + 1) = omega arith in
         let long : length (h.written ++ replied r) ≡ length h.written + count_of r = length-append h.written (replied r) ∙ omega (arith, counted r) in
         rw (b, g)
         (record {
@@ -188,11 +194,11 @@ module _ (w₀ : World) (xs : List Access) (out₀ : List ℕ) (n : ℕ) (list :
           place = d ∙ omega (arith, h.place, long);
           numbers =
               h.numbers ∙ ap (λ (zs : List Access). h.written ++ map heard (answers w zs)) tail
-              ∙ ap (◌++◌ h.written) (answers_one w x ys ∙ ap (λ (q : Reply). replied q ++ map heard (answers (step w x) ys)) (sym reply_is))
+              ∙ ap (◌++◌ h.written) (answers_one w x ys ∙ ap (λ (q : Maybe ℕ). replied q ++ map heard (answers (step w x) ys)) (sym reply_is))
               ∙ sym (append_assoc h.written (replied r) (map heard (answers (step w x) ys)))
               ∙ ap (λ (u : World). (h.written ++ replied r) ++ map heard (answers u ys)) world;
           good =
-              ap (λ (i : ℕ). malformed_from i (lines_of (drop (next_line list at) list))) (sym o)
+              ap (λ (i : ℕ). malformed_from i (lines_of (drop (next_line list at) list))) (sym one)
               ∙ sym (malformed_one _ _ x t.line_says_lem (suc lines)) ∙ ap (malformed_from (suc lines)) (sym here) ∙ h.good;
           enough = omega (arith, h.enough, ap length here, t.one);
           room = omega (arith, h.room, reads_left);
@@ -212,10 +218,10 @@ module _ (w₀ : World) (xs : List Access) (out₀ : List ℕ) (n : ℕ) (list :
     pub ran_out : out ≡ answers_to w₀ xs out₀
     ran_out = put_wrote out₀ out h.written h.wrote ∙ ap (λ (zs : List ℕ). put_front zs out₀) ran_words
 
-    pub ran_all : (r : Refusal) (d : Cartridge) → r ≡ no_refusal → d ≡ w.cartridge → record { refusal = r; cartridge = d; lines = lines; length = k } ≡ ran_to w₀ xs
+    pub ran_all : (r : Refusal) (d : Cartridge) → r ≡ no_refusal → d ≡ w.cartridge → record { refusal = r; cartridge = d; lines = n; length = k } ≡ ran_to w₀ xs
     ran_all r d e f =
         let c : d ≡ (after w₀ xs).cartridge = f ∙ ap (λ (u : World). u.cartridge) ran_world in
-        let m : lines ≡ length xs = omega (arith, h.steps, ap length none_left) in
+        let m : n ≡ length xs = omega (arith, h.steps, h.sum, ap length none_left) in
         let q : k ≡ length (map heard (answers w₀ xs)) = h.place ∙ ap length ran_words in
         rw (e, c, m, q)
 
@@ -231,16 +237,20 @@ module _ (c : Cartridge) (flash₀ ram₀ out₀ : List ℕ) (n : ℕ) (list : L
   abbrev pub Here : Type 0
   Here = Running (world c flash₀ ram₀) (take n (accesses_of list)) out₀ n list at lines k Now out
 
-  module _ (h : Here) (l : lines < n) (s : Says) (e : s ≡ says (line_says (part list at (line_end list at)))) (d : Made) where
-    pub turn_fits : (r : ℕ) → d ≡ made Now s → r ≡ length out₀ → Fits d.reply k r
-    turn_fits r a q = running_fits _ _ _ _ _ _ _ _ _ _ h l s e d.reply (ap (λ (x : Made). x.reply) a) r q
+  module _ (h : Here) (l : lines < n) (o : Maybe Coded) (e : o ≡ says (line_says (part list at (line_end list at)))) where
+    pub turn_some : is_some o ≡ true
+    turn_some = running_some _ _ _ _ _ _ _ _ _ _ h l o e
 
-    pub turn_more : (m₁ p₁ : List ℕ) (readable₁ : ℕ) (flash₁ ram₁ out₁ : List ℕ) (k₁ next : ℕ)
-        → (d ≡ made Now s) × (m₁ ≡ (stepped Now s).cartridge.mapping) × (p₁ ≡ (stepped Now s).cartridge.permissions) × (readable₁ ≡ (stepped Now s).cartridge.readable)
-        × (flash₁ ≡ (stepped Now s).flash) × (ram₁ ≡ (stepped Now s).ram)
-        → (k₁ ≡ k + count_of d.reply) × (out₁ ≡ noted d.reply k out) → next ≡ next_line list at
-        → Running (world c flash₀ ram₀) (take n (accesses_of list)) out₀ n list next (lines + 1) k₁ (tabled (initial_of c) (active m₁ p₁) c.flips readable₁ d.jlp flash₁ ram₁) out₁
-    turn_more m₁ p₁ readable₁ flash₁ ram₁ out₁ k₁ next a b q =
-        running_more _ _ _ _ _ _ _ _ _ _ h l s e d.reply (ap (λ (x : Made). x.reply) a.0) _ next k₁ out₁
-        (left_world _ _ m p c.flips readable j flash ram s m₁ p₁ readable₁ d.jlp flash₁ ram₁ a.1 a.2 a.3 (ap (λ (x : Made). x.jlp) a.0) a.4 a.5)
-        q b.0 b.1
+    module _ (s : Coded) (g : o ≡ Some s) (d : Made) where
+      pub turn_fits : (r : ℕ) → d ≡ made Now s → r ≡ length out₀ → Fits d.reply k r
+      turn_fits r a q = running_fits _ _ _ _ _ _ _ _ _ _ h l o e s g d.reply (ap (λ (x : Made). x.reply) a) r q
+
+      pub turn_more : (m₁ p₁ : List ℕ) (readable₁ : ℕ) (flash₁ ram₁ out₁ : List ℕ) (k₁ next : ℕ)
+          → (d ≡ made Now s) × (m₁ ≡ (stepped Now s).cartridge.mapping) × (p₁ ≡ (stepped Now s).cartridge.permissions) × (readable₁ ≡ (stepped Now s).cartridge.readable)
+          × (flash₁ ≡ (stepped Now s).flash) × (ram₁ ≡ (stepped Now s).ram)
+          → (k₁ ≡ k + count_of d.reply) × (out₁ ≡ noted d.reply k out) → next ≡ next_line list at
+          → Running (world c flash₀ ram₀) (take n (accesses_of list)) out₀ n list next (lines + 1) k₁ (tabled (initial_of c) (active m₁ p₁) c.flips readable₁ d.jlp flash₁ ram₁) out₁
+      turn_more m₁ p₁ readable₁ flash₁ ram₁ out₁ k₁ next a b q =
+          running_more _ _ _ _ _ _ _ _ _ _ h l o e s g d.reply (ap (λ (x : Made). x.reply) a.0) _ next k₁ out₁
+          (left_world _ _ m p c.flips readable j flash ram s m₁ p₁ readable₁ d.jlp flash₁ ram₁ a.1 a.2 a.3 (ap (λ (x : Made). x.jlp) a.0) a.4 a.5)
+          q b.0 b.1

@@ -1,7 +1,7 @@
 // A list of bus accesses as text, and the runner: one pass that checks every line, then one that makes the accesses up to the limit (02, W-214).
 #![tactic(auto)]
 
-ghost use Rattle.std.specs.Prelude.{◌+◌, ◌≤◌, ◌<◌, ◌≡◌, length, take};
+ghost use Rattle.std.specs.Prelude.{IfSome, ◌+◌, ◌≤◌, ◌<◌, ◌≡◌, length, take};
 ghost use Rattle.basics.specs.Lists.{part};
 ghost use Rattle.switches.specs.Flips.{active};
 ghost use Rattle.jlp.specs.Accelerators.{written_jlp};
@@ -9,10 +9,10 @@ ghost use Rattle.cart.specs.Readable.{readable_of};
 ghost use Rattle.cart.specs.Cartridges.{with_active};
 ghost use Rattle.cart.specs.Run.{after};
 ghost use Rattle.text.specs.Lines.{line_end};
-ghost use Rattle.accesses.specs.Line.{digit_at, line_says};
+ghost use Rattle.accesses.specs.Line.{line_says};
 ghost use Rattle.accesses.specs.Accesses.{accesses_of};
 ghost use Rattle.accesses.specs.Runs.{world, left, ran_of, answers_in};
-ghost use Rattle.accesses.specs.Code.Steps.{says, is_malformed, reads_said, checked_of, tabled, stepped, made, number_of, write_by, count_of, noted, Fits, Runnable, refused_with, ran_to, answers_to};
+ghost use Rattle.accesses.specs.Code.Steps.{digit_said, says, is_heard, checked_of, tabled, stepped, made, number_of, count_of, noted, Fits, Runnable, refused_with, ran_to, answers_to};
 
 use basics::Refusal;
 use cart::Cartridge;
@@ -42,173 +42,111 @@ pub struct Ran {
     pub length: usize,
 }
 
-// What a line says.
+// What a line says, if it is not malformed.
 #[derive(Clone, Copy)]
-enum Says {
-    Malformed,
+enum Access {
     Read(Console),
     Write(Console, u16),
     Reset,
 }
 
-// Four hex digits as a word, or that a byte of the four is none.
-#[derive(Clone, Copy)]
-enum Number {
-    Is(u16),
-    Not,
-}
-
-// All lines, checked: the number of the first malformed one, or how many lines and reads there are.
-#[derive(Clone, Copy)]
-enum Checked {
-    Wrong(usize),
-    Good(usize, usize),
-}
-
-// What an access answers.
-#[derive(Clone, Copy)]
-enum Reply {
-    Nothing,
-    Word(u32),
-}
-
-// What an access leaves of the accelerators, and what it answers.
+// What an access leaves of the accelerators, and what it answers, if it does.
 #[derive(Clone, Copy)]
 struct Made {
     jlp: Jlp,
-    reply: Reply,
+    reply: Option<u32>,
 }
 
-fn digit_at(line: &[u8], at: usize) -> u32
-    ensures { (result ≡ digit_at line.now at) × (result ≤ 16) }
+fn digit_at(line: &[u8], at: usize) -> Option<u16>
+    ensures { (result ≡ digit_said line.now at) × IfSome result (λ d. d < 16) }
 {
-    text::digit_of(basics::byte_at(line, at))
+    let d = text::digit_of(basics::byte_at(line, at));
+    if d == 16 {
+        return None;
+    }
+    Some(d as u16)
 }
 
 // The four hex digits from `at` on.
-fn word_at(line: &[u8], at: usize) -> Number
+fn word_at(line: &[u8], at: usize) -> Option<u16>
     requires { at + 3 < length line.now }
     ensures { result ≡ number_of line.now at }
 {
-    let a = digit_at(line, at);
-    if a == 16 {
-        return Number::Not;
-    }
-    let b = digit_at(line, at + 1);
-    if b == 16 {
-        return Number::Not;
-    }
-    let c = digit_at(line, at + 2);
-    if c == 16 {
-        return Number::Not;
-    }
-    let d = digit_at(line, at + 3);
-    if d == 16 {
-        return Number::Not;
-    }
-    Number::Is((((a * 16 + b) * 16 + c) * 16 + d) as u16)
+    let a = digit_at(line, at)?;
+    let b = digit_at(line, at + 1)?;
+    let c = digit_at(line, at + 2)?;
+    let d = digit_at(line, at + 3)?;
+    Some(((a * 16 + b) * 16 + c) * 16 + d)
 }
 
 // `op=x`
-fn reset_line(line: &[u8]) -> Says
+fn reset_line(line: &[u8]) -> Option<Access>
     requires { length line.now ≡ 4 }
     ensures { result ≡ says (line_says line.now) }
 {
     if text::same_text(line, b"op=x") {
-        return Says::Reset;
+        return Some(Access::Reset);
     }
-    Says::Malformed
+    None
 }
 
 // `op=r addr=HHHH`
-fn read_line(line: &[u8]) -> Says
+fn read_line(line: &[u8]) -> Option<Access>
     requires { length line.now ≡ 14 }
     ensures { result ≡ says (line_says line.now) }
 {
-    if !text::same_text(&line[0..ADDRESS_AT], b"op=r addr=") {
-        return Says::Malformed;
+    if !text::same_text(&line[..ADDRESS_AT], b"op=r addr=") {
+        return None;
     }
-    match word_at(line, ADDRESS_AT) {
-        Number::Is(a) => Says::Read(Console(a)),
-        Number::Not => Says::Malformed,
-    }
-}
-
-fn write_of(a: Number, v: Number) -> Says
-    ensures { result ≡ write_by a v }
-{
-    let Number::Is(at) = a else {
-        return Says::Malformed;
-    };
-    let Number::Is(value) = v else {
-        return Says::Malformed;
-    };
-    Says::Write(Console(at), value)
+    let at = word_at(line, ADDRESS_AT)?;
+    Some(Access::Read(Console(at)))
 }
 
 // `op=w addr=HHHH value=HHHH`
-fn write_line(line: &[u8]) -> Says
+fn write_line(line: &[u8]) -> Option<Access>
     requires { length line.now ≡ 25 }
     ensures { result ≡ says (line_says line.now) }
 {
-    if !text::same_text(&line[0..ADDRESS_AT], b"op=w addr=") {
-        return Says::Malformed;
+    if !text::same_text(&line[..ADDRESS_AT], b"op=w addr=") {
+        return None;
     }
     if !text::same_text(&line[ADDRESS_END..VALUE_AT], b" value=") {
-        return Says::Malformed;
+        return None;
     }
-    write_of(word_at(line, ADDRESS_AT), word_at(line, VALUE_AT))
+    let at = word_at(line, ADDRESS_AT)?;
+    let value = word_at(line, VALUE_AT)?;
+    Some(Access::Write(Console(at), value))
 }
 
 // What a line says: its length tells which of the three forms it may have.
-fn line_says(line: &[u8]) -> Says
+fn line_says(line: &[u8]) -> Option<Access>
     ensures { result ≡ says (line_says line.now) }
 {
-    let n = line.len();
-    if n == READ_LENGTH {
-        return read_line(line);
+    match line.len() {
+        READ_LENGTH => read_line(line),
+        WRITE_LENGTH => write_line(line),
+        RESET_LENGTH => reset_line(line),
+        _ => None,
     }
-    if n == WRITE_LENGTH {
-        return write_line(line);
-    }
-    if n == RESET_LENGTH {
-        return reset_line(line);
-    }
-    Says::Malformed
 }
 
 // What the line that stands at `at` and ends at `end` says.
-fn says_at(list: &[u8], at: usize, end: usize) -> Says
+fn says_at(list: &[u8], at: usize, end: usize) -> Option<Access>
     requires { (at ≤ length list.now) × (end ≡ line_end list.now at) }
     ensures { result ≡ says (line_says (part list.now at (line_end list.now at))) }
 {
     line_says(&list[at..end])
 }
 
-fn is_malformed(s: Says) -> bool
-    ensures { result ≡ is_malformed s }
+// A read alone is answered.
+fn is_heard(access: Access) -> bool
+    ensures { result ≡ is_heard access }
 {
-    match s {
-        Says::Malformed => true,
-        Says::Read(_) => false,
-        Says::Write(_, _) => false,
-        Says::Reset => false,
-    }
+    matches!(access, Access::Read(_))
 }
 
-fn reads_said(s: Says) -> usize
-    ensures { (result ≡ reads_said s) × (result ≤ 1) }
-{
-    match s {
-        Says::Malformed => 0,
-        Says::Read(_) => 1,
-        Says::Write(_, _) => 0,
-        Says::Reset => 0,
-    }
-}
-
-// The checking pass.
-fn check_lines(list: &[u8]) -> Checked
+// The checking pass: how many lines and reads there are, or 33 at the number of the first malformed line.
+fn check_lines(list: &[u8]) -> Result<(usize, usize), Refusal>
     ensures { result ≡ checked_of list.now }
 {
     let mut at = 0;
@@ -216,15 +154,14 @@ fn check_lines(list: &[u8]) -> Checked
     let mut reads = 0;
     while at < list.len() {
         let end = text::line_end(list, at);
-        let s = says_at(list, at, end);
-        if is_malformed(s) {
-            return Checked::Wrong(lines + 1);
-        }
-        reads += reads_said(s);
+        let Some(access) = says_at(list, at, end) else {
+            return Err(basics::refuse(33, lines + 1));
+        };
+        reads += usize::from(is_heard(access));
         lines += 1;
         at = text::past_end(list, end);
     }
-    Checked::Good(lines, reads)
+    Ok((lines, reads))
 }
 
 // What a write leaves of the accelerators; most go to no register of theirs.
@@ -249,26 +186,22 @@ fn make<'a>(
     j: Jlp,
     ram: &mut [u16],
     flash: &mut [u16],
-    s: Says,
+    access: Access,
 ) -> Made
     requires { start ≡ readable_of initial_permissions.now }
-    ensures { (result ≡ made (tabled (active initial_mapping.now initial_permissions.now) (active mapping.old permissions.old) flips.now readable.old j flash.old ram.old) s)
-        × (mapping.new ≡ (stepped (tabled (active initial_mapping.now initial_permissions.now) (active mapping.old permissions.old) flips.now readable.old j flash.old ram.old) s).cartridge.mapping)
-        × (permissions.new ≡ (stepped (tabled (active initial_mapping.now initial_permissions.now) (active mapping.old permissions.old) flips.now readable.old j flash.old ram.old) s).cartridge.permissions)
-        × (readable.new ≡ (stepped (tabled (active initial_mapping.now initial_permissions.now) (active mapping.old permissions.old) flips.now readable.old j flash.old ram.old) s).cartridge.readable)
-        × (flash.new ≡ (stepped (tabled (active initial_mapping.now initial_permissions.now) (active mapping.old permissions.old) flips.now readable.old j flash.old ram.old) s).flash)
-        × (ram.new ≡ (stepped (tabled (active initial_mapping.now initial_permissions.now) (active mapping.old permissions.old) flips.now readable.old j flash.old ram.old) s).ram) }
+    ensures { (result ≡ made (tabled (active initial_mapping.now initial_permissions.now) (active mapping.old permissions.old) flips.now readable.old j flash.old ram.old) access)
+        × (mapping.new ≡ (stepped (tabled (active initial_mapping.now initial_permissions.now) (active mapping.old permissions.old) flips.now readable.old j flash.old ram.old) access).cartridge.mapping)
+        × (permissions.new ≡ (stepped (tabled (active initial_mapping.now initial_permissions.now) (active mapping.old permissions.old) flips.now readable.old j flash.old ram.old) access).cartridge.permissions)
+        × (readable.new ≡ (stepped (tabled (active initial_mapping.now initial_permissions.now) (active mapping.old permissions.old) flips.now readable.old j flash.old ram.old) access).cartridge.readable)
+        × (flash.new ≡ (stepped (tabled (active initial_mapping.now initial_permissions.now) (active mapping.old permissions.old) flips.now readable.old j flash.old ram.old) access).flash)
+        × (ram.new ≡ (stepped (tabled (active initial_mapping.now initial_permissions.now) (active mapping.old permissions.old) flips.now readable.old j flash.old ram.old) access).ram) }
 {
-    match s {
-        Says::Malformed => Made {
+    match access {
+        Access::Read(at) => Made {
             jlp: j,
-            reply: Reply::Nothing,
+            reply: Some(cart::heard(cart::read_by(mapping, permissions, j, ram, at))),
         },
-        Says::Read(at) => Made {
-            jlp: j,
-            reply: Reply::Word(cart::heard(cart::read_by(mapping, permissions, j, ram, at))),
-        },
-        Says::Write(at, value) => {
+        Access::Write(at, value) => {
             cart::write_by(
                 mapping,
                 permissions,
@@ -282,29 +215,29 @@ fn make<'a>(
             );
             Made {
                 jlp: latched(j, at, value),
-                reply: Reply::Nothing,
+                reply: None,
             }
         }
-        Says::Reset => {
+        Access::Reset => {
             *mapping = *initial_mapping;
             *permissions = *initial_permissions;
             *readable = start;
             Made {
                 jlp: jlp::reset(j),
-                reply: Reply::Nothing,
+                reply: None,
             }
         }
     }
 }
 
 // An answer goes to place k of the buffer; the next place.
-fn note(out: &mut [u32], k: usize, reply: Reply) -> usize
+fn note(out: &mut [u32], k: usize, reply: Option<u32>) -> usize
     requires { Fits reply k (length out.old) }
     ensures { (result ≡ k + count_of reply) × (out.new ≡ noted reply k out.old) }
 {
     match reply {
-        Reply::Nothing => k,
-        Reply::Word(n) => {
+        None => k,
+        Some(n) => {
             out[k] = n;
             k + 1
         }
@@ -321,12 +254,13 @@ fn with_active(
 ) -> Cartridge
     ensures { result ≡ with_active c (active mapping permissions) readable j }
 {
-    let mut d = c;
-    d.mapping = mapping;
-    d.permissions = permissions;
-    d.readable = readable;
-    d.jlp = j;
-    d
+    Cartridge {
+        mapping,
+        permissions,
+        readable,
+        jlp: j,
+        ..c
+    }
 }
 
 // The running pass over the first n lines. The cartridge is taken apart before it and made again behind it.
@@ -344,19 +278,17 @@ fn run_lines(
         × (flash.new ≡ (after (world c flash.old ram.old) (take n (accesses_of list.now))).flash)
         × (out.new ≡ answers_to (world c flash.old ram.old) (take n (accesses_of list.now)) out.old) }
 {
-    let again = cart::reset(c);
-    let start = again.readable;
+    let start = cart::reset(c).readable;
     let mut mapping = c.mapping;
     let mut permissions = c.permissions;
     let mut readable = c.readable;
     let mut j = c.jlp;
     let mut at = 0;
-    let mut lines = 0;
     let mut k = 0;
-    'lines: while lines < n {
-        lines += 1;
+    for _line in 0..n {
         let end = text::line_end(list, at);
-        let s = says_at(list, at, end);
+        // no line is malformed: the checking pass has gone over all of them
+        let access = says_at(list, at, end).unwrap();
         at = text::past_end(list, end);
         let made = make(
             &c.initial_mapping,
@@ -369,17 +301,15 @@ fn run_lines(
             j,
             ram,
             flash,
-            s,
+            access,
         );
-        let next = made.jlp;
-        j = next;
-        let reply = made.reply;
-        k = note(out, k, reply);
+        j = made.jlp;
+        k = note(out, k, made.reply);
     }
     Ran {
         refusal: basics::no_refusal(),
         cartridge: with_active(c, mapping, permissions, readable, j),
-        lines,
+        lines: n,
         length: k,
     }
 }
@@ -411,19 +341,8 @@ pub fn run(
         × (out.new ≡ answers_in (world cartridge flash.old ram.old) list.now limit out.old) }
 {
     match check_lines(list) {
-        Checked::Wrong(line) => refused(cartridge, basics::refuse(33, line), 0),
-        Checked::Good(lines, reads) => {
-            if out.len() < reads {
-                return refused(cartridge, basics::refuse(29, 0), reads);
-            }
-            run_lines(
-                list,
-                basics::least(limit, lines),
-                cartridge,
-                ram,
-                flash,
-                out,
-            )
-        }
+        Err(refusal) => refused(cartridge, refusal, 0),
+        Ok((_, reads)) if out.len() < reads => refused(cartridge, basics::refuse(29, 0), reads),
+        Ok((lines, _)) => run_lines(list, limit.min(lines), cartridge, ram, flash, out),
     }
 }

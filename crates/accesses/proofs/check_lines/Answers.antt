@@ -6,14 +6,16 @@ use Rattle.accesses.proofs.check_lines.Goals as goal
 pub loop-at-init : goal.loop-at-init
 loop-at-init c = search (rules, checking_none)
 
-pub returns-then-is_malformed : goal.returns-then-is_malformed
-returns-then-is_malformed c = search (rules, checked_wrong)
+pub returns-in_default : goal.returns-in_default
+returns-in_default c = search (rules, checked_wrong)
 
 pub loop-at-smaller : goal.loop-at-smaller
 loop-at-smaller c = search (rules, further)
 
 pub loop-at-preserved : goal.loop-at-preserved
-loop-at-preserved c = search (rules, checking_more)
+loop-at-preserved c =
+    checking_more _ _ _ _ c.loop-at.invariant _ c.loop-at-test.true c.says_at.ensures _ _ _ _ _ (search rules) c.is_heard.ensures (search rules)
+    c.line_end-end.ensures c.past_end-at.ensures
 
 pub returns : goal.returns
 returns c = search (rules, checked_all)

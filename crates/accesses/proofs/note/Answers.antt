@@ -6,8 +6,8 @@ use Rattle.accesses.proofs.note.Goals as goal
 pub bounds-out-k : goal.bounds-out-k
 bounds-out-k c = search (rules, word_fits)
 
-pub returns-in-Nothing : goal.returns-in-Nothing
-returns-in-Nothing c = search (rules, nothing_next, nothing_noted)
+pub returns-in-None : goal.returns-in-None
+returns-in-None c = search (rules, nothing_next, nothing_noted)
 
-pub returns-in-Word : goal.returns-in-Word
-returns-in-Word c = search (rules, word_next, word_noted)
+pub returns-in-Some : goal.returns-in-Some
+returns-in-Some c = search (rules, word_next, word_noted)

@@ -6,8 +6,8 @@ use Rattle.accesses.proofs.read_line.Goals as goal
 pub returns-then-not-same_text : goal.returns-then-not-same_text
 returns-then-not-same_text c = search (rules, read_other)
 
-pub returns-in-Is : goal.returns-in-Is
-returns-in-Is c = search (rules, read_said)
+pub returns-in_err-at : goal.returns-in_err-at
+returns-in_err-at c = search (rules, read_none, c.in_err-at.was)
 
-pub returns-in-Not : goal.returns-in-Not
-returns-in-Not c = search (rules, read_none)
+pub returns : goal.returns
+returns c = search (rules, read_said, c.in_ok-at.was)

@@ -1,6 +1,5 @@
 -- `accesses::run_lines` meets its contract. The invariant: what is left of the run goes on from the world that the lent tables, the accelerators and the
 -- memories are, and the answers so far stand in the buffer.
-use Prim.Native.Nat.{◌-◌}
 use mathlib.Core.Path.{◌≡◌}
 use lib.ListN.{length, take}
 use mir.Syntax.{w64}
@@ -14,12 +13,9 @@ use Rattle.accesses.specs.Code.Steps.{tabled}
 use Rattle.accesses.proofs.Runs.{Running}
 use Rattle.accesses.proofs.run_lines.Given as goal
 
-abbrev pub invariant-lines : goal.invariant-lines
-invariant-lines l =
+abbrev pub invariant-loop-line : goal.invariant-loop-line
+invariant-loop-line l =
     (length l.ram ≡ length l.initial.ram) × (length l.flash ≡ length l.initial.flash) × (length l.out ≡ length l.initial.out)
     × (Fits w64 l.n) × (l.start ≡ readable_of l.c.initial_permissions)
-    × Running (world l.c l.initial.flash l.initial.ram) (take l.n (accesses_of l.list)) l.initial.out l.n l.list l.at l.lines l.k
+    × Running (world l.c l.initial.flash l.initial.ram) (take l.n (accesses_of l.list)) l.initial.out l.n l.list l.at l._line l.k
     (tabled (initial_of l.c) (active l.mapping l.permissions) l.c.flips l.readable l.j l.flash l.ram) l.out
-
-abbrev pub decreases-lines : goal.decreases-lines
-decreases-lines l = l.n - l.lines
