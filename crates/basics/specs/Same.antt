@@ -10,3 +10,8 @@ OneAnswer {K} {A} {R} {E} promise = (κs : K) (a : A κs) (y z : R κs) (e f : E
 abbrev pub OneLent : {K : Type 0} {A R E : K → Type 0} {X : Type 0} → ((κs : K) → A κs → R κs → E κs → Type 0) → ((κs : K) → E κs → X) → Type 0
 OneLent {K} {A} {R} {E} promise lent =
     (κs : K) (a : A κs) (y z : R κs) (e f : E κs) → promise κs a y e → promise κs a z f → lent κs e ≡ lent κs f
+
+-- and so is what a reference that it returns points to, which `seen` reads
+abbrev pub OneSeen : {K : Type 0} {A R E : K → Type 0} {X : Type 0} → ((κs : K) → A κs → R κs → E κs → Type 0) → ((κs : K) → R κs → X) → Type 0
+OneSeen {K} {A} {R} {E} promise seen =
+    (κs : K) (a : A κs) (y z : R κs) (e f : E κs) → promise κs a y e → promise κs a z f → seen κs y ≡ seen κs z

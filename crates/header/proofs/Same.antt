@@ -1,6 +1,5 @@
 -- Any two answers that the promise of a public function allows are equal (01, What the promises rule out).
-use Rattle.std.specs.Prelude.{◌≡◌}
-use Rattle.basics.specs.Same.{OneAnswer, OneLent}
+use Rattle.basics.specs.Same.{OneAnswer, OneSeen, OneLent}
 use Rattle.basics.specs.Laws.Same.{same}
 use Rattle.header.proofs.check.Reads as check
 use Rattle.header.proofs.size.Reads as size
@@ -35,11 +34,6 @@ one_jlp_field κs a y z e f = same
 
 pub one_flash_size : OneAnswer flash-size.Learnt
 one_flash_size κs a y z e f = same
-
--- The answer is a reference: what it points to is determined.
-abbrev OneSeen : {K : Type 0} {A R E : K → Type 0} {X : Type 0} → ((κs : K) → A κs → R κs → E κs → Type 0) → ((κs : K) → R κs → X) → Type 0
-OneSeen {K} {A} {R} {E} promise seen =
-    (κs : K) (a : A κs) (y z : R κs) (e f : E κs) → promise κs a y e → promise κs a z f → seen κs y ≡ seen κs z
 
 pub one_flags_of : OneSeen flags-of.Learnt (λ κs y. y.now)
 one_flags_of κs a y z e f = same

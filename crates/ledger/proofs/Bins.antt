@@ -1,15 +1,16 @@
 -- Words written one after the other, big endian.
-use Prim.Native.Nat.{◌%◌, ◌*◌, ◌+◌, ◌/◌, ◌-◌, ◌<◌, ◌≤◌, max, suc, ℕ}
+use Prim.Native.Nat.{◌%◌, ◌*◌, ◌+◌, ◌/◌, ◌-◌, ◌<◌, ◌≤◌, max, min, suc, zero, ℕ}
 use mathlib.Core.List.{List, [], ◌++◌, ◌∷◌, append_assoc, append-nil}
 use mathlib.Core.Path.{◌∙◌, ◌≡◌, ap, refl, sym}
 use mathlib.Core.Bool.{Bool, ◌||◌, false, not, true}
 use native.Mathlib.Omega.{arith}
 use native.Mathlib.Numerals.{add-one}
-use lib.ListN.{get_or-eq_default, drop, get_or, length-drop, length, length-append, length-set, set, take}
-use lib.Dec.{eqb}
+use lib.ListN.{get_or-append, replicate, get_or-eq_default, drop, get_or, length-drop, length, length-append, length-set, set, take}
+use lib.Dec.{eqb, ltb}
 use lib.Seq.{length-take-le, take_all, take-suc}
-use borrow.Author.Tests.{eq-eqb, eqb-false, eqb-true, ne_eqb}
+use borrow.Author.Tests.{eq-eqb, eqb-false, eqb-true, ltb-false, ltb-true, ne_eqb}
 use borrow.Rule.Slice.PartMut.{put_mid}
+use Rattle.std.proofs.lemmas.List.{get_or-append_right, get_or-replicate, length-replicate}
 use Rattle.basics.specs.Laws.Each.{joined_append, joined_more}
 use Rattle.basics.specs.Laws.Lists.{get_d_part, length_part}
 use Rattle.basics.specs.Laws.Puts.{put_behind, put_room, put_short, put_wrote}
@@ -27,9 +28,6 @@ use Rattle.basics.specs.Laws.Listed.{length_more}
 use Rattle.basics.specs.Listed.{listed}
 use Rattle.ledger.specs.Held.{plan_in, words_in}
 use Rattle.ledger.specs.Laws.Held.{kind_in_lem, page_in_lem}
-
-pub no_word : (ram : List ℕ) (at : ℕ) → length ram ≤ at → 0 ≡ get_or ram at 0
-no_word ram at h = sym (get_or-eq_default ram 0 {n = at} h)
 
 -- the first i of n words are written
 pub record Words (ws : List ℕ) (n : ℕ) (out₀ out : List ℕ) (i : ℕ) : Type 0 where
@@ -74,22 +72,57 @@ module _ (ws : List ℕ) (n : ℕ) (out₀ out : List ℕ) (i : ℕ) (c : Words 
   pub words_same : length out ≡ length out₀
   words_same = omega (arith, c.long, c.fits)
 
--- those from word a of a RAM on: one after the other, or a part of it
-module _ (ram : List ℕ) (a n : ℕ) where
-  abbrev pub from : List ℕ
-  from = words_from (words_in ram) a n
+-- words that are all zeros
+zeros : (m : ℕ) → joined be16 (replicate m 0) ≡ replicate (2 * m) 0
+unfolding joined
+zeros zero = refl
+zeros (suc m) = let z : 2 * suc m ≡ suc (suc (2 * m)) = omega arith in rw (z, zeros m)
 
-  pub from_none : (out : List ℕ) → length out ≡ 2 * n → Words from n out out 0
-  from_none out l = words_none from n out (length_table n (λ j. words_in ram (a + j))) l
+-- those from word a of a RAM on: a part of it, and zeros
+module _ (ram : List ℕ) (a n b e : ℕ) (eb : b ≡ min a (length ram)) (ee : e ≡ min (a + n) (length ram)) where
+  abbrev held : List ℕ
+  held = part ram b e
 
-  pub from_more : (out₀ out : List ℕ) (i : ℕ) → Words from n out₀ out i → i < n → (w h l : ℕ) → w ≡ get_or ram (a + i) 0 → h ≡ w / 256 → l ≡ w % 256
-      → Words from n out₀ (set (set out (2 * i) h) (2 * i + 1) l) (i + 1)
-  from_more out₀ out i c b w h l ew = words_more from n out₀ out i c b w h l (ew ∙ sym (get_d_table 0 n (λ j. words_in ram (a + j)) i b))
+  held_long : length held ≡ e - b
+  held_long = length_part ram b e (omega arith)
 
-  pub from_part : (out : List ℕ) → a + n ≤ length ram → out ≡ joined be16 (part ram a (a + n)) → out ≡ joined be16 from
-  from_part out h e =
-      let ws : List ℕ = part ram a (a + n) in
-      e ∙ ap (joined be16) (table_of 0 n (λ i. words_in ram (a + i)) ws (length_part ram a (a + n) h ∙ omega arith) (λ i l. get_d_part ram a (a + n) i 0 (omega arith)))
+  at_place : (i : ℕ) → i < n → get_or (held ++ replicate (n - (e - b)) 0) i 0 ≡ words_in ram (a + i)
+  at_place i h =
+      cases (ltb i (e - b))
+      (λ t.
+      let l : i < e - b = ltb-true i (e - b) t in
+      let z : b ≡ a = omega arith in
+      get_or-append held (replicate (n - (e - b)) 0) 0 i (omega (arith, held_long)) ∙ get_d_part ram b e i 0 (omega arith) ∙ ap (λ (k : ℕ). get_or ram (k + i) 0) z)
+      (λ t.
+      let l : e - b ≤ i = ltb-false i (e - b) t in
+      get_or-append_right held (replicate (n - (e - b)) 0) (e - b) i 0 held_long l ∙ get_or-replicate (n - (e - b)) (i - (e - b)) 0 0 (omega arith)
+      ∙ sym (get_or-eq_default ram 0 {n = a + i} (omega arith)))
+
+  from_held : held ++ replicate (n - (e - b)) 0 ≡ words_from (words_in ram) a n
+  from_held =
+      table_of 0 n (λ i. words_in ram (a + i)) (held ++ replicate (n - (e - b)) 0)
+      (length-append held (replicate (n - (e - b)) 0) ∙ omega (arith, held_long, length-replicate {A = ℕ} (n - (e - b)) 0)) at_place
+
+  pub part_fits : (out : List ℕ) (s : ℕ) → length out ≡ 2 * n → s ≡ 2 * (e - b) → s ≤ length out
+  part_fits out s h es = omega arith
+
+  pub words_put : (out ys zs : List ℕ) (s k : ℕ) → length out ≡ 2 * n → s ≡ 2 * (e - b) → ys ≡ joined be16 held → k ≡ length (put_mid 0 s out ys) - s
+      → zs ≡ replicate (length (take k (drop s (put_mid 0 s out ys)))) 0
+      → put_mid s k (put_mid 0 s out ys) zs ≡ joined be16 (words_from (words_in ram) a n)
+  words_put out ys zs s k h es ey ek ez =
+      let x : List ℕ = joined be16 held in
+      let lx : length x ≡ s = length_bytes held ∙ omega (arith, held_long) in
+      let one : Wrote out (put_mid 0 s out ys) x = wrote_part out out [] 0 s ys x (wrote_none out) refl (sym lx) (omega arith) ey in
+      let l : length (put_mid 0 s out ys) ≡ length out = wrote_long out (put_mid 0 s out ys) x one in
+      let z : k ≡ 2 * (n - (e - b)) = omega arith in
+      let r : length (take k (drop s (put_mid 0 s out ys))) ≡ k =
+      length-take-le k (drop s (put_mid 0 s out ys)) (omega (arith, length-drop s (put_mid 0 s out ys))) in
+      let two : Wrote out (put_mid s k (put_mid 0 s out ys) zs) (x ++ replicate k 0) =
+      wrote_part out (put_mid 0 s out ys) x s k zs (replicate k 0) one (sym lx) (sym (length-replicate {A = ℕ} k 0)) (omega arith) (rw r at ez) in
+      wrote_all out (put_mid s k (put_mid 0 s out ys) zs) (x ++ replicate k 0) two
+      (length-append x (replicate k 0) ∙ omega (arith, lx, length-replicate {A = ℕ} k 0))
+      ∙ ap (λ (m : ℕ). x ++ replicate m 0) z ∙ ap (◌++◌ x) (sym (zeros (n - (e - b)))) ∙ sym (joined_append be16 held (replicate (n - (e - b)) 0))
+      ∙ ap (joined be16) from_held
 
 -- pieces of words, of the places that pass
 single : (x : List ℕ) → flat (x ∷ []) ≡ x

@@ -1,6 +1,7 @@
 -- Any two answers that the promise of a public function allows are equal (01, What the promises rule out).
-use Rattle.basics.specs.Same.{OneAnswer, OneLent}
+use Rattle.basics.specs.Same.{OneAnswer, OneLent, OneSeen}
 use Rattle.basics.specs.Laws.Same.{same}
+use Rattle.ledger.proofs.Listing.as_slice.Reads as as-slice
 use Rattle.ledger.proofs.Sketch.listing.Reads as listing
 use Rattle.ledger.proofs.Sketch.bin_size.Reads as bin-size
 use Rattle.ledger.proofs.Sketch.put_bin.Reads as put-bin
@@ -21,3 +22,6 @@ one_holds_ram κs a y z e f = same
 
 pub one_put_bin : OneLent put-bin.Learnt (λ κs e. e.1.0.now)
 one_put_bin κs a y z e f = same
+
+pub one_as_slice : OneSeen as-slice.Learnt (λ κs y. y.now)
+one_as_slice κs a y z e f = same

@@ -18,7 +18,7 @@ pub fn word_of(ram: &[u16], at: usize) -> u16
     ram.get(at).copied().unwrap_or(0)
 }
 
-// Words, into a part of just their size.
+// Writes words, the higher byte first, into a part of just their size.
 fn put_each(out: &mut [u8], words: &[u16])
     requires { length out.old ≡ 2 * length words.now }
     ensures { out.new ≡ joined be16 words.now }
@@ -30,29 +30,16 @@ fn put_each(out: &mut [u8], words: &[u16])
     }
 }
 
-// n words from word a on, of which some may lie past the RAM's end, into a part of just their size.
-fn put_past(out: &mut [u8], ram: &[u16], a: usize, n: usize)
-    requires { (length out.old ≡ 2 * n) × (a ≤ page_size * slots) × (n ≤ chapter_size) }
-    ensures { out.new ≡ joined be16 (words_from (words_in ram.now) a n) }
-{
-    for i in 0..n {
-        let w = word_of(ram, a + i);
-        out[2 * i] = high(w);
-        out[2 * i + 1] = low(w);
-    }
-}
-
-// n words from word a on, into a part of just their size: as a rule the RAM has them all, and none is asked for by itself.
+// Writes n words of a RAM from word a on into a part of just their size. Those past the RAM's end are 0.
 fn put_words(out: &mut [u8], ram: &[u16], a: usize, n: usize)
     requires { (length out.old ≡ 2 * n) × (a ≤ page_size * slots) × (n ≤ chapter_size) }
     ensures { out.new ≡ joined be16 (words_from (words_in ram.now) a n) }
 {
-    let e = a + n;
-    if e <= ram.len() {
-        put_each(out, &ram[a..e]);
-        return;
-    }
-    put_past(out, ram, a, n)
+    let from = a.min(ram.len());
+    let end = (a + n).min(ram.len());
+    let size = 2 * (end - from);
+    put_each(&mut out[..size], &ram[from..end]);
+    out[size..].fill(0);
 }
 
 // One zero word.

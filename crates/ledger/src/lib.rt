@@ -5,7 +5,7 @@ mod bin;
 mod entries;
 mod homes;
 
-ghost use Rattle.std.specs.Prelude.{◌+◌, ◌≤◌, ◌≡◌, [], cond, eqb, set};
+ghost use Rattle.std.specs.Prelude.{◌+◌, ◌≤◌, ◌≡◌, [], cond, eqb, set, take};
 ghost use Rattle.places.specs.Limits.{paragraphs};
 ghost use Rattle.canon.specs.Laws.Lines.{canonical_lines, line};
 ghost use Rattle.ledger.specs.Held.{sketched};
@@ -29,6 +29,15 @@ pub struct Listing {
     pub mapping: usize,
     pub count: usize,
     pub lines: [Line; LINE_LIMIT],
+}
+
+impl Listing {
+    // Returns the lines that have a place.
+    pub fn as_slice(&self) -> &[Line]
+        ensures { result.now ≡ take self.now.count self.now.lines }
+    {
+        &self.lines[..self.count.min(LINE_LIMIT)]
+    }
 }
 
 #[derive(Clone, Copy)]

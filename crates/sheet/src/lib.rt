@@ -1,113 +1,77 @@
 // A CFG as it is written (02, W-213): the lines of its sections, one after the other, on a sheet.
 #![tactic(auto)]
 
-ghost use Rattle.std.specs.Prelude.{◌+◌, ◌*◌, ◌≤◌, ◌≡◌, length, take, drop};
+ghost use Rattle.std.specs.Prelude.{◌+◌, ◌*◌, ◌≤◌, ◌≡◌, ◌++◌, length, take};
 ghost use Rattle.basics.specs.Lists.{put_front};
 ghost use Rattle.places.specs.Limits.{line_limit};
-ghost use Rattle.sheet.specs.Code.Sheets.{entry_bytes, lines_bytes, headed, mapping_name, memattr_name, sections_bytes, sheet_of, cfg_lines};
+ghost use Rattle.sheet.specs.Code.Sheets.{lines_bytes, headed, mapping_name, memattr_name, sheet_of, cfg_lines};
 
-use basics::{byte_at, least, put_bytes};
-use lines::{Entry, Line};
+use basics::put_bytes;
+use lines::Line;
 use places::LINE_LIMIT;
 
 // The most bytes of a written CFG, and some more: two names, and 128 lines.
 pub const SHEET_SIZE: usize = 4096;
 
-// A written CFG: so many bytes, and zeros behind them.
+// A written CFG: its bytes at the front of a buffer, zeros after them, and their number.
 #[derive(Clone, Copy)]
 pub struct Sheet {
     pub bytes: [u8; SHEET_SIZE],
     pub length: usize,
 }
 
-// How many bytes the line of an entry has.
-fn size_of(e: Entry) -> usize
-    ensures { (result ≡ length (entry_bytes e)) × (result ≤ 31) }
-{
-    let t = print::text_of(e);
-    t.length
-}
-
-// The line of an entry, into a part of just its size.
-fn put_entry(out: &mut [u8], e: Entry)
-    requires { length out.old ≡ length (entry_bytes e) }
-    ensures { out.new ≡ entry_bytes e }
-{
-    let t = print::text_of(e);
-    let bytes = t.bytes;
-    let mut i = 0;
-    while i < out.len() {
-        out[i] = byte_at(&bytes, i);
-        i += 1;
+impl Sheet {
+    // Returns the bytes of the CFG.
+    pub fn as_bytes(&self) -> &[u8]
+        ensures { result.now ≡ take self.now.length self.now.bytes }
+    {
+        &self.bytes[..self.length.min(SHEET_SIZE)]
     }
 }
 
-// The lines of n entries, from one of them on; how many bytes they are.
-fn put_lines(out: &mut [u8], lines: [Line; LINE_LIMIT], from: usize, n: usize) -> usize
-    requires { (from + n ≤ line_limit) × (31 * n ≤ length out.old) }
-    ensures { (result ≡ length (lines_bytes (take n (drop from lines)))) × (result ≤ 31 * n) × (out.new ≡ put_front (lines_bytes (take n (drop from lines))) out.old) }
+// Writes the lines of entries at the front of a buffer. Returns how many bytes they are.
+fn put_lines(out: &mut [u8], lines: &[Line]) -> usize
+    requires { (length lines.now ≤ line_limit) × (31 * length lines.now ≤ length out.old) }
+    ensures { (result ≡ length (lines_bytes lines.now)) × (result ≤ 31 * length lines.now) × (out.new ≡ put_front (lines_bytes lines.now) out.old) }
 {
     let mut at = 0;
-    let mut i = 0;
-    while i < n {
-        let l = lines[from + i];
-        let e = l.entry;
-        let end = at + size_of(e);
-        put_entry(&mut out[at..end], e);
+    for l in lines {
+        let text = print::text_of(l.entry);
+        let end = at + text.length;
+        out[at..end].copy_from_slice(text.as_bytes());
         at = end;
-        i += 1;
     }
     at
 }
 
-// A section, of so many entries, named if it has any.
-fn put_section(
-    out: &mut [u8],
-    name: &[u8; 10],
-    lines: [Line; LINE_LIMIT],
-    from: usize,
-    n: usize,
-) -> usize
-    requires { (from + n ≤ line_limit) × (10 + 31 * n ≤ length out.old) }
-    ensures { (result ≡ length (headed name.now (take n (drop from lines)))) × (result ≤ 10 + 31 * n) × (out.new ≡ put_front (headed name.now (take n (drop from lines))) out.old) }
+// Writes a section at the front of a buffer: its name, if it has lines, and its lines. Returns how many bytes they are.
+fn put_section(out: &mut [u8], name: &[u8; 10], lines: &[Line]) -> usize
+    requires { (length lines.now ≤ line_limit) × (10 + 31 * length lines.now ≤ length out.old) }
+    ensures { (result ≡ length (headed name.now lines.now)) × (result ≤ 10 + 31 * length lines.now) × (out.new ≡ put_front (headed name.now lines.now) out.old) }
 {
-    if n == 0 {
+    if lines.is_empty() {
         return 0;
     }
     put_bytes(out, name);
-    10 + put_lines(&mut out[10..], lines, from, n)
+    10 + put_lines(&mut out[10..], lines)
 }
 
-fn mapping_name() -> [u8; 10]
-    ensures { result ≡ mapping_name }
+// Writes both sections, one after the other. Returns how many bytes they are.
+fn put_sections(out: &mut [u8], mapping: &[Line], memattr: &[Line]) -> usize
+    requires { (length mapping.now + length memattr.now ≤ line_limit) × (20 + 31 * (length mapping.now + length memattr.now) ≤ length out.old) }
+    ensures { (result ≡ length (headed mapping_name mapping.now ++ headed memattr_name memattr.now)) × (out.new ≡ put_front (headed mapping_name mapping.now ++ headed memattr_name memattr.now) out.old) }
 {
-    [b'[', b'm', b'a', b'p', b'p', b'i', b'n', b'g', b']', b'\n']
+    let a = put_section(out, b"[mapping]\n", mapping);
+    a + put_section(&mut out[a..], b"[memattr]\n", memattr)
 }
 
-fn memattr_name() -> [u8; 10]
-    ensures { result ≡ memattr_name }
+// Returns the CFG of these lines, of which the first are of [mapping]. No CFG has more than LINE_LIMIT lines.
+pub fn sheet_of(mapping: usize, lines: &[Line]) -> Sheet
+    ensures { result ≡ sheet_of (cfg_lines mapping (length lines.now) lines.now) }
 {
-    [b'[', b'm', b'e', b'm', b'a', b't', b't', b'r', b']', b'\n']
-}
-
-// Both sections: the first m lines are of [mapping], the n behind them of [memattr].
-fn put_sections(out: &mut [u8], lines: [Line; LINE_LIMIT], m: usize, n: usize) -> usize
-    requires { (m + n ≤ line_limit) × (20 + 31 * (m + n) ≤ length out.old) }
-    ensures { (result ≡ length (sections_bytes lines m n)) × (out.new ≡ put_front (sections_bytes lines m n) out.old) }
-{
-    let mapping = mapping_name();
-    let memattr = memattr_name();
-    let a = put_section(out, &mapping, lines, 0, m);
-    a + put_section(&mut out[a..], &memattr, lines, m, n)
-}
-
-// The CFG of these lines, of which the first are of [mapping].
-pub fn sheet_of(mapping: usize, count: usize, lines: [Line; LINE_LIMIT]) -> Sheet
-    ensures { result ≡ sheet_of (cfg_lines mapping count lines) }
-{
-    let c = least(count, LINE_LIMIT);
-    let m = least(mapping, c);
-    let mut bytes = [0u8; SHEET_SIZE];
-    let length = put_sections(&mut bytes, lines, m, c - m);
+    let lines = &lines[..lines.len().min(LINE_LIMIT)];
+    let m = mapping.min(lines.len());
+    let mut bytes = [0; SHEET_SIZE];
+    let length = put_sections(&mut bytes, &lines[..m], &lines[m..]);
     Sheet { bytes, length }
 }

@@ -9,14 +9,15 @@ use lib.ListN.{length, take}
 use Rattle.basics.specs.Lists.{put_front}
 use Rattle.basics.specs.Refusals.{no_refusal, refuse}
 use Rattle.basics.specs.declared.Refusal.{Refusal}
-use Rattle.places.specs.Limits.{bin_limit}
+use Rattle.places.specs.Limits.{bin_limit, line_limit}
+use Rattle.lines.specs.declared.Line.{Line}
 use Rattle.canon.specs.Laws.Bin.{bin_size}
 use Rattle.canon.proofs.Theorems.Bin.{length_bin}
 use Rattle.ledger.specs.Held.{plan_in, words_in}
 use Rattle.ledger.specs.declared.Listing.{Listing}
 use Rattle.ledger.specs.declared.Sketch.{Sketch}
-use Rattle.sheet.specs.Code.Sheets.{sheet_of, sheet_size}
-use Rattle.sheet.specs.Laws.Sheets.{cfg_few, sheet_front}
+use Rattle.sheet.specs.Code.Sheets.{cfg_lines, sheet_of}
+use Rattle.sheet.specs.Laws.Sheets.{cfg_few, cfg_front, sheet_front}
 use Rattle.sheet.specs.declared.Sheet.{Sheet}
 use Rattle.unbuild.specs.Code.Answers.{AnswersBy, bare, bin_in, cfgIn}
 use Rattle.unbuild.specs.Laws.Answers.{answers-long, answers-short, answers-unfit, answers-written}
@@ -28,13 +29,15 @@ size_is s ram n e = e ∙ sym (length_bin (plan_in s.kinds s.pages) (words_in ra
 pub size_low : (s : Sketch) (ram : List ℕ) (n : ℕ) → n ≡ 2 * max 1 (bin_size (plan_in s.kinds s.pages)) → n ≤ bin_limit → length (bin_in s ram) ≤ bin_limit
 size_low s ram n e h = omega (arith, size_is s ram n e)
 
+-- the CFG of a listing's slice of lines is that of the listing
+pub text_is : (l : Listing) (ls : List Line) (text : Sheet) → length l.lines ≡ line_limit → ls ≡ take l.count l.lines → text ≡ sheet_of (cfg_lines l.mapping (length ls) ls)
+    → text ≡ sheet_of (cfgIn l)
+text_is l ls text h el et = et ∙ ap sheet_of (rw el (cfg_front l.mapping l.count l.lines h))
+
 module _ (l : Listing) (text : Sheet) (et : text ≡ sheet_of (cfgIn l)) where
   text_long : text.length ≡ length (cfgIn l)
   unfolding sheet_of
   text_long = ap (λ (t : Sheet). t.length) et
-
-  pub text_few : text.length ≤ sheet_size
-  text_few = omega (arith, text_long, cfg_few l.mapping l.count l.lines)
 
   module _ (s : Sketch) (ram bin cfg : List ℕ) (h : length (bin_in s ram) ≤ bin_limit) (n : ℕ) (en : n ≡ 2 * max 1 (bin_size (plan_in s.kinds s.pages))) (t : Bool)
       (es : t ≡ (ltb (length bin) n || ltb (length cfg) text.length)) where

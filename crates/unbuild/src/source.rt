@@ -1,8 +1,6 @@
 // The BIN and the CFG of what was retraced: 31, 32, 29, or both written.
-ghost use Rattle.std.specs.Prelude.{◌≤◌, ◌≡◌, false, not, length, take};
-ghost use Rattle.basics.specs.Lists.{put_front};
+ghost use Rattle.std.specs.Prelude.{◌≤◌, ◌≡◌, false, not, length};
 ghost use Rattle.places.specs.Limits.{bin_limit};
-ghost use Rattle.sheet.specs.Code.Sheets.{sheet_of, sheet_size};
 ghost use Rattle.unbuild.specs.Code.Answers.{AnswersBy, bare, bin_in, cfgIn};
 
 use crate::Unbuilding;
@@ -10,7 +8,7 @@ use basics::{Refusal, either, put_bytes};
 use ledger::{Listing, Sketch};
 use places::BIN_LIMIT;
 use rebuild::Retraced;
-use sheet::{Sheet, sheet_of};
+use sheet::sheet_of;
 
 // A refusal, and zero in all else.
 pub(crate) fn refuse(r: Refusal) -> Unbuilding
@@ -23,24 +21,13 @@ pub(crate) fn refuse(r: Refusal) -> Unbuilding
     }
 }
 
-// The CFG at the front of its buffer, where there is room.
-fn write_cfg(s: Sheet, cfg: &mut [u8])
-    requires { s.length ≤ sheet_size }
-    ensures { cfg.new ≡ put_front (take s.length s.bytes) cfg.old }
-{
-    let n = s.length;
-    let bytes = s.bytes;
-    put_bytes(cfg, &bytes[..n])
-}
-
 // 29, where either buffer is too short; else both are written.
 fn write_both(s: &Sketch, l: Listing, ram: &[u16], bin: &mut [u8], cfg: &mut [u8]) -> Unbuilding
     requires { length (bin_in s.now ram.now) ≤ bin_limit }
     ensures { AnswersBy false (bin_in s.now ram.now) (cfgIn l) bin.old cfg.old result bin.new cfg.new }
 {
     let n = s.bin_size();
-    let lines = l.lines;
-    let text = sheet_of(l.mapping, l.count, lines);
+    let text = sheet_of(l.mapping, l.as_slice());
     let m = text.length;
     if either(bin.len() < n, cfg.len() < m) {
         return Unbuilding {
@@ -50,7 +37,7 @@ fn write_both(s: &Sketch, l: Listing, ram: &[u16], bin: &mut [u8], cfg: &mut [u8
         };
     }
     s.put_bin(bin, ram);
-    write_cfg(text, cfg);
+    put_bytes(cfg, text.as_bytes());
     Unbuilding {
         refusal: basics::no_refusal(),
         bin: n,

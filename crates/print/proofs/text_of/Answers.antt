@@ -1,20 +1,15 @@
 -- `print::text_of` meets its contract, by the kind of the entry.
-use Rattle.print.specs.Laws.Texts.{rom_is, paged_is, ram_is}
-use borrow.Author.Rules.{rules}
+use mathlib.Core.Path.{◌∙◌}
+use Rattle.print.specs.Laws.Texts.{ended}
 use Rattle.print.proofs.text_of.Goals as goal
+use Rattle.print.proofs.text_of.Goals.{in-Rom, in-Paged, in-Ram}
 
--- src/lib.rt:103:1
-pub returns-in-Rom : goal.returns-in-Rom
-returns-in-Rom c = search (rules, rom_is)
-
--- src/lib.rt:103:1
-pub returns-in-Paged : goal.returns-in-Paged
-returns-in-Paged c = search (rules, paged_is)
-
--- src/lib.rt:103:1
-pub returns-in-Sixteen : goal.returns-in-Sixteen
-returns-in-Sixteen c = search (rules, ram_is)
-
--- src/lib.rt:103:1
-pub returns-in-Eight : goal.returns-in-Eight
-returns-in-Eight c = search (rules, ram_is)
+pub returns : goal.returns
+returns c =
+    c.push.ensures
+    ∙ ended c.args.e c.match-e.t
+    (elim c.match-e.branch [
+      | in-Rom w ↦ rw (w.in-Rom.is, w.t-is) w.rom_text-t.ensures
+      | in-Paged w ↦ rw (w.in-Paged.is, w.t-is) w.paged_text-t.ensures
+      | in-Ram w ↦ rw (w.in-Ram.is, w.t-is) w.ram_text-t.ensures
+    ])

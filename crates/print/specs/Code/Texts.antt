@@ -1,13 +1,9 @@
 -- The line of an entry in an array of 32 bytes: its bytes, and zeros behind them.
-use Rattle.std.specs.Prelude.{◌%◌, ◌-◌, ◌/◌, ℕ, List, ◌++◌, length, replicate}
+use Rattle.std.specs.Prelude.{◌%◌, ◌+◌, ◌-◌, ℕ, List, ◌++◌, drop, length, replicate, take}
 use Rattle.places.specs.Places.{page}
 use Rattle.lines.specs.declared.Entry.{Entry}
 use Rattle.lines.specs.declared.Entry.TheVariants.{Paged, Ram, Rom}
-use Rattle.text.specs.Bytes.{text}
-use Rattle.text.specs.Spelling.{upper_digit}
-use Rattle.grammar.specs.Print.{four_digits}
 use Rattle.print.specs.Cfg.{entry_line}
-use Rattle.print.specs.declared.Digits.{Digits}
 use Rattle.print.specs.declared.Text.{Text}
 
 abbrev pub filled : List ℕ → List ℕ
@@ -16,20 +12,9 @@ filled x = x ++ replicate (32 - length x) 0
 abbrev pub padded : List ℕ → Text
 padded x = record { bytes = filled x; length = length x }
 
--- `$lo - $hi = RAM `, before the width
-abbrev pub ram_front : ℕ → ℕ → List ℕ
-ram_front lo hi = four_digits lo ++ (text " - " ++ (four_digits hi ++ text " = RAM "))
-
--- the last five hex digits
-abbrev pub digits_of : ℕ → Digits
-digits_of n =
-    record {
-      a = upper_digit (n / 65536 % 16);
-      b = upper_digit (n / 4096 % 16);
-      c = upper_digit (n / 256 % 16);
-      d = upper_digit (n / 16 % 16);
-      e = upper_digit (n % 16);
-    }
+-- more bytes at its end
+abbrev pub pushed : Text → List ℕ → Text
+pushed t x = record { bytes = take t.length t.bytes ++ (x ++ drop (t.length + length x) t.bytes); length = t.length + length x }
 
 -- a page's number is one digit
 abbrev pub page_digit : Entry → Entry

@@ -1,4 +1,4 @@
--- `sheet::put_sections` meets its contract: one section behind the other.
+-- `sheet::put_sections` meets its contract: one section after the other.
 use borrow.Author.Rules.{rules}
 use Rattle.sheet.proofs.Loops.{sections_length, sections_put}
 use Rattle.sheet.proofs.put_sections.Goals as goal

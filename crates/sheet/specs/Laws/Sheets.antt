@@ -1,8 +1,9 @@
 -- What is written of lines, one line after the other; and that it is the CFG of their entries.
 use Rattle.std.specs.Prelude.{◌+◌, ◌*◌, ◌-◌, ◌≤◌, min, ℕ, List, [], ◌++◌, ◌∷◌, ◌≡◌, refl, drop, length, replicate, take}
-use Rattle.std.proofs.Common.{◌∙◌, ap, ap₂, arith, length-append, length-take}
-use Rattle.std.proofs.lemmas.List.{length-replicate}
+use Rattle.std.proofs.Common.{◌∙◌, ap, ap₂, sym, arith, length-append, length-take, length-take-le}
+use Rattle.std.proofs.lemmas.List.{drop-take, length-replicate, take-take}
 use Rattle.std.proofs.Math.Seq.{take-append_seam}
+use Rattle.basics.specs.Laws.Lists.{take_min}
 use Rattle.basics.specs.Laws.Puts.{put_room}
 use Rattle.basics.specs.Lists.{joined}
 use Rattle.text.specs.Bytes.{text}
@@ -54,6 +55,29 @@ headed_section name (l ∷ ls) = ap (◌++◌ (line_text name)) (lines_joined (l
 pub sections_cfg : (ls : List Line) (m n : ℕ) → sections_bytes ls m n ≡ cfg_of_lines ls m n
 unfolding cfg_text
 sections_cfg ls m n = ap₂ ◌++◌ (headed_section (text "[mapping]") (take m ls)) (headed_section (text "[memattr]") (take n (drop m ls)))
+
+-- of more lines than those that are written, the CFG is that of those
+module _ (ls : List Line) (c m : ℕ) (h : m ≤ c) where
+  front_first : take m (take c ls) ≡ take m ls
+  front_first = take-take m c ls h
+
+  front_rest : take (c - m) (drop m (take c ls)) ≡ take (c - m) (drop m ls)
+  front_rest =
+      let z : m + (c - m) ≡ c = omega arith in
+      ap (λ (k : ℕ). take (c - m) (drop m (take k ls))) (sym z) ∙ ap (take (c - m)) (drop-take m (c - m) ls) ∙ take-take (c - m) (c - m) (drop m ls) (omega arith)
+
+  pub cfg_of_front : cfg_of_lines (take c ls) m (c - m) ≡ cfg_of_lines ls m (c - m)
+  cfg_of_front = ap₂ (λ (x y : List Line). cfg_text (entries_in x) (entries_in y)) front_first front_rest
+
+pub cfg_front : (mapping count : ℕ) (ls : List Line) → length ls ≡ line_limit → cfg_lines mapping (length (take count ls)) (take count ls) ≡ cfg_lines mapping count ls
+cfg_front mapping count ls h =
+    let c : ℕ = min count line_limit in
+    let t : take c ls ≡ take count ls = take_min c count ls (omega arith) in
+    let n : length (take c ls) ≡ c = length-take-le c ls (omega arith) in
+    let z : min c line_limit ≡ c = omega arith in
+    rw (← t)
+    (ap (λ (k : ℕ). cfg_of_lines (take c ls) (min mapping (min k line_limit)) (min k line_limit - min mapping (min k line_limit))) n
+    ∙ ap (λ (k : ℕ). cfg_of_lines (take c ls) (min mapping k) (k - min mapping k)) z ∙ cfg_of_front ls c (min mapping c) (omega arith))
 
 -- a CFG of so many lines has at most so many bytes
 lines_few : (ls : List Line) → length (lines_bytes ls) ≤ 31 * length ls
