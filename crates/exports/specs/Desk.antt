@@ -1,7 +1,9 @@
 -- Where a text stands, and what a salvage and going back answer, as C lays them out (02, W-204, W-208 and W-213).
-use Rattle.std.specs.Prelude.{ℕ}
-use Rattle.lookup.specs.declared.Found.{Found}
-use Rattle.lookup.specs.declared.Found.TheVariants.{Nothing, Label, Image, Refused}
+use Rattle.std.specs.Prelude.{ℕ, Option, Some, None, Result, Ok, Err}
+use Rattle.basics.specs.declared.Refusal.{Refusal}
+use Rattle.metadata.specs.declared.Span.{Span}
+use Rattle.lookup.specs.declared.Place.{Place}
+use Rattle.lookup.specs.declared.Place.TheVariants.{Label, Image}
 use Rattle.recovery.specs.declared.Stopped.{Stopped}
 use Rattle.recovery.specs.declared.Stopped.TheVariants.{Nowhere, At}
 use Rattle.recovery.specs.declared.Salvaging.{Salvaging}
@@ -14,11 +16,11 @@ use Rattle.exports.specs.declared.desk.Unbuilt.{Unbuilt}
 abbrev pub text_in : ℕ → ℕ → ℕ → FoundText
 text_in file from to = record { number = 0; file = file; place = 0; from = from; to = to }
 
-abbrev pub found_as : Found → FoundText
-found_as Nothing = text_in 0 0 0
-found_as (Label a e) = text_in 1 a e
-found_as (Image a e) = text_in 2 a e
-found_as (Refused r) = record { number = r.number; file = 0; place = r.place; from = 0; to = 0 }
+abbrev pub found_as : Result (Option Place) Refusal → FoundText
+found_as (Ok None) = text_in 0 0 0
+found_as (Ok (Some (Label x))) = text_in 1 x.from x.to
+found_as (Ok (Some (Image x))) = text_in 2 x.from x.to
+found_as (Err r) = record { number = r.number; file = 0; place = r.place; from = 0; to = 0 }
 
 -- whether it stopped, 1 or 0, and where
 abbrev pub salvaged_at : Salvaging → ℕ → ℕ → Salvaged

@@ -5,7 +5,9 @@ ghost use Rattle.recovery.specs.Salvage.{salvaging_of, written_of, drops_in, lis
 ghost use Rattle.unbuild.specs.Unbuild.{unbuilding_of, bin_after, cfg_after};
 ghost use Rattle.exports.specs.Desk.{text_in, found_as, salvaged_at, salvaged_as, unbuilt_as};
 
-use lookup::Found;
+use basics::Refusal;
+use lookup::Place;
+use metadata::Span;
 use recovery::{Salvaging, Stopped};
 use unbuild::Unbuilding;
 
@@ -20,26 +22,26 @@ pub struct FoundText {
     pub to: usize,
 }
 
-fn text_in(file: u32, from: usize, to: usize) -> FoundText
-    ensures { result ≡ text_in file from to }
+fn text_in(file: u32, x: Span) -> FoundText
+    ensures { result ≡ text_in file x.from x.to }
 {
     FoundText {
         number: 0,
         file,
         place: 0,
-        from,
-        to,
+        from: x.from,
+        to: x.to,
     }
 }
 
-fn found_as(f: Found) -> FoundText
+fn found_as(f: Result<Option<Place>, Refusal>) -> FoundText
     ensures { result ≡ found_as f }
 {
     match f {
-        Found::Nothing => text_in(0, 0, 0),
-        Found::Label(a, e) => text_in(1, a, e),
-        Found::Image(a, e) => text_in(2, a, e),
-        Found::Refused(r) => FoundText {
+        Ok(None) => text_in(0, Span { from: 0, to: 0 }),
+        Ok(Some(Place::Label(x))) => text_in(1, x),
+        Ok(Some(Place::Image(x))) => text_in(2, x),
+        Err(r) => FoundText {
             number: r.number,
             file: 0,
             place: r.place,

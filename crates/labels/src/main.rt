@@ -11,7 +11,6 @@ ghost use Rattle.places.specs.Limits.{image_limit};
 ghost use Rattle.blocks.specs.Blocks.{payload_limit};
 
 use blocks::PAYLOAD_LIMIT;
-use lookup::Found;
 use metadata::{LAST_TAG, NAME_TAG, SHORT_NAME_TAG};
 use places::IMAGE_LIMIT;
 
@@ -77,22 +76,6 @@ fn show(rt: &HostRuntime, tag: u8, text: &[u8]) {
     files::say(rt, b"\n");
 }
 
-// Shows the text that was found, if one was.
-fn show_found<'a>(rt: &HostRuntime, label: &'a [u8], image: &'a [u8], tag: u8, f: Found) -> bool {
-    match f {
-        Found::Nothing => false,
-        Found::Refused(_) => false,
-        Found::Label(_, _) => {
-            show(rt, tag, lookup::shown(label, image, f));
-            true
-        }
-        Found::Image(_, _) => {
-            show(rt, tag, lookup::shown(label, image, f));
-            true
-        }
-    }
-}
-
 // Every text with the tag, the first one first; answers how many. No file here has so many as an image has bytes.
 fn show_tag<'a>(rt: &HostRuntime, label: &'a [u8], image: &'a [u8], tag: u8) -> usize
     ensures { result ≤ image_limit }
@@ -100,9 +83,10 @@ fn show_tag<'a>(rt: &HostRuntime, label: &'a [u8], image: &'a [u8], tag: u8) -> 
     let mut n = 0;
     while n < IMAGE_LIMIT {
         let f = lookup::text_of(label, image, tag, n + 1);
-        if !show_found(rt, label, image, tag, f) {
+        if f.is_none() {
             return n;
         }
+        show(rt, tag, lookup::shown(label, image, f));
         n += 1;
     }
     n
@@ -136,8 +120,7 @@ fn shelf_label<'a>(rt: &HostRuntime, label: &'a [u8], image: &'a [u8]) {
 
 // A label file that no block can hold is refused here as it is in pressing, for it is not read to its end.
 fn answer<'a>(rt: &HostRuntime, label: &'a [u8], image: &'a [u8]) {
-    let r = lookup::refusal_of(label, image);
-    if r.number != 0 {
+    if let Err(r) = lookup::refusal_of(label, image) {
         files::refused(rt, r.number as u64, r.place as u64);
         return;
     }

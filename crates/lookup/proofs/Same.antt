@@ -7,6 +7,7 @@ use denote.Ref.{Bor}
 use Rattle.basics.specs.Same.{OneAnswer}
 use Rattle.basics.specs.Laws.Same.{same}
 use Rattle.lookup.specs.Lookup.{find_of}
+use Rattle.lookup.specs.Shown.{place_in}
 use Rattle.lookup.specs.Laws.Shown.{one_shown}
 use Rattle.lookup.proofs.seek.Reads as seek
 use Rattle.lookup.proofs.is_twice.Reads as is-twice
@@ -43,4 +44,4 @@ pub one_shown_part : OneSeen (λ κs y z. Alike y z) shown.Learnt
 one_shown_part κs a y z e f p q = one_shown y z a.0 a.1.0 a.1.1.0 p q
 
 pub one_lookup : OneSeen (λ κs y z. Alike y z) lookup.Learnt
-one_lookup κs a y z e f p q = one_shown y z a.0 a.1.0 (find_of a.0.now a.1.0.now a.1.1.0 a.1.1.1.0) p q
+one_lookup κs a y z e f p q = one_shown y z a.0 a.1.0 (place_in (find_of a.0.now a.1.0.now a.1.1.0 a.1.1.1.0)) p q

@@ -1,17 +1,14 @@
 -- The release date: eight fields of a byte, of which a text may lack the last ones; they are then 0 (001, Metadata Tags; 02, W-204).
-use Rattle.std.specs.Prelude.{ℕ, ◌+◌, ◌-◌, List, cond, true, false, get_or, eqb, ltb}
-use Rattle.metadata.specs.declared.Given.{Given}
-use Rattle.metadata.specs.declared.Given.TheVariants.{Not, Is}
-use Rattle.metadata.specs.declared.Hours.{Hours}
+use Rattle.std.specs.Prelude.{ℕ, ◌+◌, ◌-◌, ℤ, pos, negsuc, List, cond, Option, Some, None, get_or, eqb, ltb}
 use Rattle.metadata.specs.declared.ReleaseDate.{ReleaseDate}
 
 -- month 0 and day 0 mean not given
-abbrev pub given_of : ℕ → Given
-given_of b = cond (eqb b 0) Not (Is b)
+abbrev pub given_of : ℕ → Option ℕ
+given_of b = cond (eqb b 0) None (Some b)
 
 -- a signed byte: 0x80 to 0xFF are -128 to -1
-abbrev pub hours_of : ℕ → Hours
-hours_of b = cond (ltb b 128) (record { negative = false; size = b }) (record { negative = true; size = 256 - b })
+abbrev pub hours_of : ℕ → ℤ
+hours_of b = cond (ltb b 128) (pos b) (negsuc (255 - b))
 
 -- values outside 001's ranges are shown as they stand
 unfoldable pub date_of : List ℕ → ReleaseDate

@@ -2,5 +2,4 @@
 pub mod Records
 pub mod Texts
 pub mod Dates
-pub mod Code
 pub mod Laws

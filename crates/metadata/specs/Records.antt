@@ -2,6 +2,7 @@
 -- Program Metadata).
 use Rattle.std.specs.Prelude.{ℕ, zero, suc, ◌+◌, List, [], ◌∷◌, map, Bool, cond, length, get_or, leb, ltb}
 use Rattle.basics.specs.Lists.{part, joined}
+use Rattle.metadata.specs.declared.Span.{Span}
 use Rattle.metadata.specs.declared.Stands.{Stands}
 use Rattle.metadata.specs.declared.Stands.TheVariants.{End, Cut, Text}
 
@@ -55,6 +56,10 @@ is_cut s = ltb (end_from s 0 (starts s)) (length s)
 unfoldable pub subs_of : List ℕ → List Sub
 subs_of s = map (sub_at s) (starts s)
 
--- what stands at p: the payload's end, a sub-record that is cut, or a whole one with its tag and where its text starts and ends
+-- where its text stands: from its first byte up to the place behind its last
+abbrev pub span_at : List ℕ → ℕ → Span
+span_at s p = record { from = p + head_size; to = end_at s p }
+
+-- what stands at p: the payload's end, a sub-record that is cut, or a whole one with its tag and its text
 unfoldable pub stands_at : List ℕ → ℕ → Stands
-stands_at s p = cond (leb (length s) p) End (cond (whole_at s p) (Text (tag_at s p) (p + head_size) (end_at s p)) Cut)
+stands_at s p = cond (leb (length s) p) End (cond (whole_at s p) (Text (tag_at s p) (span_at s p)) Cut)

@@ -2,13 +2,12 @@
 // (001, "Block Type 0x03: Program Metadata").
 #![tactic(auto)]
 
-ghost use Rattle.std.specs.Prelude.{◌<◌, ◌≤◌, ◌≡◌};
+ghost use Rattle.std.specs.Prelude.{◌≡◌};
 ghost use Rattle.metadata.specs.Records.{stands_at, is_cut};
 ghost use Rattle.metadata.specs.Texts.{texts_of, seek_in, is_single, given_twice};
-ghost use Rattle.metadata.specs.Code.Steps.{left_after};
-ghost use Rattle.metadata.specs.Dates.{given_of, hours_of, date_of};
+ghost use Rattle.metadata.specs.Dates.{given_of, date_of};
 
-use basics::{byte_at, wide, wide16};
+use basics::byte_at;
 
 // The bytes before a text: its tag and its length.
 pub const HEAD_SIZE: usize = 2;
@@ -20,44 +19,31 @@ pub const NAME_TAG: u8 = 0x00;
 
 pub const SHORT_NAME_TAG: u8 = 0x01;
 
-// What stands at a place of a payload: its end, a sub-record that is cut, or one with its tag, and where its text starts and ends.
+// Where a text stands: from its first byte up to the place behind its last.
+#[derive(Clone, Copy)]
+pub struct Span {
+    pub from: usize,
+    pub to: usize,
+}
+
+// What stands at a place of a payload: its end, a sub-record that is cut, or one with its tag and its text. These are three outcomes,
+// and each caller has another use for the cut: an error or a None would name it no plainer.
 #[derive(Clone, Copy)]
 pub enum Stands {
     End,
     Cut,
-    Text(u8, usize, usize),
-}
-
-// The n-th of some texts: where it starts and ends, or how many are still to be passed where they are fewer.
-#[derive(Clone, Copy)]
-pub enum Sought {
-    Left(usize),
-    At(usize, usize),
-}
-
-// A field of a date that may not be given.
-#[derive(Clone, Copy)]
-pub enum Given {
-    Not,
-    Is(u8),
-}
-
-// A signed number of hours, 128 at most.
-#[derive(Clone, Copy)]
-pub struct Hours {
-    pub negative: bool,
-    pub size: u8,
+    Text(u8, Span),
 }
 
 #[derive(Clone, Copy)]
 pub struct ReleaseDate {
     pub year: u16,
-    pub month: Given,
-    pub day: Given,
+    pub month: Option<u8>,
+    pub day: Option<u8>,
     pub hour: u8,
     pub minute: u8,
     pub second: u8,
-    pub zone_hours: Hours,
+    pub zone_hours: i8,
     pub zone_minutes: u8,
 }
 
@@ -72,11 +58,17 @@ pub fn record_at(s: &[u8], p: usize) -> Stands
         return Stands::Cut;
     }
     let from = p + HEAD_SIZE;
-    let size = wide(s[p + 1]);
+    let size = usize::from(s[p + 1]);
     if s.len() - from < size {
         return Stands::Cut;
     }
-    Stands::Text(s[p], from, from + size)
+    Stands::Text(
+        s[p],
+        Span {
+            from,
+            to: from + size,
+        },
+    )
 }
 
 // Whether a payload is cut inside a sub-record.
@@ -85,105 +77,56 @@ pub fn is_cut(s: &[u8]) -> bool
 {
     let mut p = 0;
     loop {
-        let x = record_at(s, p);
-        match x {
-            Stands::End => {
-                return false;
-            }
-            Stands::Cut => {
-                return true;
-            }
-            Stands::Text(_, _, to) => {
-                p = to;
-            }
+        match record_at(s, p) {
+            Stands::End => return false,
+            Stands::Cut => return true,
+            Stands::Text(_, text) => p = text.to,
         }
     }
 }
 
-// How many texts with the tag are still to be passed behind one with tag t.
-fn left_after(t: u8, tag: u8, left: usize) -> usize
-    requires { 0 < left }
-    ensures { (result ≡ left_after t tag left) × (result ≤ left) }
-{
-    if t == tag { left - 1 } else { left }
-}
-
-// The n-th text with the tag, from 1.
-pub fn seek(s: &[u8], tag: u8, n: usize) -> Sought
+// The n-th text with the tag, from 1; the error is how many are still to be passed where they are fewer.
+pub fn seek(s: &[u8], tag: u8, n: usize) -> Result<Span, usize>
     ensures { result ≡ seek_in n (texts_of tag s.now) }
 {
-    if n == 0 {
-        return Sought::Left(n);
-    }
-    if LAST_TAG < tag {
-        return Sought::Left(n);
+    if n == 0 || LAST_TAG < tag {
+        return Err(n);
     }
     let mut p = 0;
     let mut left = n;
-    loop {
-        let x = record_at(s, p);
-        match x {
-            Stands::End => {
-                return Sought::Left(left);
-            }
-            Stands::Cut => {
-                return Sought::Left(left);
-            }
-            Stands::Text(t, from, to) => {
-                let k = left_after(t, tag, left);
-                if k == 0 {
-                    return Sought::At(from, to);
-                }
-                left = k;
-                p = to;
+    while let Stands::Text(t, text) = record_at(s, p) {
+        if t == tag {
+            left -= 1;
+            if left == 0 {
+                return Ok(text);
             }
         }
+        p = text.to;
     }
+    Err(left)
 }
 
 // Whether a tag has a single value.
 pub fn is_single(tag: u8) -> bool
     ensures { result ≡ is_single tag }
 {
-    basics::either(tag == NAME_TAG, tag == SHORT_NAME_TAG)
+    tag == NAME_TAG || tag == SHORT_NAME_TAG
 }
 
 // Whether a payload gives a single-value tag twice.
 pub fn is_twice(s: &[u8], tag: u8) -> bool
     ensures { result ≡ given_twice tag (texts_of tag s.now) }
 {
-    if !is_single(tag) {
-        return false;
-    }
-    let x = seek(s, tag, 2);
-    match x {
-        Sought::At(_, _) => true,
-        Sought::Left(_) => false,
-    }
+    is_single(tag) && seek(s, tag, 2).is_ok()
 }
 
-fn given_of(b: u8) -> Given
+fn given_of(b: u8) -> Option<u8>
     ensures { result ≡ given_of b }
 {
     if b == 0 {
-        return Given::Not;
+        return None;
     }
-    Given::Is(b)
-}
-
-fn hours_of(b: u8) -> Hours
-    ensures { result ≡ hours_of b }
-{
-    if b < 128 {
-        return Hours {
-            negative: false,
-            size: b,
-        };
-    }
-    Hours {
-        negative: true,
-        size: (256 - wide(b)) as u8,
-    }
+    Some(b)
 }
 
 // The date that a text gives; bytes that it lacks are 0, and those past the eighth are not looked at.
@@ -191,13 +134,13 @@ pub fn date_of(text: &[u8]) -> ReleaseDate
     ensures { result ≡ date_of text.now }
 {
     ReleaseDate {
-        year: 1900 + wide16(byte_at(text, 0)),
+        year: 1900 + u16::from(byte_at(text, 0)),
         month: given_of(byte_at(text, 1)),
         day: given_of(byte_at(text, 2)),
         hour: byte_at(text, 3),
         minute: byte_at(text, 4),
         second: byte_at(text, 5),
-        zone_hours: hours_of(byte_at(text, 6)),
+        zone_hours: byte_at(text, 6).cast_signed(),
         zone_minutes: byte_at(text, 7),
     }
 }

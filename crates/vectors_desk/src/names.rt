@@ -5,8 +5,8 @@ use cases::digest::{ONES, digest, ended};
 use cases::fill::{take_buffer, take_bytes};
 use cases::record::{after, ends, front, get8, get16, get32, has8, has32, rest};
 use label::Writing;
-use lookup::Found;
-use metadata::{Given, Hours, ReleaseDate, Stands};
+use lookup::Place;
+use metadata::{ReleaseDate, Span, Stands};
 use sums::TABLE_ENTRIES;
 
 // The place behind the sub-record at p, and how many were passed.
@@ -17,12 +17,11 @@ struct Passed {
 }
 
 fn pass(s: &[u8], p: usize, records: usize) -> Passed {
-    let x = metadata::record_at(s, p);
-    match x {
+    match metadata::record_at(s, p) {
         Stands::End => Passed { next: p, records },
         Stands::Cut => Passed { next: p, records },
-        Stands::Text(_, _, to) => Passed {
-            next: to,
+        Stands::Text(_, text) => Passed {
+            next: text.to,
             records: after(records, 1),
         },
     }
@@ -123,12 +122,9 @@ fn twice_in(label: &[u8], image: &[u8]) -> usize {
 
 // A lookup's refusal, whatever is asked.
 fn refusal_of(label: &[u8], image: &[u8]) -> Refusal {
-    let f = lookup::find(label, image, 0, 0);
-    match f {
-        Found::Refused(r) => r,
-        Found::Nothing => basics::no_refusal(),
-        Found::Label(_, _) => basics::no_refusal(),
-        Found::Image(_, _) => basics::no_refusal(),
+    match lookup::find(label, image, 0, 0) {
+        Err(r) => r,
+        Ok(_) => basics::no_refusal(),
     }
 }
 
@@ -155,22 +151,20 @@ fn same_records(
 }
 
 // A text's file, and where it starts and ends in it.
-fn same_span(rec: &[u8], at: usize, source: usize, from: usize, to: usize) -> bool {
+fn same_span(rec: &[u8], at: usize, source: usize, x: Span) -> bool {
     let ended = after(get32(rec, after(at, 1)), get32(rec, after(at, 5)));
-    let start = has32(rec, at, 1, from);
-    both(both(has8(rec, at, 0, source), start), ended == to)
+    let start = has32(rec, at, 1, x.from);
+    both(both(has8(rec, at, 0, source), start), ended == x.to)
 }
 
 // One text asked for: where it was found.
 fn same_text(rec: &[u8], asked: usize, at: usize, label: &[u8], image: &[u8]) -> bool {
     let tag = basics::byte_at(rec, asked);
     let n = get32(rec, after(asked, 1));
-    let f = lookup::find(label, image, tag, n);
-    match f {
-        Found::Nothing => same_span(rec, at, 0, 0, 0),
-        Found::Label(a, e) => same_span(rec, at, 1, a, e),
-        Found::Image(a, e) => same_span(rec, at, 2, a, e),
-        Found::Refused(_) => same_span(rec, at, 0, 0, 0),
+    match lookup::find(label, image, tag, n) {
+        Ok(Some(Place::Label(x))) => same_span(rec, at, 1, x),
+        Ok(Some(Place::Image(x))) => same_span(rec, at, 2, x),
+        Ok(None) | Err(_) => same_span(rec, at, 0, Span { from: 0, to: 0 }),
     }
 }
 
@@ -225,28 +219,15 @@ pub fn names_agree(
 }
 
 // A field that may not be given is 0 then.
-fn given(g: Given) -> usize {
-    match g {
-        Given::Not => 0,
-        Given::Is(b) => b as usize,
-    }
-}
-
-// Hours as a signed byte.
-fn signed(h: Hours) -> usize {
-    if h.negative {
-        return 256 - basics::wide(h.size);
-    }
-    h.size as usize
+fn given(field: Option<u8>) -> usize {
+    usize::from(field.unwrap_or(0))
 }
 
 fn same_day(rec: &[u8], at: usize, d: ReleaseDate) -> bool {
     let year = get16(rec, at) == d.year as usize;
-    let month = d.month;
-    let day = d.day;
     both(
         year,
-        both(has8(rec, at, 2, given(month)), has8(rec, at, 3, given(day))),
+        both(has8(rec, at, 2, given(d.month)), has8(rec, at, 3, given(d.day))),
     )
 }
 
@@ -254,8 +235,7 @@ fn same_time(rec: &[u8], at: usize, d: ReleaseDate) -> bool {
     let hour = has8(rec, at, 4, d.hour as usize);
     let minute = has8(rec, at, 5, d.minute as usize);
     let second = has8(rec, at, 6, d.second as usize);
-    let zone = d.zone_hours;
-    let hours = has8(rec, at, 7, signed(zone));
+    let hours = has8(rec, at, 7, usize::from(d.zone_hours.cast_unsigned()));
     let minutes = has8(rec, at, 8, d.zone_minutes as usize);
     both(both(hour, both(minute, second)), both(hours, minutes))
 }

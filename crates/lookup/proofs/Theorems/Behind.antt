@@ -1,5 +1,5 @@
 -- Sub-records behind a label's, and blocks behind an image's, never change an earlier answer.
-use Rattle.std.specs.Prelude.{ℕ, ◌≡◌, true, false, length, eqb}
+use Rattle.std.specs.Prelude.{ℕ, ◌≡◌, true, false, length, eqb, Some, Ok}
 use Rattle.std.proofs.Common.{sym, ◌∙◌, arith, eqb-true}
 use Rattle.std.proofs.Math.Path.{ap}
 use mathlib.Core.List.{List, ◌++◌}
@@ -10,7 +10,7 @@ use Rattle.basics.specs.Refusals.{refuse, no_refusal}
 use Rattle.basics.specs.Laws.Each.{each_append}
 use Rattle.basics.specs.Laws.Tests.{cases}
 use Rattle.places.specs.Limits.{lent_limit}
-use Rattle.metadata.specs.declared.Sought.TheVariants.{At}
+use Rattle.metadata.specs.declared.Span.{Span}
 use Rattle.metadata.specs.Records.{is_cut}
 use Rattle.metadata.specs.Texts.{seek_in}
 use Rattle.metadata.specs.Laws.Texts.{seek_behind}
@@ -20,7 +20,7 @@ use Rattle.blocks.specs.Frames.{ends_at}
 use Rattle.blocks.specs.Images.{first_block, blocks_in, image_of}
 use Rattle.blocks.specs.Laws.Images.{blocks_back}
 use Rattle.load.specs.Load.{refusal_by_size}
-use Rattle.lookup.specs.declared.Found.TheVariants.{Label, Image}
+use Rattle.lookup.specs.declared.Place.TheVariants.{Label, Image}
 use Rattle.lookup.specs.Lookup.{texts_in_blocks, image_texts, refusal_of, find_of}
 use Rattle.lookup.specs.Laws.Texts.{texts_append}
 use Rattle.lookup.specs.Laws.Lookup.{refused_image, refused_label}
@@ -49,30 +49,30 @@ none_refused : (label image : List ℕ) → (refusal_by_size image lent_limit).n
 none_refused label image z h = refused_label label image z ∙ rw h
 
 -- sub-records behind a label's
-pub label_behind : (label more image : List ℕ) (tag n a e : ℕ) → is_cut (label ++ more) ≡ false → find_of label image tag n ≡ Label a e
-    → find_of (label ++ more) image tag n ≡ Label a e
+pub label_behind : (label more image : List ℕ) (tag n : ℕ) (x : Span) → is_cut (label ++ more) ≡ false → find_of label image tag n ≡ Ok (Some (Label x))
+    → find_of (label ++ more) image tag n ≡ Ok (Some (Label x))
 unfolding find_of
-label_behind label more image tag n a e h q =
-    let l : LabelHas label image tag n a e = label_has label image tag n a e q in
+label_behind label more image tag n x h q =
+    let l : LabelHas label image tag n x = label_has label image tag n x q in
     let k : refusal_of (label ++ more) image ≡ no_refusal = none_refused (label ++ more) image (image_passes label image l.passed) h in
-    rw (k, bytes_behind tag n a e label more l.found)
+    rw (k, bytes_behind tag n x label more l.found)
 
 -- blocks behind an image's, in an image that loads
-module _ (label image later : List ℕ) (more : List (List ℕ)) (has : blocks_in later ≡ blocks_in image ++ more) (z : (refusal_by_size later lent_limit).number ≡ 0) (tag n a e : ℕ) where
-  pub image_behind : find_of label image tag n ≡ Image a e → find_of label later tag n ≡ Image a e
+module _ (label image later : List ℕ) (more : List (List ℕ)) (has : blocks_in later ≡ blocks_in image ++ more) (z : (refusal_by_size later lent_limit).number ≡ 0) (tag n : ℕ) (x : Span) where
+  pub image_behind : find_of label image tag n ≡ Ok (Some (Image x)) → find_of label later tag n ≡ Ok (Some (Image x))
   unfolding find_of
   image_behind q =
-      let i : ImageHas label image tag n a e = image_has label image tag n a e q in
+      let i : ImageHas label image tag n x = image_has label image tag n x q in
       let k : refusal_of label later ≡ no_refusal = none_refused label later z (label_passes label image i.passed) in
-      let t : seek_in n (image_texts tag later) ≡ At a e =
+      let t : seek_in n (image_texts tag later) ≡ Ok x =
       ap (λ (xs : List (List ℕ)). seek_in n (texts_in_blocks tag first_block xs)) has ∙ ap (seek_in n) (texts_append tag first_block (blocks_in image) more)
-      ∙ seek_behind n a e (image_texts tag image) _ i.found in
+      ∙ seek_behind n x (image_texts tag image) _ i.found in
       rw (k, i.fewer, t)
 
-  pub label_stays : find_of label image tag n ≡ Label a e → find_of label later tag n ≡ Label a e
+  pub label_stays : find_of label image tag n ≡ Ok (Some (Label x)) → find_of label later tag n ≡ Ok (Some (Label x))
   unfolding find_of
   label_stays q =
-      let l : LabelHas label image tag n a e = label_has label image tag n a e q in
+      let l : LabelHas label image tag n x = label_has label image tag n x q in
       let k : refusal_of label later ≡ no_refusal = none_refused label later z (label_passes label image l.passed) in
       rw (k, l.found)
 

@@ -1,6 +1,6 @@
 -- The text of a lookup stands in the file that is named, at the place that is named, and is the n-th that the file's sub-records with the
 -- tag hold: of a label its own, of an image those of its metadata blocks in order.
-use Rattle.std.specs.Prelude.{ℕ, ◌+◌, ◌-◌, ◌≤◌, ◌≡◌, refl, List, [], ◌∷◌, ◌++◌, map, true, cond, ◌&&◌, length, take, drop, leb, eqb}
+use Rattle.std.specs.Prelude.{ℕ, ◌+◌, ◌-◌, ◌≤◌, ◌≡◌, refl, List, [], ◌∷◌, ◌++◌, map, true, cond, ◌&&◌, length, take, drop, leb, eqb, Some, Ok}
 use Rattle.std.proofs.Common.{sym, ap, ap₂, ◌∙◌, append_assoc, arith, take-append-drop, length-take-le, le-leb}
 use Rattle.std.specs.Borrow.{Bor}
 use Rattle.basics.specs.Lists.{part, flat, Each, none, also}
@@ -8,16 +8,17 @@ use Rattle.basics.specs.Laws.Each.{each_append}
 use Rattle.basics.specs.Laws.Lists.{length_part}
 use Rattle.basics.specs.Laws.Stands.{stands_after, stands_part, stands_length}
 use Rattle.basics.specs.Laws.Tests.{cases, and_true}
+use Rattle.metadata.specs.declared.Span.{Span}
 use Rattle.metadata.specs.Records.{Sub, subs_of}
-use Rattle.metadata.specs.Texts.{last_tag, Span, texts_of}
+use Rattle.metadata.specs.Texts.{last_tag, texts_of}
 use Rattle.metadata.specs.Laws.Texts.{with_tag, shown, texts_are, Within, within, seek_holds}
 use Rattle.metadata.specs.Laws.Nth.{IsNth, seek_nth, payload_nth}
 use Rattle.blocks.specs.Blocks.{frame_size, payload_in, is_metadata, Block}
 use Rattle.blocks.specs.Images.{first_block, blocks_in}
 use Rattle.blocks.specs.Laws.Images.{Read, reading, next_blocks}
-use Rattle.lookup.specs.declared.Found.TheVariants.{Label, Image}
+use Rattle.lookup.specs.declared.Place.TheVariants.{Label, Image}
 use Rattle.lookup.specs.Lookup.{moved, texts_in_blocks, image_texts, find_of}
-use Rattle.lookup.specs.Shown.{Stands, PartOf, Shows, inside}
+use Rattle.lookup.specs.Shown.{Stands, PartOf, Shows, inside, place_in}
 use Rattle.lookup.specs.Laws.Found.{LabelHas, label_has, ImageHas, image_has}
 
 -- the sub-records of metadata blocks, in their order
@@ -125,27 +126,27 @@ pub record Text (r s : Bor (List ℕ)) (a e tag n : ℕ) (subs : List Sub) : Typ
   pub stands : Stands r s a e
   pub nth : IsNth n r.now (with_tag tag subs)
 
-part_stands : (r s : Bor (List ℕ)) (a e : ℕ) → Within (length s.now) (record { from = a; to = e }) → PartOf r s a e → Stands r s a e
-part_stands r s a e w p =
-    let i : inside s.now a e ≡ true = and_true _ _ (le-leb e (length s.now) w.inside) (le-leb a e w.ordered) in
+part_stands : (r s : Bor (List ℕ)) (x : Span) → Within (length s.now) x → PartOf r s x.from x.to → Stands r s x.from x.to
+part_stands r s x w p =
+    let i : inside s.now x.from x.to ≡ true = and_true _ _ (le-leb x.to (length s.now) w.inside) (le-leb x.from x.to w.ordered) in
     rw i at p
 
-module _ (r label image : Bor (List ℕ)) (tag n a e : ℕ) (shows : Shows r label image (find_of label.now image.now tag n)) where
-  pub label_stands : find_of label.now image.now tag n ≡ Label a e → Text r label a e tag n (subs_of label.now)
+module _ (r label image : Bor (List ℕ)) (tag n : ℕ) (x : Span) (shows : Shows r label image (place_in (find_of label.now image.now tag n))) where
+  pub label_stands : find_of label.now image.now tag n ≡ Ok (Some (Label x)) → Text r label x.from x.to tag n (subs_of label.now)
   label_stands q =
-      let h : LabelHas label.now image.now tag n a e = label_has label.now image.now tag n a e q in
-      let w : Within (length label.now) (record { from = a; to = e }) = seek_holds n a e (texts_of tag label.now) (within tag label.now) h.found in
-      let s : Stands r label a e = part_stands r label a e w (rw q at shows) in
-      record { ordered = w.ordered; inside = w.inside; stands = s; nth = rw s.text (payload_nth tag n a e label.now h.found) }
+      let h : LabelHas label.now image.now tag n x = label_has label.now image.now tag n x q in
+      let w : Within (length label.now) x = seek_holds n x (texts_of tag label.now) (within tag label.now) h.found in
+      let s : Stands r label x.from x.to = part_stands r label x w (rw q at shows) in
+      record { ordered = w.ordered; inside = w.inside; stands = s; nth = rw s.text (payload_nth tag n x label.now h.found) }
 
-  pub image_stands : find_of label.now image.now tag n ≡ Image a e → Text r image a e tag n (subs_in_blocks (blocks_in image.now))
+  pub image_stands : find_of label.now image.now tag n ≡ Ok (Some (Image x)) → Text r image x.from x.to tag n (subs_in_blocks (blocks_in image.now))
   image_stands q =
-      let h : ImageHas label.now image.now tag n a e = image_has label.now image.now tag n a e q in
-      let w : Within (length image.now) (record { from = a; to = e }) = seek_holds n a e (image_texts tag image.now) (image_within tag image.now) h.found in
-      let s : Stands r image a e = part_stands r image a e w (rw q at shows) in
+      let h : ImageHas label.now image.now tag n x = image_has label.now image.now tag n x q in
+      let w : Within (length image.now) x = seek_holds n x (image_texts tag image.now) (image_within tag image.now) h.found in
+      let s : Stands r image x.from x.to = part_stands r image x w (rw q at shows) in
       record {
         ordered = w.ordered;
         inside = w.inside;
         stands = s;
-        nth = rw s.text (rw (image_texts_are tag image.now) at (seek_nth image.now n a e (image_texts tag image.now) h.found));
+        nth = rw s.text (rw (image_texts_are tag image.now) at (seek_nth image.now n x (image_texts tag image.now) h.found));
       }

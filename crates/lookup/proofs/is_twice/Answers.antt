@@ -1,13 +1,7 @@
--- `lookup::is_twice` meets its contract: one law for each return.
-use Rattle.lookup.proofs.Laws.{twices}
-use borrow.Author.Rules.{rules}
+-- `lookup::is_twice` meets its contract: by the second text.
+use Rattle.std.proofs.Common.{rules}
+use Rattle.lookup.proofs.Laws.{twice_second}
 use Rattle.lookup.proofs.is_twice.Goals as goal
 
-pub returns-then-not-is_single : goal.returns-then-not-is_single
-returns-then-not-is_single c = search (rules, twices)
-
-pub returns-in-At : goal.returns-in-At
-returns-in-At c = search (rules, twices)
-
-pub returns-in-Left : goal.returns-in-Left
-returns-in-Left c = search (rules, twices)
+pub returns-then-is_single : goal.returns-then-is_single
+returns-then-is_single c = search (rules, twice_second)

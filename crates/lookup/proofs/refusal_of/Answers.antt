@@ -1,6 +1,6 @@
 -- `lookup::refusal_of` meets its contract: one law for each return.
+use Rattle.std.proofs.Common.{rules}
 use Rattle.lookup.proofs.Laws.{refuses}
-use borrow.Author.Rules.{rules}
 use Rattle.lookup.proofs.refusal_of.Goals as goal
 
 pub returns-then-r-ne0 : goal.returns-then-r-ne0

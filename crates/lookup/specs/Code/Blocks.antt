@@ -1,6 +1,7 @@
 -- The texts of one block, by their places in its payload.
 use Rattle.std.specs.Prelude.{ℕ, List, [], cond, eqb}
-use Rattle.metadata.specs.Texts.{Span, texts_of}
+use Rattle.metadata.specs.declared.Span.{Span}
+use Rattle.metadata.specs.Texts.{texts_of}
 use Rattle.blocks.specs.Blocks.{payload_in, metadata_type}
 
 -- of a block of type t

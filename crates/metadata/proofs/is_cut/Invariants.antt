@@ -4,8 +4,8 @@ use lib.ListN.{length}
 use Rattle.metadata.specs.Laws.Walk.{Reached}
 use Rattle.metadata.proofs.is_cut.Given as goal
 
-abbrev pub invariant-loop-to : goal.invariant-loop-to
-invariant-loop-to l = Reached l.s l.p
+abbrev pub invariant-loop-text : goal.invariant-loop-text
+invariant-loop-text l = Reached l.s l.p
 
-abbrev pub decreases-loop-to : goal.decreases-loop-to
-decreases-loop-to l = length l.s - l.p
+abbrev pub decreases-loop-text : goal.decreases-loop-text
+decreases-loop-text l = length l.s - l.p

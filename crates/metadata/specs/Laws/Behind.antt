@@ -1,14 +1,14 @@
 -- Bytes behind a payload's own: its texts are still the first, where they stood, so that no earlier answer changes.
-use Rattle.std.specs.Prelude.{ℕ, zero, suc, ◌+◌, ◌≤◌, ◌≡◌, refl, List, ◌∷◌, ◌++◌, Bool, true, false, cond, ◌&&◌, length, leb}
+use Rattle.std.specs.Prelude.{ℕ, zero, suc, ◌+◌, ◌≤◌, ◌≡◌, refl, List, ◌∷◌, ◌++◌, Bool, true, false, cond, ◌&&◌, length, leb, Ok}
 use Rattle.std.proofs.Math.Path.{ap}
 use Rattle.std.proofs.Common.{◌∙◌, arith}
 use Rattle.std.proofs.Math.ListN.{length-append, get_or-append}
 use Rattle.std.proofs.Math.Dec.{eqb}
 use borrow.Author.Tests.{le-leb}
 use Rattle.basics.specs.Laws.Tests.{cases}
-use Rattle.metadata.specs.declared.Sought.TheVariants.{At}
-use Rattle.metadata.specs.Records.{tag_at, end_at, whole_at, starts_from, starts}
-use Rattle.metadata.specs.Texts.{last_tag, Span, span_at, texts_in, texts_of, seek_in}
+use Rattle.metadata.specs.declared.Span.{Span}
+use Rattle.metadata.specs.Records.{tag_at, end_at, span_at, whole_at, starts_from, starts}
+use Rattle.metadata.specs.Texts.{last_tag, texts_in, texts_of, seek_in}
 use Rattle.metadata.specs.Laws.Walk.{whole_ends, Turn, walk_on}
 use Rattle.metadata.specs.Laws.Texts.{seek_behind}
 
@@ -57,5 +57,5 @@ pub texts_behind : (tag : ℕ) (s more : List ℕ) → (rest : List Span) × (te
 unfolding starts
 texts_behind tag s more = walk_behind (length s) (length (s ++ more)) tag s more 0 (omega arith)
 
-pub bytes_behind : (tag n a e : ℕ) (s more : List ℕ) → seek_in n (texts_of tag s) ≡ At a e → seek_in n (texts_of tag (s ++ more)) ≡ At a e
-bytes_behind tag n a e s more q = let b = texts_behind tag s more in ap (seek_in n) b.1 ∙ seek_behind n a e (texts_of tag s) b.0 q
+pub bytes_behind : (tag n : ℕ) (x : Span) (s more : List ℕ) → seek_in n (texts_of tag s) ≡ Ok x → seek_in n (texts_of tag (s ++ more)) ≡ Ok x
+bytes_behind tag n x s more q = let b = texts_behind tag s more in ap (seek_in n) b.1 ∙ seek_behind n x (texts_of tag s) b.0 q

@@ -1,9 +1,5 @@
 -- Worked examples: payloads, texts and dates.
-use Rattle.std.specs.Prelude.{ℕ, ◌≡◌, refl, List, [], ◌∷◌, true, false}
-use Rattle.metadata.specs.declared.Sought.TheVariants.{Left, At}
-use Rattle.metadata.specs.declared.Given.{Given}
-use Rattle.metadata.specs.declared.Given.TheVariants.{Not, Is}
-use Rattle.metadata.specs.declared.Hours.{Hours}
+use Rattle.std.specs.Prelude.{ℕ, ◌≡◌, refl, List, [], ◌∷◌, true, false, ℤ, pos, negsuc, Option, Some, None, Ok, Err}
 use Rattle.metadata.specs.declared.ReleaseDate.{ReleaseDate}
 use Rattle.metadata.specs.Records.{whole_at, starts_from, starts, is_cut}
 use Rattle.metadata.specs.Texts.{texts_in, texts_of, seek_in, given_twice}
@@ -31,19 +27,19 @@ unfolding is_cut starts starts_from whole_at
 empty_whole = refl
 
 -- the second name; the author's empty text, apart from none; a tag that 001 does not name
-pub second_name : seek_in 2 (texts_of 0x00 payload) ≡ At 8 9
+pub second_name : seek_in 2 (texts_of 0x00 payload) ≡ Ok (record { from = 8; to = 9 })
 unfolding seek_in texts_in starts starts_from whole_at
 second_name = refl
 
-pub empty_text : seek_in 1 (texts_of 0x02 payload) ≡ At 6 6
+pub empty_text : seek_in 1 (texts_of 0x02 payload) ≡ Ok (record { from = 6; to = 6 })
 unfolding seek_in texts_in starts starts_from whole_at
 empty_text = refl
 
-pub no_second_author : seek_in 2 (texts_of 0x02 payload) ≡ Left 1
+pub no_second_author : seek_in 2 (texts_of 0x02 payload) ≡ Err 1
 unfolding seek_in texts_in starts starts_from whole_at
 no_second_author = refl
 
-pub unnamed_tag : seek_in 1 (texts_of 0x10 payload) ≡ Left 1
+pub unnamed_tag : seek_in 1 (texts_of 0x10 payload) ≡ Err 1
 unfolding seek_in texts_in starts starts_from whole_at
 unnamed_tag = refl
 
@@ -53,11 +49,11 @@ name_twice = refl
 
 -- a date of one byte gives the year alone (001, Metadata Tags); a day without a month; -0130 is -2 hours and 30 minutes, and a ninth byte
 -- is not looked at
-abbrev dated : Given → Hours → ℕ → ReleaseDate
+abbrev dated : Option ℕ → ℤ → ℕ → ReleaseDate
 dated day zoneHours zoneMinutes =
     record {
       year = 1982;
-      month = Not;
+      month = None;
       day = day;
       hour = 0;
       minute = 0;
@@ -66,17 +62,14 @@ dated day zoneHours zoneMinutes =
       zone_minutes = zoneMinutes;
     }
 
-abbrev none : Hours
-none = record { negative = false; size = 0 }
-
-pub year_alone : date_of (82 ∷ []) ≡ dated Not none 0
+pub year_alone : date_of (82 ∷ []) ≡ dated None (pos 0) 0
 unfolding date_of
 year_alone = refl
 
-pub day_alone : date_of (82 ∷ 0 ∷ 7 ∷ []) ≡ dated (Is 7) none 0
+pub day_alone : date_of (82 ∷ 0 ∷ 7 ∷ []) ≡ dated (Some 7) (pos 0) 0
 unfolding date_of
 day_alone = refl
 
-pub west : date_of (82 ∷ 0 ∷ 0 ∷ 0 ∷ 0 ∷ 0 ∷ 0xFE ∷ 30 ∷ 99 ∷ []) ≡ dated Not (record { negative = true; size = 2 }) 30
+pub west : date_of (82 ∷ 0 ∷ 0 ∷ 0 ∷ 0 ∷ 0 ∷ 0xFE ∷ 30 ∷ 99 ∷ []) ≡ dated None (negsuc 1) 30
 unfolding date_of
 west = refl

@@ -1,13 +1,12 @@
 -- Texts by tag: what they are of a payload's sub-records, where they stand, and the n-th of two lists of them, one behind the other.
-use Rattle.std.specs.Prelude.{ℕ, zero, suc, ◌-◌, ◌≤◌, ◌<◌, ◌≡◌, refl, List, [], ◌∷◌, ◌++◌, map, true, false, cond, ◌&&◌, length, leb, eqb}
+use Rattle.std.specs.Prelude.{ℕ, zero, suc, ◌-◌, ◌≤◌, ◌<◌, ◌≡◌, refl, List, [], ◌∷◌, ◌++◌, map, true, cond, ◌&&◌, length, leb, eqb, Result, Ok, Err, is_ok}
 use Rattle.std.proofs.Common.{sym, ap, ◌∙◌, arith, le-leb}
 use Rattle.std.proofs.lemmas.Bool.{lt-leb}
 use Rattle.basics.specs.Lists.{part, Each, none, also}
 use Rattle.basics.specs.Laws.Tests.{cases}
-use Rattle.metadata.specs.declared.Sought.{Sought}
-use Rattle.metadata.specs.declared.Sought.TheVariants.{Left, At}
-use Rattle.metadata.specs.Records.{Sub, tag_at, end_at, sub_at, whole_at, starts_from, starts, subs_of}
-use Rattle.metadata.specs.Texts.{last_tag, Span, span_at, texts_in, texts_of, seek_in}
+use Rattle.metadata.specs.declared.Span.{Span}
+use Rattle.metadata.specs.Records.{Sub, tag_at, end_at, sub_at, span_at, whole_at, starts_from, starts, subs_of}
+use Rattle.metadata.specs.Texts.{last_tag, texts_in, texts_of, seek_in}
 use Rattle.metadata.specs.Laws.Walk.{whole_ends}
 
 -- the texts of those of some sub-records that have the tag
@@ -60,16 +59,16 @@ unfolding starts
 within tag s = texts_within (length s) tag s 0
 
 -- the n-th, by how many are to be passed
-pub seek_zero : (xs : List Span) → seek_in 0 xs ≡ Left 0
+pub seek_zero : (xs : List Span) → seek_in 0 xs ≡ Err 0
 unfolding seek_in
 seek_zero [] = refl
 seek_zero (x ∷ xs) = refl
 
-pub seek_none : (n : ℕ) → seek_in n [] ≡ Left n
+pub seek_none : (n : ℕ) → seek_in n [] ≡ Err n
 unfolding seek_in
 seek_none n = refl
 
-pub seek_first : (n : ℕ) (x : Span) (xs : List Span) → n ≡ 1 → seek_in n (x ∷ xs) ≡ At x.from x.to
+pub seek_first : (n : ℕ) (x : Span) (xs : List Span) → n ≡ 1 → seek_in n (x ∷ xs) ≡ Ok x
 unfolding seek_in
 seek_first n x xs e = rw e
 
@@ -80,11 +79,11 @@ seek_next (suc zero) x xs h = absurd (omega arith)
 seek_next (suc (suc n)) x xs h = let e : suc (suc n) - 1 ≡ suc n = omega arith in rw e
 
 -- of texts in two parts: what the first part leaves to pass is asked of the second
-abbrev pub on_sought : {A : Type 0} → Sought → (ℕ → A) → (ℕ → ℕ → A) → A
-on_sought (Left k) left at = left k
-on_sought (At a e) left at = at a e
+abbrev pub on_sought : {A : Type 0} → Result Span ℕ → (ℕ → A) → (Span → A) → A
+on_sought (Err k) left at = left k
+on_sought (Ok x) left at = at x
 
-pub seek_append : (n : ℕ) (xs ys : List Span) → seek_in n (xs ++ ys) ≡ on_sought (seek_in n xs) (λ k. seek_in k ys) At
+pub seek_append : (n : ℕ) (xs ys : List Span) → seek_in n (xs ++ ys) ≡ on_sought (seek_in n xs) (λ k. seek_in k ys) Ok
 unfolding seek_in
 seek_append n [] ys = refl
 seek_append zero (x ∷ xs) ys = sym (seek_zero ys)
@@ -92,21 +91,18 @@ seek_append (suc zero) (x ∷ xs) ys = refl
 seek_append (suc (suc n)) (x ∷ xs) ys = seek_append (suc n) xs ys
 
 -- texts behind never change an earlier answer
-pub seek_behind : (n a e : ℕ) (xs ys : List Span) → seek_in n xs ≡ At a e → seek_in n (xs ++ ys) ≡ At a e
-seek_behind n a e xs ys q = seek_append n xs ys ∙ rw q
+pub seek_behind : (n : ℕ) (x : Span) (xs ys : List Span) → seek_in n xs ≡ Ok x → seek_in n (xs ++ ys) ≡ Ok x
+seek_behind n x xs ys q = seek_append n xs ys ∙ rw q
 
 -- what is found is one of the texts
-pub seek_holds : {P : Span → Type 0} (n a e : ℕ) (xs : List Span) → Each P xs → seek_in n xs ≡ At a e → P (record { from = a; to = e })
+pub seek_holds : {P : Span → Type 0} (n : ℕ) (y : Span) (xs : List Span) → Each P xs → seek_in n xs ≡ Ok y → P y
 unfolding seek_in
-seek_holds n a e [] none q = let z : ◌≡◌ {A = ℕ} 0 1 = cc in absurd (omega arith)
-seek_holds zero a e (x ∷ xs) (also h r) q = let z : ◌≡◌ {A = ℕ} 0 1 = cc in absurd (omega arith)
-seek_holds (suc zero) a e (x ∷ xs) (also h r) q =
-    let i : x.from ≡ a = cc in
-    let j : x.to ≡ e = cc in
-    rw (← i, ← j) h
-seek_holds (suc (suc n)) a e (x ∷ xs) (also h r) q = seek_holds (suc n) a e xs r q
+seek_holds n y [] none q = let z : ◌≡◌ {A = ℕ} 0 1 = cc in absurd (omega arith)
+seek_holds zero y (x ∷ xs) (also h r) q = let z : ◌≡◌ {A = ℕ} 0 1 = cc in absurd (omega arith)
+seek_holds (suc zero) y (x ∷ xs) (also h r) q = let i : x ≡ y = cc in rw (← i) h
+seek_holds (suc (suc n)) y (x ∷ xs) (also h r) q = seek_holds (suc n) y xs r q
 
-pub second : (xs : List Span) → on_sought (seek_in 2 xs) (λ k. false) (λ a e. true) ≡ leb 2 (length xs)
+pub second : (xs : List Span) → is_ok (seek_in 2 xs) ≡ leb 2 (length xs)
 unfolding seek_in
 second [] = refl
 second (x ∷ []) = refl

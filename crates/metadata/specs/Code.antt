@@ -1,2 +1,0 @@
--- What private functions promise.
-pub mod Steps
