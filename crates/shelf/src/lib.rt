@@ -1,7 +1,8 @@
 // A text as a shelf label shows it: no byte of it that a screen would act on (02, "W-204").
 #![tactic(auto)]
 
-ghost use Rattle.std.specs.Prelude.{◌*◌, ◌≤◌, ◌≡◌, ◌++◌, length, take, drop};
+ghost use Rattle.std.specs.Prelude.{◌*◌, ◌≤◌, ◌≡◌, ◌++◌, length, drop};
+ghost use Rattle.basics.specs.Lists.{put_front};
 ghost use Rattle.shelf.specs.Escaped.{by_digits, escaped_byte, escaped, escaped_length, escaped_in};
 
 const BACKSLASH: u8 = 92;
@@ -16,48 +17,32 @@ const LAST_SHOWN: u8 = 0x7E;
 // The most bytes that one byte is shown by.
 const WIDEST: usize = 4;
 
-// What one byte is shown by: the first n of four.
-#[derive(Clone, Copy)]
-struct Signs {
-    n: usize,
-    bytes: [u8; 4],
-}
-
 // A byte by its two digits.
-fn by_digits(b: u8) -> Signs
-    ensures { (result.n ≡ 4) × (result.bytes ≡ by_digits b) }
+fn by_digits(b: u8) -> [u8; 4]
+    ensures { result ≡ by_digits b }
 {
-    Signs {
-        n: 4,
-        bytes: [
-            BACKSLASH,
-            LETTER_X,
-            text::upper_digit(b as u32 / 16),
-            text::upper_digit(b as u32),
-        ],
-    }
+    [
+        BACKSLASH,
+        LETTER_X,
+        text::upper_digit(u32::from(b) / 16),
+        text::upper_digit(u32::from(b)),
+    ]
 }
 
-// What a byte is shown by.
-fn signs_of(b: u8) -> Signs
-    ensures { (take result.n result.bytes ≡ escaped_byte b) × (result.n ≤ 4) × (length result.bytes ≡ 4) }
+// What a byte is shown by, at the front of a part with room for it; answers how many bytes those are.
+fn put_byte(out: &mut [u8], b: u8) -> usize
+    ensures { (result ≡ length (escaped_byte b)) × (out.new ≡ put_front (escaped_byte b) out.old) }
 {
     if b == BACKSLASH {
-        return Signs {
-            n: 2,
-            bytes: [BACKSLASH, BACKSLASH, 0, 0],
-        };
+        basics::put_bytes(out, &[BACKSLASH, BACKSLASH]);
+        return 2;
     }
-    if b < FIRST_SHOWN {
-        return by_digits(b);
+    if (FIRST_SHOWN..=LAST_SHOWN).contains(&b) {
+        basics::put_bytes(out, &[b]);
+        return 1;
     }
-    if LAST_SHOWN < b {
-        return by_digits(b);
-    }
-    Signs {
-        n: 1,
-        bytes: [b, 0, 0, 0],
-    }
+    basics::put_bytes(out, &by_digits(b));
+    4
 }
 
 // A text, shown at the front of a buffer with room for four bytes of each of its own.
@@ -66,15 +51,8 @@ fn put_text(out: &mut [u8], text: &[u8]) -> usize
     ensures { (result ≡ length (escaped text.now)) × (out.new ≡ escaped text.now ++ drop (length (escaped text.now)) out.old) }
 {
     let mut k = 0;
-    let mut i = 0;
-    while i < text.len() {
-        let s = signs_of(text[i]);
-        let bytes = s.bytes;
-        let m = s.n;
-        let e = k + m;
-        basics::put_bytes(&mut out[k..e], &bytes[..m]);
-        k = e;
-        i += 1;
+    for &b in text {
+        k += put_byte(&mut out[k..], b);
     }
     k
 }

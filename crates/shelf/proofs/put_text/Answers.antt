@@ -1,18 +1,16 @@
--- `shelf::put_text` meets its contract. The loop's invariant: the first i bytes are shown by the first k of the buffer.
-use native.Mathlib.Omega.{arith}
-use lib.ListN.{length-take}
-use borrow.Author.Rules.{rules}
-use Rattle.shelf.proofs.Laws.{put_none, put_more, put_length, put_is}
+-- `shelf::put_text` meets its contract. The loop's invariant: the first b-index bytes are shown by the first k of the buffer.
+use Rattle.std.proofs.Common.{rules}
+use Rattle.shelf.proofs.Laws.{put_none, put_fits, put_more, put_length, put_is}
 use Rattle.shelf.proofs.put_text.Goals as goal
 
-pub loop-i-init : goal.loop-i-init
-loop-i-init c = search (rules, put_none)
+pub loop-b-init : goal.loop-b-init
+loop-b-init c = search (rules, put_none)
 
-pub slice_bounds-put_bytes-end-in-loop-i : goal.slice_bounds-put_bytes-end-in-loop-i
-slice_bounds-put_bytes-end-in-loop-i c = simp length-take (omega arith)
+pub overflow_add-k : goal.overflow_add-k
+overflow_add-k c = search (rules, put_fits)
 
-pub loop-i-preserved : goal.loop-i-preserved
-loop-i-preserved c = search (rules, put_more)
+pub loop-b-preserved : goal.loop-b-preserved
+loop-b-preserved c = search (rules, put_more)
 
 pub returns : goal.returns
 returns c = (search (rules, put_length), search (rules, put_is))
