@@ -14,7 +14,6 @@ ghost use Rattle.build.specs.Code.Answers.{answered_of, bare, drawnContent, fron
 
 use basics::{Refusal, either, high, low};
 use blocks::FRAME_SIZE;
-use cfg::Reading;
 use header::UID_SIZE;
 use layout::Drawing;
 use lines::Line;
@@ -208,19 +207,16 @@ fn press(
     answered(w, d.pages)
 }
 
-// 25 to 28, then 20, 12 and the image, of a CFG that was read.
-fn build_lines(bin: &[u8], cfg: &[u8], label: &[u8], r: Reading, out: &mut [u8]) -> Building
-    requires { Read bin.now cfg.now r }
+// 25 to 28, then 20, 12 and the image, of the lines of a CFG that was read.
+fn build_lines(bin: &[u8], cfg: &[u8], label: &[u8], lines: &[Line], out: &mut [u8]) -> Building
+    requires { Read bin.now cfg.now lines.now }
     ensures { Answers bin.now cfg.now label.now out.old result out.new }
 {
-    let lines = r.lines;
     let words = (bin.len() / 2) as u32;
-    let j = rules::judge(words, r.count, lines);
-    if j.number != 0 {
-        return refuse(j);
+    match rules::judge(words, lines) {
+        Ok(()) => press(bin, cfg, label, lines, out),
+        Err(r) => refuse(r),
     }
-    let n = (r.count as usize).min(LINE_LIMIT);
-    press(bin, cfg, label, &lines[..n], out)
 }
 
 // 22 to 24, then the lines, beside a BIN that 21 passes.
@@ -228,12 +224,10 @@ fn build_text(bin: &[u8], cfg: &[u8], label: &[u8], out: &mut [u8]) -> Building
     requires { wrong_bin bin.now ≡ false }
     ensures { Answers bin.now cfg.now label.now out.old result out.new }
 {
-    let r = cfg::read_cfg(cfg);
-    let refusal = r.refusal;
-    if refusal.number != 0 {
-        return refuse(refusal);
+    match cfg::read_cfg(cfg) {
+        Ok(l) => build_lines(bin, cfg, label, l.entries(), out),
+        Err(r) => refuse(r),
     }
-    build_lines(bin, cfg, label, r, out)
 }
 
 // An image from a BIN, a CFG and a label, which may be empty, into the front of a lent buffer.

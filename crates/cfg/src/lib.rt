@@ -1,23 +1,30 @@
 // A CFG is read: its entries, or refusal 22, 23 or 24 with its line (01, "What a CFG may say").
 #![tactic(auto)]
 
-ghost use Rattle.std.specs.Prelude.{◌≤◌, ◌<◌, ◌≡◌, [], length, set};
+ghost use Rattle.std.specs.Prelude.{◌≤◌, ◌<◌, ◌≡◌, [], length, take, set};
 ghost use Rattle.places.specs.Limits.{cfg_limit};
-ghost use Rattle.cfg.specs.File.{says_of, shown, refused, reading_of};
+ghost use Rattle.cfg.specs.File.{says_of, shown, reading_of, lines_or};
 ghost use Rattle.cfg.specs.Code.Steps.{scan_of, onward, in_section, with_entry, with_outside, noted, noted_line, judged};
 
-use basics::Refusal;
+use basics::{Refusal, refuse};
 use grammar::{Says, Section};
 use lines::{Entry, Line};
 use places::{BinWord, CFG_LIMIT, Console, LINE_LIMIT};
 use text::Reader;
 
-// What reading a CFG answers: its refusal, and all else zero; or none, and its entries.
+// The entries of a CFG, at the front of as many places as it may have.
 #[derive(Clone, Copy)]
-pub struct Reading {
-    pub refusal: Refusal,
-    pub count: u32,
+pub struct Lines {
+    pub count: usize,
     pub lines: [Line; LINE_LIMIT],
+}
+
+impl Lines {
+    pub fn entries(&self) -> &[Line]
+        ensures { result.now ≡ take self.now.count self.now.lines }
+    {
+        &self.lines[..self.count.min(LINE_LIMIT)]
+    }
 }
 
 // What the lines so far say: the number of the last, the section they end in, the first line outside the grammar, the line of
@@ -56,14 +63,13 @@ fn store(lines: [Line; LINE_LIMIT], at: usize, e: Line) -> [Line; LINE_LIMIT]
 fn start() -> Scan
     ensures { result ≡ scan_of [] }
 {
-    let lines = blank_lines();
     Scan {
         line: 0,
         section: Section::Nowhere,
         outside: 0,
         extra: 0,
         count: 0,
-        lines,
+        lines: blank_lines(),
     }
 }
 
@@ -72,61 +78,48 @@ fn next(st: Scan) -> Scan
     requires { st.line < cfg_limit }
     ensures { result ≡ onward st }
 {
-    let mut out = st;
-    out.line = st.line + 1;
-    out
+    Scan {
+        line: st.line + 1,
+        ..st
+    }
 }
 
 fn in_section(st: Scan, s: Section) -> Scan
     ensures { result ≡ in_section st s }
 {
-    let lines = st.lines;
-    Scan {
-        line: st.line,
-        section: s,
-        outside: st.outside,
-        extra: st.extra,
-        count: st.count,
-        lines,
-    }
+    Scan { section: s, ..st }
 }
 
 fn with_entry(st: Scan, e: Entry) -> Scan
     requires { st.count < cfg_limit }
     ensures { result ≡ with_entry st e }
 {
-    let section = st.section;
-    let old = st.lines;
-    let lines = store(
-        old,
-        st.count,
-        Line {
-            source: st.line,
-            entry: e,
-        },
-    );
-    let mut extra = st.extra;
-    if st.count == LINE_LIMIT {
-        extra = st.line;
-    }
+    let l = Line {
+        source: st.line,
+        entry: e,
+    };
     Scan {
-        line: st.line,
-        section,
-        outside: st.outside,
-        extra,
+        extra: if st.count == LINE_LIMIT {
+            st.line
+        } else {
+            st.extra
+        },
         count: st.count + 1,
-        lines,
+        lines: store(st.lines, st.count, l),
+        ..st
     }
 }
 
 fn with_outside(st: Scan) -> Scan
     ensures { result ≡ with_outside st }
 {
-    let mut out = st;
     if st.outside == 0 {
-        out.outside = st.line;
+        return Scan {
+            outside: st.line,
+            ..st
+        };
     }
-    out
+    st
 }
 
 // What the line just counted adds.
@@ -148,8 +141,7 @@ fn note_line(st: Scan, text: &[u8], at: usize) -> Scan
     ensures { result ≡ noted_line st text.now at }
 {
     let end = text::line_end(text, at);
-    let section = st.section;
-    let says = grammar::read_line(&text[at..end], section);
+    let says = grammar::read_line(&text[at..end], st.section);
     note(next(st), says)
 }
 
@@ -167,49 +159,36 @@ fn scan_lines(cfg: &[u8]) -> Scan
     st
 }
 
-fn refused(refusal: Refusal) -> Reading
-    ensures { result ≡ refused refusal }
-{
-    let lines = blank_lines();
-    Reading {
-        refusal,
-        count: 0,
-        lines,
-    }
-}
-
 // Refusals 23 and 24.
-fn judge(st: Scan) -> Reading
-    ensures { result ≡ judged st }
+fn judge(st: Scan) -> Result<Lines, Refusal>
+    ensures { result ≡ lines_or (judged st) }
 {
     if 0 < st.outside {
-        return refused(basics::refuse(23, st.outside as usize));
+        return Err(refuse(23, st.outside as usize));
     }
     if st.count == 0 {
-        return refused(basics::refuse(24, 0));
+        return Err(refuse(24, 0));
     }
     if LINE_LIMIT < st.count {
-        return refused(basics::refuse(24, st.extra as usize));
+        return Err(refuse(24, st.extra as usize));
     }
-    let refusal = basics::no_refusal();
     let lines = st.lines;
-    Reading {
-        refusal,
-        count: st.count as u32,
+    Ok(Lines {
+        count: st.count,
         lines,
-    }
+    })
 }
 
 // The entries of a CFG, or why it is refused.
-pub fn read_cfg(cfg: &[u8]) -> Reading
-    ensures { result ≡ reading_of cfg.now }
+pub fn read_cfg(cfg: &[u8]) -> Result<Lines, Refusal>
+    ensures { result ≡ lines_or (reading_of cfg.now) }
 {
     if CFG_LIMIT < cfg.len() {
-        return refused(basics::refuse(22, 0));
+        return Err(refuse(22, 0));
     }
     let at = text::first_foreign(cfg);
     if at < cfg.len() {
-        return refused(basics::refuse(22, text::line_of(cfg, at)));
+        return Err(refuse(22, text::line_of(cfg, at)));
     }
     judge(scan_lines(cfg))
 }

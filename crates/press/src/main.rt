@@ -54,14 +54,13 @@ struct Answer {
 }
 
 // The earlier line with which the one that 27 names collides: the rules are asked.
-fn rival_of(bin: &[u8], cfg: &[u8]) -> u64 {
+fn rival_of(bin: &[u8], cfg: &[u8]) -> Option<u32> {
     let n = bin.len();
     if BIN_LIMIT < n {
-        return 0;
+        return None;
     }
-    let r = cfg::read_cfg(cfg);
-    let lines = r.lines;
-    rules::collides_with((n / 2) as u32, r.count, lines) as u64
+    let l = cfg::read_cfg(cfg).ok()?;
+    rules::collides_with((n / 2) as u32, l.entries())
 }
 
 // The one place here that takes the builder's answer apart.
@@ -78,7 +77,7 @@ fn answer_of(b: Building) -> Answer {
 fn refused(rt: &HostRuntime, a: Answer, bin: &[u8], cfg: &[u8]) {
     files::refused(rt, a.number, a.place);
     if a.number == 27 {
-        files::line(rt, b"with=", rival_of(bin, cfg));
+        files::line(rt, b"with=", rival_of(bin, cfg).map_or(0, u64::from));
     }
 }
 

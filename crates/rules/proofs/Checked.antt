@@ -1,46 +1,51 @@
 -- Rules 25 and 26, line by line: the lines before line k pass, and the first fault is that of the lines from k on.
 use Prim.Native.Nat.{ℕ, ◌≤◌, ◌<◌, ◌+◌}
+use Rattle.std.specs.Prelude.{Result, Ok, Err}
 use mathlib.Core.List.{List}
 use mathlib.Core.Path.{◌≡◌, refl, sym, ◌∙◌, ap}
 use native.Mathlib.Omega.{arith}
-use lib.ListN.{take, length, drop, get_or}
+use lib.ListN.{length, drop, get_or}
 use Rattle.basics.specs.declared.Refusal.{Refusal}
-use Rattle.basics.specs.Refusals.{no_refusal, first_refusal}
+use Rattle.basics.specs.Rows.{Row}
+use Rattle.basics.specs.Refusals.{first_refusal, passed, outcome}
+use Rattle.basics.specs.Laws.Outcomes.{err_some, ok_none}
 use Rattle.basics.specs.Laws.Refusals.{refused_front}
-use Rattle.places.specs.Limits.{line_limit}
 use Rattle.lines.specs.declared.Line.{Line}
 use Rattle.rules.specs.Rules.{rows_of, line_rows}
 use Rattle.rules.specs.Laws.Refusals.{rows_refuse, passed_front}
 use Rattle.rules.proofs.Lists.{no_line, next_line_lem, last_line}
 
-pub record Checked (words n : ℕ) (lines : List Line) (k : ℕ) : Type 0 where
-  pub up : k ≤ n
-  pub long : length lines ≡ line_limit
-  pub same : first_refusal (line_rows words (take n lines)) ≡ first_refusal (line_rows words (drop k (take n lines)))
+pub record Checked (words : ℕ) (lines : List Line) (k : ℕ) : Type 0 where
+  pub up : k ≤ length lines
+  pub same : first_refusal (line_rows words lines) ≡ first_refusal (line_rows words (drop k lines))
 
-pub checked_none : (words n : ℕ) (lines : List Line) → length lines ≡ line_limit → Checked words n lines 0
-checked_none words n lines h = record { up = omega arith; long = h; same = refl }
+pub checked_none : (words : ℕ) (lines : List Line) → Checked words lines 0
+checked_none words lines = record { up = omega arith; same = refl }
 
-module _ (words n : ℕ) (lines : List Line) (m : n ≤ line_limit) (k : ℕ) (c : Checked words n lines k) where
-  within : n ≤ length lines
-  within = omega (arith, c.long)
+module _ (words : ℕ) (lines : List Line) (k : ℕ) (c : Checked words lines k) where
+  pub checked_all : length lines ≤ k → Ok tt ≡ passed (first_refusal (line_rows words lines))
+  checked_all h = sym (rw (c.same, last_line lines k h))
 
-  pub checked_all : n ≤ k → (r : Refusal) → r ≡ no_refusal → r ≡ first_refusal (line_rows words (take n lines))
-  checked_all h r e = e ∙ sym (rw (c.same, last_line n lines within k h))
+  module _ (h : k < length lines) where
+    abbrev rows : List (Row Refusal)
+    rows = rows_of words (get_or lines k no_line)
 
-  module _ (h : k < n) (r : Refusal) (e : r ≡ first_refusal (rows_of words (get_or lines k no_line))) where
-    pub checked_hit : (r.number ≡ 0 → ⊥) → r ≡ first_refusal (line_rows words (take n lines))
-    checked_hit q =
-        rw (c.same, next_line_lem n lines within k h)
-        (e ∙ sym (refused_front (rows_of words (get_or lines k no_line)) (line_rows words (drop (k + 1) (take n lines))) (λ z. q (ap (λ (x : Refusal). x.number) e ∙ z))))
+    module _ (x : Result (Unit {0}) Refusal) (e : x ≡ passed (first_refusal rows)) where
+      -- a fault that the code has found is the first
+      pub checked_hit : (r : Refusal) → x ≡ Err r → Err r ≡ passed (first_refusal (line_rows words lines))
+      checked_hit r q =
+          let fault : outcome (first_refusal rows) tt ≡ Err r = sym e ∙ q in
+          let some : (first_refusal rows).number ≡ 0 → ⊥ = err_some (first_refusal rows) tt r fault in
+          let whole : first_refusal (line_rows words lines) ≡ first_refusal rows =
+          c.same ∙ rw (next_line_lem lines k h) (refused_front rows (line_rows words (drop (k + 1) lines)) some) in
+          sym fault ∙ ap passed (sym whole)
 
-    pub checked_more : r.number ≡ 0 → Checked words n lines (k + 1)
-    checked_more q =
-        record {
-          up = omega arith;
-          long = c.long;
-          same =
-              rw (c.same, next_line_lem n lines within k h)
-              (passed_front (rows_of words (get_or lines k no_line)) (line_rows words (drop (k + 1) (take n lines))) (rows_refuse words (get_or lines k no_line))
-              (sym (ap (λ (x : Refusal). x.number) e) ∙ q));
-        }
+      pub checked_more : (u : Unit {0}) → x ≡ Ok u → Checked words lines (k + 1)
+      checked_more u q =
+          record {
+            up = omega arith;
+            same =
+                rw (c.same, next_line_lem lines k h)
+                (passed_front rows (line_rows words (drop (k + 1) lines)) (rows_refuse words (get_or lines k no_line))
+                (ok_none (first_refusal rows) tt u (sym e ∙ q)));
+          }

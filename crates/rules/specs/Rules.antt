@@ -1,5 +1,5 @@
 -- Rules 25 to 28 of a CFG's lines, each by itself, and the first that is broken (01, What a CFG may say; Numbers that come back).
-use Rattle.std.specs.Prelude.{ℕ, ◌+◌, ◌-◌, ◌%◌, ◌/◌, Bool, ◌||◌, ◌&&◌, not, cond, false, List, [], ◌∷◌, ◌++◌, ltb, leb, eqb}
+use Rattle.std.specs.Prelude.{ℕ, ◌+◌, ◌-◌, ◌%◌, ◌/◌, Bool, ◌||◌, ◌&&◌, not, cond, false, List, [], ◌∷◌, ◌++◌, ltb, leb, eqb, Option, Some, None}
 use Rattle.basics.specs.declared.Refusal.{Refusal}
 use Rattle.basics.specs.Rows.{Row}
 use Rattle.basics.specs.Refusals.{refuse, first_refusal}
@@ -106,3 +106,7 @@ first_rival earlier (l ∷ ls) =
 -- the number of the earlier line with which the line that 27 refuses collides; 0 where 27 is not what refuses
 unfoldable pub collides_with : ℕ → List Line → ℕ
 collides_with words lines = cond (eqb (refusal_of words lines).number 27) (first_rival [] lines) 0
+
+-- a line's number, where 0 stands for no line
+abbrev pub numbered : ℕ → Option ℕ
+numbered n = cond (eqb n 0) None (Some n)

@@ -1,9 +1,9 @@
 // Rules 25 and 26 of one line: its range, and its shape (01, "What a CFG may say").
 ghost use Rattle.std.specs.Prelude.{◌-◌, ◌≡◌};
-ghost use Rattle.basics.specs.Refusals.{first_refusal};
+ghost use Rattle.basics.specs.Refusals.{first_refusal, passed};
 ghost use Rattle.rules.specs.Rules.{backwards, past_bin, out_of_range, meets, touches_silent, plain_shape, whole_page, half_page, page_shape, misshapen, not_allowed, rows_of};
 
-use basics::{Refusal, both, either, no_refusal, refuse};
+use basics::{Refusal, refuse};
 use lines::{Entry, Line, first_of, last_of, layer_of};
 use places::{CHAPTER_PAGES, CHAPTER_SIZE, HALF_SIZE, HALF_START, PARAGRAPH_SIZE};
 
@@ -12,8 +12,7 @@ fn is_backwards(e: Entry) -> bool
     ensures { result ≡ backwards e }
 {
     match e {
-        Entry::Rom(lo, hi, _) => hi.0 < lo.0,
-        Entry::Paged(lo, hi, _, _) => hi.0 < lo.0,
+        Entry::Rom(lo, hi, _) | Entry::Paged(lo, hi, _, _) => hi.0 < lo.0,
         Entry::Ram(lo, hi, _) => hi.0 < lo.0,
     }
 }
@@ -22,8 +21,7 @@ fn past_bin(words: u32, e: Entry) -> bool
     ensures { result ≡ past_bin words e }
 {
     match e {
-        Entry::Rom(_, hi, _) => words <= hi.0,
-        Entry::Paged(_, hi, _, _) => words <= hi.0,
+        Entry::Rom(_, hi, _) | Entry::Paged(_, hi, _, _) => words <= hi.0,
         Entry::Ram(_, _, _) => false,
     }
 }
@@ -31,99 +29,78 @@ fn past_bin(words: u32, e: Entry) -> bool
 fn out_of_range(words: u32, e: Entry) -> bool
     ensures { result ≡ out_of_range words e }
 {
-    either(
-        is_backwards(e),
-        either(past_bin(words, e), 0xFFFF < last_of(e)),
-    )
+    is_backwards(e) || past_bin(words, e) || 0xFFFF < last_of(e)
 }
 
 // Words a to b and words c to d have a word in common.
 fn meet(a: usize, b: usize, c: usize, d: usize) -> bool
     ensures { result ≡ meets a b c d }
 {
-    both(a <= d, c <= b)
+    a <= d && c <= b
 }
 
+#[tactic(auto, unfolding(crate::specs::Rules::touches_silent))]
 fn touches_silent(a: usize, b: usize) -> bool
     ensures { result ≡ touches_silent a b }
 {
-    either(
-        meet(a, b, 0, 0x4FF),
-        either(meet(a, b, 0x1000, 0x1FFF), meet(a, b, 0x3000, 0x3FFF)),
-    )
+    meet(a, b, 0, 0x4FF) || meet(a, b, 0x1000, 0x1FFF) || meet(a, b, 0x3000, 0x3FFF)
 }
 
+#[tactic(auto, unfolding(crate::specs::Rules::plain_shape))]
 fn plain_shape(a: usize, b: usize) -> bool
     ensures { result ≡ plain_shape a b }
 {
-    both(
-        a % PARAGRAPH_SIZE == 0,
-        both(
-            b % PARAGRAPH_SIZE == PARAGRAPH_SIZE - 1,
-            !touches_silent(a, b),
-        ),
-    )
-}
-
-// How far b lies above a; 0 where it does not.
-fn above(a: usize, b: usize) -> usize
-    ensures { result ≡ b - a }
-{
-    if a < b { b - a } else { 0 }
+    a % PARAGRAPH_SIZE == 0 && b % PARAGRAPH_SIZE == PARAGRAPH_SIZE - 1 && !touches_silent(a, b)
 }
 
 fn whole_page(a: usize, b: usize) -> bool
     ensures { result ≡ whole_page a b }
 {
     let x = a / CHAPTER_SIZE;
-    both(
-        above(a, b) == CHAPTER_SIZE - 1,
-        both(a % CHAPTER_SIZE == 0, either(x == 2, 5 <= x)),
-    )
+    b.saturating_sub(a) == CHAPTER_SIZE - 1 && a % CHAPTER_SIZE == 0 && (x == 2 || 5 <= x)
 }
 
 fn half_page(a: usize, b: usize) -> bool
     ensures { result ≡ half_page a b }
 {
-    both(above(a, b) == HALF_SIZE - 1, a == HALF_START)
+    b.saturating_sub(a) == HALF_SIZE - 1 && a == HALF_START
 }
 
+#[tactic(auto, unfolding(crate::specs::Rules::page_shape))]
 fn page_shape(a: usize, b: usize) -> bool
     ensures { result ≡ page_shape a b }
 {
-    either(whole_page(a, b), half_page(a, b))
+    whole_page(a, b) || half_page(a, b)
 }
 
 // 26.
 fn is_misshapen(e: Entry) -> bool
     ensures { result ≡ misshapen e }
 {
-    let from = first_of(e);
-    let a = from.0 as usize;
+    let a = usize::from(first_of(e).0);
+    let b = last_of(e);
     let t = layer_of(e);
     if t == 0 {
-        return !plain_shape(a, last_of(e));
+        return !plain_shape(a, b);
     }
-    either(CHAPTER_PAGES < t, !page_shape(a, last_of(e)))
+    CHAPTER_PAGES < t || !page_shape(a, b)
 }
 
 fn not_allowed(l: Line) -> bool
     ensures { result ≡ not_allowed l }
 {
-    let e = l.entry;
-    either(l.source == 0, is_misshapen(e))
+    l.source == 0 || is_misshapen(l.entry)
 }
 
 // 25, then 26.
-pub(crate) fn fault_of(words: u32, l: Line) -> Refusal
-    ensures { result ≡ first_refusal (rows_of words l) }
+pub(crate) fn fault_of(words: u32, l: Line) -> Result<(), Refusal>
+    ensures { result ≡ passed (first_refusal (rows_of words l)) }
 {
-    let e = l.entry;
-    if out_of_range(words, e) {
-        return refuse(25, l.source as usize);
+    if out_of_range(words, l.entry) {
+        return Err(refuse(25, l.source as usize));
     }
     if not_allowed(l) {
-        return refuse(26, l.source as usize);
+        return Err(refuse(26, l.source as usize));
     }
-    no_refusal()
+    Ok(())
 }

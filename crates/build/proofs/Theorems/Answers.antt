@@ -1,6 +1,6 @@
 -- Each way out of a build: 21, the CFG's refusals, the rules', and the image pressed.
-use Rattle.std.specs.Prelude.{ℕ, ◌<◌, zero, suc, ◌≤◌, ◌%◌, List, [], ◌∷◌, ◌++◌, ◌≡◌, Bool, cond, length, take, eqb}
-use Rattle.std.proofs.Common.{◌∙◌, ap, sym, arith}
+use Rattle.std.specs.Prelude.{Result, Ok, Err, ℕ, ◌<◌, zero, suc, ◌≤◌, ◌%◌, List, [], ◌∷◌, ◌++◌, ◌≡◌, Bool, cond, length, take, eqb}
+use Rattle.std.proofs.Common.{◌∙◌, ap, sym, arith, take_all}
 use Rattle.std.proofs.Math.Bool.{true, false}
 use Rattle.std.proofs.Math.Dec.{ltb}
 use borrow.Author.Tests.{ne_eqb, ltb-false}
@@ -8,14 +8,15 @@ use Rattle.basics.specs.declared.Refusal.{Refusal}
 use Rattle.basics.specs.Rows.{Row, Silent, first_of}
 use Rattle.basics.specs.Laws.Rows.{first_append}
 use Rattle.basics.specs.Tables.{made}
-use Rattle.basics.specs.Refusals.{refuse, no_refusal, first_refusal}
+use Rattle.basics.specs.Refusals.{refuse, no_refusal, first_refusal, passed}
+use Rattle.basics.specs.Laws.Outcomes.{err_is, err_some, ok_none, ok_value}
 use Rattle.basics.specs.Laws.Refusals.{refused_front, silent_behind, accepted_exactly}
 use Rattle.basics.specs.Laws.Tests.{cases, or_false_right}
-use Rattle.places.specs.Limits.{bin_limit, chapters}
+use Rattle.places.specs.Limits.{bin_limit, line_limit, chapters}
 use Rattle.lines.specs.declared.Line.{Line}
 use Rattle.lines.specs.Bin.{bin_words}
-use Rattle.cfg.specs.declared.Reading.{Reading}
-use Rattle.cfg.specs.File.{reading_of, entries_of, too_long, has_foreign, has_outside, no_entry, too_many, refusal_rows as cfgRows, refusal_of as cfgRefusal}
+use Rattle.cfg.specs.declared.Lines.{Lines}
+use Rattle.cfg.specs.File.{lines_or, reading_of, entries_of, too_long, has_foreign, has_outside, no_entry, too_many, refusal_rows as cfgRows, refusal_of as cfgRefusal}
 use Rattle.cfg.specs.Laws.Refusals.{exactly, refusal_is}
 use Rattle.cfg.proofs.Theorems.Entries.{accepted_holds, Holds, all_typed}
 use Rattle.rules.specs.Rules.{line_rows, out_of_range, not_allowed, share_rows, shares_earlier, chapter_rows, breaks_plain, refusal_rows as ruleRows, refusal_of as ruleRefusal}
@@ -84,57 +85,60 @@ module _ (bin cfg label out : List ℕ) where
     parts = rw fine
 
     -- 22 to 24
-    pub refused-cfg : (r : Reading) → r ≡ reading_of cfg → (r.refusal.number ≡ 0 → ⊥) → (q : Building) → q ≡ bare r.refusal → Answers bin cfg label out q out
-    refused-cfg r e h q eq =
-        let s : r.refusal ≡ cfgRefusal cfg = ap (λ (x : Reading). x.refusal) e ∙ refusal_is cfg in
-        let n : (cfgRefusal cfg).number ≡ 0 → ⊥ = rw s at h in
-        rw (eq, s) (refuses-bare (cfgRefusal cfg) (parts ∙ refused_front (cfgRows cfg) behind n) n (λ z. omega (arith, cfg-below cfg)))
+    pub refused-cfg : (x : Result Lines Refusal) → x ≡ lines_or (reading_of cfg) → (r : Refusal) → x ≡ Err r → (q : Building) → q ≡ bare r → Answers bin cfg label out q out
+    refused-cfg x e r h q eq =
+        let s : cfgRefusal cfg ≡ r = sym (refusal_is cfg) ∙ err_is (reading_of cfg).refusal _ r (sym e ∙ h) in
+        let n : (cfgRefusal cfg).number ≡ 0 → ⊥ = rw (refusal_is cfg) at (err_some (reading_of cfg).refusal _ r (sym e ∙ h)) in
+        rw (eq, ← s) (refuses-bare (cfgRefusal cfg) (parts ∙ refused_front (cfgRows cfg) behind n) n (λ z. omega (arith, cfg-below cfg)))
 
-  module _ (r : Reading) (given : Read bin cfg r) where
-    read : (reading_of cfg).refusal.number ≡ 0
-    read = sym (ap (λ (x : Reading). x.refusal.number) given.reading) ∙ given.accepted
-
-    pub lines_are : take r.count r.lines ≡ entries_of cfg
-    lines_are = rw given.reading (accepted_holds cfg read).lines
+  module _ (lines : List Line) (given : Read bin cfg lines) where
+    pub lines_are : lines ≡ entries_of cfg
+    lines_are = given.entries
 
     behind-cfg : refusal_of bin cfg label out ≡ first_refusal behind
-    behind-cfg = parts given.fine ∙ silent_behind (cfgRows cfg) behind ((exactly cfg).accepts.0 read)
+    behind-cfg = parts given.fine ∙ silent_behind (cfgRows cfg) behind ((exactly cfg).accepts.0 given.accepted)
 
-    module _ (words : ℕ) (ew : words ≡ bin_words bin) (j : Refusal) (ej : j ≡ ruleRefusal words (take r.count r.lines)) where
-      judged : j ≡ ruleRefusal (bin_words bin) (entries_of cfg)
-      judged = ej ∙ rw (ew, lines_are)
+    abbrev rule : Refusal
+    rule = ruleRefusal (bin_words bin) (entries_of cfg)
+
+    module _ (words : ℕ) (ew : words ≡ bin_words bin) (j : Result (Unit {0}) Refusal) (ej : j ≡ passed (ruleRefusal words lines)) where
+      judged : passed rule ≡ j
+      judged = sym (ej ∙ rw (ew, lines_are))
 
       -- 25 to 28
-      pub refused-lines : (j.number ≡ 0 → ⊥) → (q : Building) → q ≡ bare j → Answers bin cfg label out q out
+      pub refused-lines : (r : Refusal) → j ≡ Err r → (q : Building) → q ≡ bare r → Answers bin cfg label out q out
       unfolding ruleRefusal
-      refused-lines h q eq =
-          let n : (ruleRefusal (bin_words bin) (entries_of cfg)).number ≡ 0 → ⊥ = rw judged at h in
-          rw (eq, judged)
-          (refuses-bare (ruleRefusal (bin_words bin) (entries_of cfg)) (behind-cfg ∙ refused_front (ruleRows (bin_words bin) (entries_of cfg)) _ n) n
+      refused-lines r h q eq =
+          let n : rule.number ≡ 0 → ⊥ = err_some rule tt r (judged ∙ h) in
+          rw (eq, ← err_is rule tt r (judged ∙ h))
+          (refuses-bare rule (behind-cfg ∙ refused_front (ruleRows (bin_words bin) (entries_of cfg)) _ n) n
           (λ z. omega (arith, rules-below (bin_words bin) (entries_of cfg))))
 
-      module _ (h : j.number ≡ 0) where
+      module _ (u : Unit {0}) (h : j ≡ Ok u) where
         silent : Silent (ruleRows (bin_words bin) (entries_of cfg))
         unfolding ruleRefusal
         silent =
             (accepted_exactly (ruleRows (bin_words bin) (entries_of cfg)) (rules-refuse (bin_words bin) (entries_of cfg))).0
-            (sym (ap (λ (x : Refusal). x.number) judged) ∙ h)
+            (ok_none rule tt u (judged ∙ h))
 
-        pub accepts : Accepted bin (take r.count r.lines)
-        accepts =
-            let k : Holds cfg (reading_of cfg) = accepted_holds cfg read in
+        accepted : Accepted bin lines
+        accepted =
+            let k : Holds cfg (reading_of cfg) = accepted_holds cfg given.accepted in
             rw lines_are (record { few = omega (arith, k.counted, k.most); typed = all_typed k.fitting; judged = (rules-exactly (bin_words bin) (entries_of cfg)).accepts.1 silent })
 
-        image_is : image_on bin cfg label (take r.count r.lines) ≡ pressed_image bin cfg label
+        as_many : take line_limit lines ≡ lines
+        as_many = take_all line_limit lines accepted.few
+
+        pub accepts : Accepted bin (take line_limit lines)
+        accepts = rw as_many accepted
+
+        image_is : image_on bin cfg label lines ≡ pressed_image bin cfg label
         unfolding pressed_image
         image_is = rw lines_are
 
         left : refusal_of bin cfg label out
             ≡ cond (too_large (entries_of cfg)) (refuse 20 0) (cond (wrong_label label) (refuse 12 0) (cond (too_short bin cfg label out) (refuse 29 0) no_refusal))
         left = behind-cfg ∙ silent_behind (ruleRows (bin_words bin) (entries_of cfg)) _ silent
-
-        abbrev lines : List Line
-        lines = take r.count r.lines
 
         -- 20
         large : (q : Building) (after : List ℕ) → Pressed bin cfg label lines out q after → too_large (entries_of cfg) ≡ true → Answers bin cfg label out q after
@@ -163,8 +167,9 @@ module _ (bin cfg label out : List ℕ) where
             let u : ltb (length out) (length (image_on bin cfg label lines)) ≡ false = rw image_is t in
             record { answer = p.answer ∙ rw (g, o, u, image_is, lines_are, v); leaves = p.leaves ∙ rw (g, o, u, image_is, v) })
 
-        pub pressed : (q : Building) (after : List ℕ) → Pressed bin cfg label lines out q after → Answers bin cfg label out q after
-        pressed q after p =
+        pub pressed : (q : Building) (after : List ℕ) → Pressed bin cfg label (take line_limit lines) out q after → Answers bin cfg label out q after
+        pressed q after k =
+            let p : Pressed bin cfg label lines out q after = rw as_many at k in
             cases (too_large (entries_of cfg)) (large q after p)
             (λ f. cases (wrong_label label) (wrong q after p f) (fitting q after p f))
 
@@ -176,5 +181,14 @@ bin_small bin h =
     ltb-false bin_limit (length bin) z
 
 -- a CFG that is read beside such a BIN
-pub read-so : (bin cfg : List ℕ) (r : Reading) → wrong_bin bin ≡ false → r ≡ reading_of cfg → r.refusal.number ≡ 0 → Read bin cfg r
-read-so bin cfg r f e z = record { fine = f; small = bin_small bin f; reading = e; accepted = z }
+pub read-so : (bin cfg : List ℕ) (x : Result Lines Refusal) → wrong_bin bin ≡ false → x ≡ lines_or (reading_of cfg)
+    → (l : Lines) → x ≡ Ok l → (es : List Line) → es ≡ take l.count l.lines → Read bin cfg es
+read-so bin cfg x f e l h es q =
+    let n : (reading_of cfg).refusal.number ≡ 0 = ok_none (reading_of cfg).refusal _ l (sym e ∙ h) in
+    let v : record { count = (reading_of cfg).count; lines = (reading_of cfg).lines } ≡ l = ok_value (reading_of cfg).refusal _ l (sym e ∙ h) in
+    record {
+      fine = f;
+      small = bin_small bin f;
+      accepted = n;
+      entries = q ∙ ap (λ (x : Lines). take x.count x.lines) (sym v) ∙ (accepted_holds cfg n).lines;
+    }

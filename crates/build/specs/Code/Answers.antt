@@ -10,8 +10,7 @@ use Rattle.label.specs.Label.{label_block, wrong_label}
 use Rattle.save.specs.declared.Writing.{Writing}
 use Rattle.save.specs.Writing.{Content, content, writing_of, written_of}
 use Rattle.lines.specs.declared.Line.{Line}
-use Rattle.cfg.specs.declared.Reading.{Reading}
-use Rattle.cfg.specs.File.{reading_of}
+use Rattle.cfg.specs.File.{reading_of, entries_of}
 use Rattle.layout.specs.declared.Drawing.{Drawing}
 use Rattle.layout.specs.Layout.{needed}
 use Rattle.build.specs.declared.Building.{Building}
@@ -60,12 +59,12 @@ labelledLeft label out c =
     (cond (passes (writing_of (drop (roomOf label out) out) c).refusal)
     (labelPut label (take (roomOf label out) out ++ written_of (drop (roomOf label out) out) c)) out)
 
--- a BIN that 21 passes, and a CFG that was read
-pub record Read (bin cfg : List ℕ) (r : Reading) : Type 0 where
+-- a BIN that 21 passes, and the lines of a CFG that was read
+pub record Read (bin cfg : List ℕ) (lines : List Line) : Type 0 where
   pub fine : wrong_bin bin ≡ false
   pub small : length bin ≤ bin_limit
-  pub reading : r ≡ reading_of cfg
-  pub accepted : r.refusal.number ≡ 0
+  pub accepted : (reading_of cfg).refusal.number ≡ 0
+  pub entries : lines ≡ entries_of cfg
 
 -- a build's answer, and the buffer after it
 pub record Answers (bin cfg label out : List ℕ) (r : Building) (after : List ℕ) : Type 0 where

@@ -18,7 +18,7 @@ use Rattle.grammar.specs.declared.Says.TheVariants.{Blank, Heading, Outside, Cla
 use Rattle.grammar.specs.declared.Section.TheVariants.{Nowhere}
 use Rattle.grammar.specs.Grammar.{line_says}
 use Rattle.grammar.specs.Laws.Grammar.{Fitting, claims_fit}
-use Rattle.cfg.specs.declared.Reading.{Reading}
+use Rattle.cfg.specs.File.{Reading}
 use Rattle.cfg.specs.File.{entries_from, says_from, section_after, claimed, entries_of, blank_line, shown, refusal_rows, accepted, reading_of}
 use Rattle.cfg.specs.Laws.Refusals.{Exactly, exactly}
 

@@ -5,4 +5,4 @@ use Rattle.cfg.proofs.start.Goals as goal
 
 pub returns : goal.returns
 unfolding outside_from entries_from section_from
-returns c = rw c.blank_lines-lines.ensures
+returns c = rw c.blank_lines.ensures

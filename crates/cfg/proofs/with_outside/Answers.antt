@@ -5,5 +5,5 @@ use Rattle.cfg.proofs.with_outside.Goals as goal
 pub returns-then-st-eq0 : goal.returns-then-st-eq0
 returns-then-st-eq0 c = search tests
 
-pub returns-else-st-eq0 : goal.returns-else-st-eq0
-returns-else-st-eq0 c = search tests
+pub returns : goal.returns
+returns c = search tests

@@ -13,7 +13,7 @@ use Rattle.grammar.specs.declared.Says.TheVariants.{Blank, Heading, Claims, Outs
 use Rattle.grammar.specs.declared.Section.TheVariants.{Nowhere}
 use Rattle.grammar.specs.Grammar.{line_says}
 use Rattle.cfg.specs.declared.Scan.{Scan}
-use Rattle.cfg.specs.declared.Reading.{Reading}
+use Rattle.cfg.specs.File.{Reading}
 use Rattle.cfg.specs.File.{section_after, outside_from, entries_from, blank_line, shown, refused}
 
 -- the section that lines end in, where the first stands in section s

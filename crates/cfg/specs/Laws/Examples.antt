@@ -11,7 +11,7 @@ use Rattle.lines.specs.declared.Line.{Line}
 use Rattle.lines.specs.declared.Width.TheVariants.{Eight}
 use Rattle.grammar.specs.Grammar.{rom, paged, ram, hex_from, dollar, one_digit, bits, ◌>>=◌, rom_line, paged_line, ram_line, mapping_line, memattr_line, heading_line, words_say}
 use Rattle.grammar.specs.Words.{cut}
-use Rattle.cfg.specs.declared.Reading.{Reading}
+use Rattle.cfg.specs.File.{Reading}
 use Rattle.cfg.specs.File.{accepted, refused, reading_of, says_from, outside_from, entries_from}
 use Rattle.cfg.specs.Examples.{entries}
 

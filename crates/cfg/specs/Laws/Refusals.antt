@@ -13,7 +13,7 @@ use Rattle.text.specs.Lines.{line_of}
 use Rattle.text.specs.Laws.Bytes.{until_passes, until_before}
 use Rattle.grammar.specs.declared.Says.{Says}
 use Rattle.grammar.specs.declared.Says.TheVariants.{Blank}
-use Rattle.cfg.specs.declared.Reading.{Reading}
+use Rattle.cfg.specs.File.{Reading}
 use Rattle.cfg.specs.File.{says_of, is_outside, outside_from, outside_line, entries_of, refused, accepted, too_long, has_foreign, has_outside, no_entry, too_many, refusal_rows, refusal_of, reading_of}
 
 -- the first byte that is not allowed is on this line

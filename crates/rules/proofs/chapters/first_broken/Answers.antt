@@ -13,4 +13,4 @@ pub loop-x-preserved : goal.loop-x-preserved
 loop-x-preserved c = unbroken_more _ _ c.loop-x.invariant c.loop-x-test.true _ c.breaks_plain.ensures c.if-breaks_plain.false
 
 pub returns : goal.returns
-returns c = unbroken_all _ _ c.loop-x.invariant c.loop-x-test.false _ c.no_refusal.ensures
+returns c = unbroken_all _ _ c.loop-x.invariant c.loop-x-test.false
