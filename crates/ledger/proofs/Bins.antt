@@ -2,7 +2,7 @@
 use Prim.Native.Nat.{◌%◌, ◌*◌, ◌+◌, ◌/◌, ◌-◌, ◌<◌, ◌≤◌, max, min, suc, zero, ℕ}
 use mathlib.Core.List.{List, [], ◌++◌, ◌∷◌, append_assoc, append-nil}
 use mathlib.Core.Path.{◌∙◌, ◌≡◌, ap, refl, sym}
-use mathlib.Core.Bool.{Bool, ◌||◌, false, not, true}
+use mathlib.Core.Bool.{Bool, false, not, true}
 use native.Mathlib.Omega.{arith}
 use native.Mathlib.Numerals.{add-one}
 use lib.ListN.{get_or-append, replicate, get_or-eq_default, drop, get_or, length-drop, length, length-append, length-set, set, take}
@@ -14,7 +14,7 @@ use Rattle.std.proofs.lemmas.List.{get_or-append_right, get_or-replicate, length
 use Rattle.basics.specs.Laws.Each.{joined_append, joined_more}
 use Rattle.basics.specs.Laws.Lists.{get_d_part, length_part}
 use Rattle.basics.specs.Laws.Puts.{put_behind, put_room, put_short, put_wrote}
-use Rattle.basics.specs.Laws.Tables.{get_d_table, length_table, table_of}
+use Rattle.basics.specs.Laws.Tables.{length_table, table_of}
 use Rattle.basics.specs.Laws.Tests.{cases, not-false, not-true}
 use Rattle.basics.specs.Laws.Wrote.{Wrote, wrote_all, wrote_long, wrote_none, wrote_part, wrote_set}
 use Rattle.basics.specs.Lists.{flat, joined, part, put_front}
@@ -60,17 +60,11 @@ module _ (ws : List ℕ) (n : ℕ) (out₀ out : List ℕ) (i : ℕ) (c : Words 
         wrote = rw e at two;
       }
 
-  pub words_second : i < n → (h : ℕ) → 2 * i + 1 < length (set out (2 * i) h)
-  words_second b h = omega (arith, length-set out (2 * i) h, c.long)
-
   pub words_all : n ≤ i → out ≡ joined be16 ws
   words_all h =
       let t : take i ws ≡ ws = take_all i ws (omega (arith, c.many)) in
       wrote_all out₀ out (joined be16 (take i ws)) c.wrote (ap (λ (x : List ℕ). length (joined be16 x)) t ∙ omega (arith, length_bytes ws, c.many, c.fits))
       ∙ ap (joined be16) t
-
-  pub words_same : length out ≡ length out₀
-  words_same = omega (arith, c.long, c.fits)
 
 -- words that are all zeros
 zeros : (m : ℕ) → joined be16 (replicate m 0) ≡ replicate (2 * m) 0
@@ -102,9 +96,6 @@ module _ (ram : List ℕ) (a n b e : ℕ) (eb : b ≡ min a (length ram)) (ee : 
   from_held =
       table_of 0 n (λ i. words_in ram (a + i)) (held ++ replicate (n - (e - b)) 0)
       (length-append held (replicate (n - (e - b)) 0) ∙ omega (arith, held_long, length-replicate {A = ℕ} (n - (e - b)) 0)) at_place
-
-  pub part_fits : (out : List ℕ) (s : ℕ) → length out ≡ 2 * n → s ≡ 2 * (e - b) → s ≤ length out
-  part_fits out s h es = omega arith
 
   pub words_put : (out ys zs : List ℕ) (s k : ℕ) → length out ≡ 2 * n → s ≡ 2 * (e - b) → ys ≡ joined be16 held → k ≡ length (put_mid 0 s out ys) - s
       → zs ≡ replicate (length (take k (drop s (put_mid 0 s out ys)))) 0
@@ -227,9 +218,6 @@ module _ (ks : List ℕ) (ps : List Bool) (ram : List ℕ) where
     pub rom_length : paragraphs ≤ p → at ≡ length (joined be16 (rom_words (plan_in ks ps) (words_in ram)))
     rom_length h = pieces_length (is_rom (plan_in ks ps)) rom_piece out₀ out at p c h
 
-    pub rom_long : length out ≡ length out₀
-    rom_long = c.long
-
 -- the pages
 module _ (ks : List ℕ) (ps : List Bool) (ram : List ℕ) where
   abbrev page_piece : ℕ → List ℕ
@@ -263,9 +251,6 @@ module _ (ks : List ℕ) (ps : List Bool) (ram : List ℕ) where
 
     pub page_length : flip_entries ≤ n → at ≡ length (joined be16 (paged_words (plan_in ks ps) (words_in ram)))
     page_length h = pieces_length (has_page (plan_in ks ps)) page_piece out₀ out at n c h
-
-    pub page_long : length out ≡ length out₀
-    page_long = c.long
 
 -- nothing
 put_none : (out : List ℕ) → put_front [] out ≡ out

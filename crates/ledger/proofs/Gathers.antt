@@ -6,7 +6,7 @@ use mathlib.Core.Bool.{Bool, cond, false, true}
 use native.Mathlib.Omega.{arith}
 use native.Mathlib.Numerals.{add-one}
 use lib.Dec.{eqb}
-use lib.ListN.{get_or, length, length-append, set}
+use lib.ListN.{get_or, length, length-append}
 use borrow.Author.Tests.{ne_eqb}
 use Rattle.basics.specs.Counts.{count}
 use Rattle.basics.specs.Laws.Counts.{count_most}
@@ -77,12 +77,6 @@ module _ (before : List Line) (on : ℕ → Bool) (g : ℕ → Line) (b : ℕ) w
     gathered_off : n < 256 → on n ≡ false → (v : Found) → v ≡ f → Gathered before on g b v (n + 1)
     gathered_off h o v ev = gathered_next h v (ev ∙ c.is ∙ ap list_of (sym (one_off o)))
 
-    gathered_all : 256 ≤ n → f ≡ list_of (before ++ listed 256 on g)
-    gathered_all h = let z : n ≡ 256 = omega (arith, c.up) in c.is ∙ ap (λ (m : ℕ). list_of (before ++ listed m on g)) z
-
-    pub gathered_few : f.count ≤ b + 256
-    gathered_few = omega (arith, c.up, c.few)
-
 module _ (ks : List ℕ) (ps : List Bool) where
   abbrev q : Plan
   q = plan_in ks ps
@@ -103,12 +97,6 @@ module _ (ks : List ℕ) (ps : List Bool) where
   pub roms_off : (f : Found) (p : ℕ) (o : Bool) → Roms f p → p < paragraphs → o ≡ starts_rom q p → o ≡ false → (v : Found) → v ≡ f → Roms v (p + 1)
   roms_off f p o c h eo t v ev = gathered_off [] (starts_rom q) (rom_line q) 0 f p c h (sym eo ∙ t) v ev
 
-  pub roms_all : (f : Found) (p : ℕ) → Roms f p → paragraphs ≤ p → f ≡ list_of (rom_lines q)
-  roms_all f p c h = gathered_all [] (starts_rom q) (rom_line q) 0 f p c h
-
-  pub roms_few : (f : Found) (p : ℕ) → Roms f p → f.count ≤ paragraphs
-  roms_few f p c = gathered_few [] (starts_rom q) (rom_line q) 0 f p c
-
   -- pages
   abbrev pub Pages : Found → ℕ → Type 0
   Pages f n = Gathered (rom_lines q) (has_page q) (page_line q) paragraphs f n
@@ -125,12 +113,6 @@ module _ (ks : List ℕ) (ps : List Bool) where
 
   pub pages_off : (f : Found) (n : ℕ) → Pages f n → n < flip_entries → get_or ps n false ≡ false → (v : Found) → v ≡ f → Pages v (n + 1)
   pages_off f n c h t v ev = gathered_off (rom_lines q) (has_page q) (page_line q) paragraphs f n c h (page_in_lem ks ps n ∙ t) v ev
-
-  pub pages_all : (f : Found) (n : ℕ) → Pages f n → flip_entries ≤ n → f ≡ list_of (mapping_lines q)
-  pages_all f n c h = gathered_all (rom_lines q) (has_page q) (page_line q) paragraphs f n c h
-
-  pub pages_few : (f : Found) (n : ℕ) → Pages f n → f.count ≤ most_mapping
-  pages_few f n c = gathered_few (rom_lines q) (has_page q) (page_line q) paragraphs f n c
 
   -- RAM
   mapping_long : length (mapping_lines q) ≡ length (mapping_entries q)
@@ -178,17 +160,8 @@ module _ (ks : List ℕ) (ps : List Bool) where
   pub rams_off : (f : Found) (names p : ℕ) (o : Bool) → Rams names f p → p < paragraphs → o ≡ starts_ram q p → o ≡ false → (v : Found) → v ≡ f → Rams names v (p + 1)
   rams_off f names p o c h eo t v ev = rams_next names p f v c (gathered_off (mapping_lines q) (starts_ram q) (ram_line q) most_mapping f p c.gathered h (sym eo ∙ t) v ev)
 
-  pub rams_all : (f : Found) (names p : ℕ) → Rams names f p → paragraphs ≤ p → f ≡ list_of (canonical_lines q)
-  rams_all f names p c h =
-      gathered_all (mapping_lines q) (starts_ram q) (ram_line q) most_mapping f p c.gathered h
-      ∙ ap list_of (append_assoc (rom_lines q) (listed 256 (has_page q) (page_line q)) (listed 256 (starts_ram q) (ram_line q)))
-
   -- all
   pub listing_is : (f l : Found) → f ≡ list_of (mapping_lines q) → l ≡ list_of (canonical_lines q)
       → ◌≡◌ {A = Listing} (record { mapping = f.count; count = l.count; lines = l.lines }) (listing_of q)
   unfolding listing_of
   listing_is f l ef el = rw (ef, el, mapping_long)
-
--- one line
-pub add_one_line : (f : Found) (x : Line) (ls : List Line) → ls ≡ set f.lines f.count x → ◌≡◌ {A = Found} (record { count = f.count + 1; lines = ls }) (added f x)
-add_one_line f x ls e = rw e

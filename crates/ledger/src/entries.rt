@@ -1,5 +1,5 @@
 // The canonical entries of a plan (02, W-213).
-ghost use Rattle.std.specs.Prelude.{◌+◌, ◌*◌, ◌-◌, ◌≤◌, ◌<◌, ◌≡◌, cond, ◌&&◌, eqb};
+ghost use Rattle.std.specs.Prelude.{◌+◌, ◌*◌, ◌-◌, ◌≤◌, ◌<◌, ◌≡◌};
 ghost use Rattle.places.specs.Limits.{chapter_size, flip_entries, paragraphs, paragraph_size};
 ghost use Rattle.plan.specs.Valid.{is_ram_kind};
 ghost use Rattle.canon.specs.Canonical.{page_entry, page_offset, page_words, ram_entry, ram_width, rom_entry, rom_offset, run_at, starts_ram, starts_rom};
@@ -43,11 +43,12 @@ impl Sketch {
         requires { p < paragraphs }
         ensures { (result ≡ run_at (sketched self.now) p) × (p + result ≤ paragraphs) }
     {
-        let mut r = 0;
         for n in 0..PARAGRAPHS - p {
-            r = further(r, n, self.kinds[p + n] == self.kinds[p]);
+            if self.kinds[p + n] != self.kinds[p] {
+                return n;
+            }
         }
-        r
+        PARAGRAPHS - p
     }
 
     // Returns the BIN word at which plain paragraph p starts.
@@ -55,11 +56,7 @@ impl Sketch {
         requires { p ≤ paragraphs }
         ensures { (result ≡ rom_offset (sketched self.now) p) × (result ≤ paragraph_size * p) }
     {
-        let mut n = 0;
-        for i in 0..p {
-            n += usize::from(self.kinds[i] == 1);
-        }
-        PARAGRAPH_SIZE * n
+        PARAGRAPH_SIZE * (0..p).filter(|&i| self.kinds[i] == 1).count()
     }
 
     // Returns the BIN word at which page n % 16 of chapter n / 16 starts.
@@ -120,15 +117,6 @@ impl Sketch {
             width_of(self.kinds[p]),
         )
     }
-}
-
-// Returns a run's length after one paragraph more: a run of r paragraphs is one longer where it has reached all n before this one, and this
-// one is of its kind.
-fn further(r: usize, n: usize, same: bool) -> usize
-    requires { (r ≤ n) × (n < paragraphs) }
-    ensures { (result ≡ cond (eqb r n && same) (n + 1) r) × (result ≤ n + 1) }
-{
-    if r == n && same { n + 1 } else { r }
 }
 
 // Returns the words of a page of chapter x.

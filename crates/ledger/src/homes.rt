@@ -19,12 +19,7 @@ impl Sketch {
         requires { x < chapters }
         ensures { result ≡ has_plain (sketched self.now x) }
     {
-        for k in 0..CHAPTER_PARAGRAPHS {
-            if self.kinds[CHAPTER_PARAGRAPHS * x + k] != 0 {
-                return true;
-            }
-        }
-        false
+        (0..CHAPTER_PARAGRAPHS).any(|k| self.kinds[CHAPTER_PARAGRAPHS * x + k] != 0)
     }
 
     // Returns how many pages chapter x has below page y.
@@ -32,11 +27,9 @@ impl Sketch {
         requires { (x < chapters) × (y ≤ chapter_pages) }
         ensures { (result ≡ count (sketched self.now x).page y) × (result ≤ y) }
     {
-        let mut n = 0;
-        for i in 0..y {
-            n += usize::from(self.pages[CHAPTER_PAGES * x + i]);
-        }
-        n
+        (0..y)
+            .filter(|&i| self.pages[CHAPTER_PAGES * x + i])
+            .count()
     }
 
     // Returns the Locutus pages of chapter x.
@@ -94,11 +87,6 @@ impl Sketch {
     pub fn holds_ram(&self, p: usize) -> bool
         ensures { result ≡ ram_covered_of (sketched self.now) p }
     {
-        for x in 0..CHAPTERS {
-            if self.in_ram(x, p) {
-                return true;
-            }
-        }
-        false
+        (0..CHAPTERS).any(|x| self.in_ram(x, p))
     }
 }

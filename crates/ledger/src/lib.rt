@@ -23,7 +23,8 @@ pub struct Sketch {
     pub pages: [bool; FLIP_ENTRIES],
 }
 
-// Lines at the front of an array, how many there are, and how many of them are of [mapping]; those past the last place are counted.
+// Lines at the front of an array, how many there are, and how many of them are of [mapping]. Those past the last place are counted. The
+// number stands beside the array because the project has no heap.
 #[derive(Clone, Copy)]
 pub struct Listing {
     pub mapping: usize,
@@ -40,51 +41,37 @@ impl Listing {
     }
 }
 
+// The lines so far, as a listing has them.
 #[derive(Clone, Copy)]
 struct Found {
     count: usize,
     lines: [Line; LINE_LIMIT],
 }
 
-fn none_found() -> Found
-    ensures { result ≡ list_of [] }
-{
-    let blank = Line {
-        source: 0,
-        entry: Entry::Rom(BinWord(0), BinWord(0), Console(0)),
-    };
-    let lines = [blank; LINE_LIMIT];
-    Found { count: 0, lines }
-}
-
-// The lines with `e` at `at`, where there is such a place.
-fn store(lines: [Line; LINE_LIMIT], at: usize, e: Line) -> [Line; LINE_LIMIT]
-    ensures { result ≡ set lines at e }
-{
-    let mut out = lines;
-    if at < LINE_LIMIT {
-        out[at] = e;
+impl Found {
+    fn new() -> Found
+        ensures { result ≡ list_of [] }
+    {
+        let blank = Line {
+            source: 0,
+            entry: Entry::Rom(BinWord(0), BinWord(0), Console(0)),
+        };
+        let lines = [blank; LINE_LIMIT];
+        Found { count: 0, lines }
     }
-    out
-}
 
-// One line more.
-fn add(f: Found, source: usize, e: Entry) -> Found
-    requires { (f.count ≤ most_lines) × (source ≤ 3 + most_lines) }
-    ensures { result ≡ added f (line source e) }
-{
-    let old = f.lines;
-    let lines = store(
-        old,
-        f.count,
-        Line {
-            source: source as u32,
-            entry: e,
-        },
-    );
-    Found {
-        count: f.count + 1,
-        lines,
+    // Adds a line, which stands after all lines so far and those that name sections. A line that has no place is counted.
+    fn push(&mut self, names: usize, entry: Entry)
+        requires { (self.old.count ≤ most_lines) × (names ≤ 3) }
+        ensures { self.new ≡ added self.old (line (names + self.old.count) entry) }
+    {
+        if self.count < LINE_LIMIT {
+            self.lines[self.count] = Line {
+                source: (names + self.count) as u32,
+                entry,
+            };
+        }
+        self.count += 1;
     }
 }
 
@@ -100,10 +87,10 @@ impl Sketch {
     fn rom_lines(&self) -> Found
         ensures { (result ≡ list_of (rom_lines (sketched self.now))) × (result.count ≤ paragraphs) }
     {
-        let mut f = none_found();
+        let mut f = Found::new();
         for p in 0..PARAGRAPHS {
             if self.starts_rom(p) {
-                f = add(f, 2 + f.count, self.rom_entry(p));
+                f.push(2, self.rom_entry(p));
             }
         }
         f
@@ -117,7 +104,7 @@ impl Sketch {
         let mut f = roms;
         for n in 0..FLIP_ENTRIES {
             if self.pages[n] {
-                f = add(f, 2 + f.count, self.page_entry(n));
+                f.push(2, self.page_entry(n));
             }
         }
         f
@@ -131,7 +118,7 @@ impl Sketch {
         let mut f = mapping;
         for p in 0..PARAGRAPHS {
             if self.starts_ram(p) {
-                f = add(f, names + f.count, self.ram_entry(p));
+                f.push(names, self.ram_entry(p));
             }
         }
         f

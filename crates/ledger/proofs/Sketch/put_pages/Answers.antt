@@ -1,6 +1,6 @@
 -- `ledger::Sketch::put_pages` meets its contract. The loop's invariant: the words of the first n pages are written.
 use borrow.Author.Rules.{rules}
-use Rattle.ledger.proofs.Bins.{page_none, page_more, page_off, page_all, page_length, page_long, page_room}
+use Rattle.ledger.proofs.Bins.{page_none, page_more, page_off, page_all, page_length, page_room}
 use Rattle.ledger.proofs.Sketch.put_pages.Goals as goal
 use Rattle.ledger.proofs.Sketch.put_pages.Goals.{then-self-n, else-self-n}
 
@@ -9,9 +9,6 @@ loop-n-init c = search (rules, page_none)
 
 pub loop-n-preserved : goal.loop-n-preserved
 loop-n-preserved c = elim c.if-self-n.branch [ then-self-n w ↦ search (rules, page_more) | else-self-n w ↦ search (rules, page_off) ]
-
-pub shape_of-out : goal.shape_of-out
-shape_of-out c = search (rules, page_long)
 
 pub returns : goal.returns
 returns c = search (rules, page_length, page_all)

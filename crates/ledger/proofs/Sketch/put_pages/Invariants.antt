@@ -1,5 +1,4 @@
 -- `ledger::Sketch::put_pages` meets its contract. The loop's invariant: the words of the first n pages are written.
-use Rattle.places.specs.Limits.{flip_entries}
 use Rattle.ledger.proofs.Bins.{PagePieces}
 use Rattle.ledger.proofs.Sketch.put_pages.Given as goal
 

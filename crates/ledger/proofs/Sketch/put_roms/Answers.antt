@@ -1,6 +1,6 @@
 -- `ledger::Sketch::put_roms` meets its contract. The loop's invariant: the words of ROM of the first p paragraphs are written.
 use borrow.Author.Rules.{rules}
-use Rattle.ledger.proofs.Bins.{rom_none, rom_more, rom_off, rom_all, rom_length, rom_long, rom_room}
+use Rattle.ledger.proofs.Bins.{rom_none, rom_more, rom_off, rom_all, rom_length, rom_room}
 use Rattle.ledger.proofs.Sketch.put_roms.Goals as goal
 use Rattle.ledger.proofs.Sketch.put_roms.Goals.{then-self-p-eq1, else-self-p-eq1}
 
@@ -9,9 +9,6 @@ loop-p-init c = search (rules, rom_none)
 
 pub loop-p-preserved : goal.loop-p-preserved
 loop-p-preserved c = elim c.if-self-p-eq1.branch [ then-self-p-eq1 w ↦ search (rules, rom_more) | else-self-p-eq1 w ↦ search (rules, rom_off) ]
-
-pub shape_of-out : goal.shape_of-out
-shape_of-out c = search (rules, rom_long)
 
 pub returns : goal.returns
 returns c = search (rules, rom_length, rom_all)

@@ -1,5 +1,4 @@
 -- `ledger::Sketch::put_roms` meets its contract. The loop's invariant: the words of ROM of the first p paragraphs are written.
-use Rattle.places.specs.Limits.{paragraphs}
 use Rattle.ledger.proofs.Bins.{RomPieces}
 use Rattle.ledger.proofs.Sketch.put_roms.Given as goal
 

@@ -1,5 +1,4 @@
 -- `ledger::Sketch::rom_lines` meets its contract. The loop's invariant: the lines of ROM of the first p paragraphs are found.
-use Rattle.places.specs.Limits.{paragraphs}
 use Rattle.ledger.proofs.Gathers.{Roms}
 use Rattle.ledger.proofs.Sketch.rom_lines.Given as goal
 

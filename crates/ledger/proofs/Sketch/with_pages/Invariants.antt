@@ -1,5 +1,4 @@
 -- `ledger::Sketch::with_pages` meets its contract. The loop's invariant: the lines of the first n pages are found.
-use Rattle.places.specs.Limits.{flip_entries}
 use Rattle.ledger.proofs.Gathers.{Pages}
 use Rattle.ledger.proofs.Sketch.with_pages.Given as goal
 

@@ -1,5 +1,4 @@
 -- `ledger::Sketch::with_rams` meets its contract. The loop's invariant: the lines of RAM of the first p paragraphs are found.
-use Rattle.places.specs.Limits.{paragraphs}
 use Rattle.ledger.proofs.Gathers.{Rams}
 use Rattle.ledger.proofs.Sketch.with_rams.Given as goal
 
