@@ -7,7 +7,6 @@ ghost use Rattle.places.specs.Places.{console};
 ghost use Rattle.lines.specs.Lines.{first, last, holds, layer};
 ghost use Rattle.lines.specs.Kinds.{kind_by};
 
-use basics::both;
 use places::{BinWord, Console, Page};
 
 // RAM 16 or RAM 8.
@@ -36,10 +35,7 @@ pub struct Line {
 fn reach(lo: BinWord, hi: BinWord, at: Console) -> usize
     ensures { result ≡ at.0 + (hi.0 - lo.0) }
 {
-    if hi.0 < lo.0 {
-        return at.0 as usize;
-    }
-    at.0 as usize + (hi.0 - lo.0) as usize
+    usize::from(at.0) + hi.0.saturating_sub(lo.0) as usize
 }
 
 // The first and the last address that an entry names; whether it holds an address.
@@ -47,8 +43,7 @@ pub fn first_of(e: Entry) -> Console
     ensures { result ≡ console (first e) }
 {
     match e {
-        Entry::Rom(_, _, at) => at,
-        Entry::Paged(_, _, at, _) => at,
+        Entry::Rom(_, _, at) | Entry::Paged(_, _, at, _) => at,
         Entry::Ram(lo, _, _) => lo,
     }
 }
@@ -57,17 +52,16 @@ pub fn last_of(e: Entry) -> usize
     ensures { result ≡ last e }
 {
     match e {
-        Entry::Rom(lo, hi, at) => reach(lo, hi, at),
-        Entry::Paged(lo, hi, at, _) => reach(lo, hi, at),
-        Entry::Ram(_, hi, _) => hi.0 as usize,
+        Entry::Rom(lo, hi, at) | Entry::Paged(lo, hi, at, _) => reach(lo, hi, at),
+        Entry::Ram(_, hi, _) => usize::from(hi.0),
     }
 }
 
+#[tactic(auto, unfolding(crate::specs::Lines::holds))]
 pub fn holds(e: Entry, a: Console) -> bool
     ensures { result ≡ holds e a.0 }
 {
-    let from = first_of(e);
-    both(from.0 <= a.0, a.0 as usize <= last_of(e))
+    first_of(e).0 <= a.0 && usize::from(a.0) <= last_of(e)
 }
 
 // 0 of a plain entry, 1 + y of one of page y.
@@ -75,9 +69,8 @@ pub fn layer_of(e: Entry) -> usize
     ensures { (result ≡ layer e) × (result ≤ 256) }
 {
     match e {
-        Entry::Rom(_, _, _) => 0,
-        Entry::Paged(_, _, _, y) => y.0 as usize + 1,
-        Entry::Ram(_, _, _) => 0,
+        Entry::Rom(_, _, _) | Entry::Ram(_, _, _) => 0,
+        Entry::Paged(_, _, _, y) => usize::from(y.0) + 1,
     }
 }
 
@@ -86,11 +79,8 @@ pub fn kind_of(e: Entry) -> u8
     ensures { result ≡ kind_by e }
 {
     match e {
-        Entry::Rom(_, _, _) => 1,
-        Entry::Paged(_, _, _, _) => 1,
-        Entry::Ram(_, _, w) => match w {
-            Width::Sixteen => 3,
-            Width::Eight => 7,
-        },
+        Entry::Rom(_, _, _) | Entry::Paged(_, _, _, _) => 1,
+        Entry::Ram(_, _, Width::Sixteen) => 3,
+        Entry::Ram(_, _, Width::Eight) => 7,
     }
 }

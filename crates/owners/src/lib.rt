@@ -2,14 +2,14 @@
 // places"). A line claims its places; of those that a later one claims the least owner tells with whom it shares.
 #![tactic(auto)]
 
-ghost use Rattle.std.specs.Prelude.{◌≡◌, []};
+ghost use Rattle.std.specs.Prelude.{◌≡◌, [], length, get_or};
 ghost use Rattle.basics.specs.Tables.{table};
 ghost use Rattle.places.specs.Limits.{paragraphs, flip_entries};
 ghost use Rattle.owners.specs.Owners.{claims_paragraph, claims_page, only, or_else, owners_of, claimed_by, claimed_both, lesser, least_of, owned_by, least_owner};
 
-use basics::both;
 use lines::{Entry, Line};
 use places::{CHAPTER_PAGES, CHAPTER_SIZE, Console, FLIP_ENTRIES, PARAGRAPH_SIZE, PARAGRAPHS};
+use std::array;
 
 // The numbers of the lines that own each paragraph, and each page of each chapter; 0 where nobody does.
 #[derive(Clone, Copy)]
@@ -22,8 +22,8 @@ pub struct Owners {
 pub fn no_owners() -> Owners
     ensures { result ≡ owners_of [] }
 {
-    let paragraphs = [0u32; PARAGRAPHS];
-    let pages = [0u32; FLIP_ENTRIES];
+    let paragraphs = [0; PARAGRAPHS];
+    let pages = [0; FLIP_ENTRIES];
     Owners { paragraphs, pages }
 }
 
@@ -31,22 +31,19 @@ pub fn no_owners() -> Owners
 fn claims_paragraph(p: u8, e: Entry) -> bool
     ensures { result ≡ claims_paragraph p e }
 {
-    let at = Console((PARAGRAPH_SIZE * p as usize) as u16);
-    both(lines::layer_of(e) == 0, lines::holds(e, at))
+    let at = Console((PARAGRAPH_SIZE * usize::from(p)) as u16);
+    lines::layer_of(e) == 0 && lines::holds(e, at)
 }
 
 fn claims_page(n: u8, e: Entry) -> bool
     ensures { result ≡ claims_page n e }
 {
-    let i = n as usize;
-    let from = lines::first_of(e);
-    both(
-        lines::layer_of(e) == i % CHAPTER_PAGES + 1,
-        from.0 as usize / CHAPTER_SIZE == i / CHAPTER_PAGES,
-    )
+    let i = usize::from(n);
+    let from = usize::from(lines::first_of(e).0);
+    lines::layer_of(e) == i % CHAPTER_PAGES + 1 && from / CHAPTER_SIZE == i / CHAPTER_PAGES
 }
 
-// A number where a test passes; the first of two that is not 0; and the least.
+// A number where a test passes; the first of two that is not 0; and the lesser of two, where 0 stands for none.
 fn only(test: bool, number: u32) -> u32
     ensures { result ≡ only test number }
 {
@@ -68,74 +65,60 @@ fn lesser(m: u32, n: u32) -> u32
     if n == 0 {
         return m;
     }
-    if m < n { m } else { n }
+    m.min(n)
 }
 
 // The paragraphs, and the pages, after an entry has claimed its own under a number.
 pub fn claim_paragraphs(owners: &[u32; PARAGRAPHS], e: Entry, number: u32) -> [u32; PARAGRAPHS]
     ensures { result ≡ table paragraphs (claimed_by claims_paragraph owners.now e number) }
 {
-    let mut claimed = [0u32; PARAGRAPHS];
-    let mut p = 0;
-    while p < PARAGRAPHS {
-        claimed[p] = or_else(owners[p], only(claims_paragraph(p as u8, e), number));
-        p += 1;
-    }
-    claimed
+    array::from_fn(|p| or_else(owners[p], only(claims_paragraph(p as u8, e), number)))
 }
 
 fn claim_pages(owners: &[u32; FLIP_ENTRIES], e: Entry, number: u32) -> [u32; FLIP_ENTRIES]
     ensures { result ≡ table flip_entries (claimed_by claims_page owners.now e number) }
 {
-    let mut claimed = [0u32; FLIP_ENTRIES];
-    let mut n = 0;
-    while n < FLIP_ENTRIES {
-        claimed[n] = or_else(owners[n], only(claims_page(n as u8, e), number));
-        n += 1;
-    }
-    claimed
+    array::from_fn(|n| or_else(owners[n], only(claims_page(n as u8, e), number)))
 }
 
 // The owners after one more line.
 pub fn claim(owners: Owners, l: Line) -> Owners
     ensures { result ≡ claimed_both owners l }
 {
-    let e = l.entry;
-    let paragraphs = claim_paragraphs(&owners.paragraphs, e, l.source);
-    let pages = claim_pages(&owners.pages, e, l.source);
+    let paragraphs = claim_paragraphs(&owners.paragraphs, l.entry, l.source);
+    let pages = claim_pages(&owners.pages, l.entry, l.source);
     Owners { paragraphs, pages }
 }
 
-// The least owner of the paragraphs, and of the pages, that an entry claims; and of all of them.
-fn least_paragraph(owners: &[u32; PARAGRAPHS], e: Entry) -> u32
-    ensures { result ≡ least_of paragraphs (owned_by claims_paragraph owners.now e) }
+// The owners of the paragraphs, and of the pages, that an entry claims; 0 for the others.
+fn met_paragraphs(owners: &[u32; PARAGRAPHS], e: Entry) -> [u32; PARAGRAPHS]
+    ensures { result ≡ table paragraphs (owned_by claims_paragraph owners.now e) }
+{
+    array::from_fn(|p| only(claims_paragraph(p as u8, e), owners[p]))
+}
+
+fn met_pages(owners: &[u32; FLIP_ENTRIES], e: Entry) -> [u32; FLIP_ENTRIES]
+    ensures { result ≡ table flip_entries (owned_by claims_page owners.now e) }
+{
+    array::from_fn(|n| only(claims_page(n as u8, e), owners[n]))
+}
+
+// The least of several numbers, 0 standing for none.
+fn least(numbers: &[u32]) -> u32
+    ensures { result ≡ least_of (length numbers.now) (λ i. get_or numbers.now i 0) }
 {
     let mut r = 0;
-    let mut p = 0;
-    while p < PARAGRAPHS {
-        r = lesser(only(claims_paragraph(p as u8, e), owners[p]), r);
-        p += 1;
+    for n in numbers {
+        r = lesser(*n, r);
     }
     r
 }
 
-fn least_page(owners: &[u32; FLIP_ENTRIES], e: Entry) -> u32
-    ensures { result ≡ least_of flip_entries (owned_by claims_page owners.now e) }
-{
-    let mut r = 0;
-    let mut n = 0;
-    while n < FLIP_ENTRIES {
-        r = lesser(only(claims_page(n as u8, e), owners[n]), r);
-        n += 1;
-    }
-    r
-}
-
+// The least owner of all places that an entry claims.
 pub fn least_owner(owners: Owners, e: Entry) -> u32
     ensures { result ≡ least_owner owners e }
 {
-    lesser(
-        least_paragraph(&owners.paragraphs, e),
-        least_page(&owners.pages, e),
-    )
+    let paragraphs = met_paragraphs(&owners.paragraphs, e);
+    let pages = met_pages(&owners.pages, e);
+    lesser(least(&paragraphs), least(&pages))
 }

@@ -1,7 +1,7 @@
--- `owners::least_page` meets its contract. The loop's invariant: r is the least owner of the claimed ones among the first n places.
+-- `owners::least` meets its contract. The loop's invariant: r is the least of the numbers before place i.
 use borrow.Author.Rules.{rules}
 use Rattle.owners.proofs.Loops.{least_none, least_more, least_all}
-use Rattle.owners.proofs.least_page.Goals as goal
+use Rattle.owners.proofs.least.Goals as goal
 
 pub loop-n-init : goal.loop-n-init
 loop-n-init c = search (rules, least_none)

@@ -1,0 +1,7 @@
+-- `owners::met_pages` meets its contract.
+use borrow.Author.Rules.{rules}
+use Rattle.basics.specs.Laws.Filling.{table_from_fn}
+use Rattle.owners.proofs.met_pages.Goals as goal
+
+pub returns : goal.returns
+returns c = table_from_fn _ _ _ _ (λ i y q l k. search rules) 0 _ c.from_fn.ensures.items
