@@ -3,185 +3,118 @@
 // refuses; or `result=stopped` with the file and the reason.
 #![tactic(auto)]
 
-ghost use Rattle.std.specs.Prelude.{◌≡◌, ◌≤◌, length};
+ghost use Rattle.std.specs.Prelude.{IfOk};
+ghost use Rattle.files.specs.Counts.{IsPrefixLen};
 
-use basics::Refusal;
-use cart::Cartridge;
+use files::{Argument, Failure, Reading, Stop, Stopped, Why};
 use std::env::FillError;
+use std::io;
 use std::rt::Env;
+
+const IMAGE: Argument = Argument {
+    place: 1,
+    word: "IMAGE",
+};
+
+const LIST: Argument = Argument {
+    place: 2,
+    word: "LIST",
+};
+
+const LIMIT: Argument = Argument {
+    place: 3,
+    word: "LIMIT",
+};
 
 // The most bytes of a list.
 const LIST_LIMIT: usize = 4194304;
 
-// Room for one byte more than a list may have, so that a longer one is seen to be longer. The image stands in it first: once it is loaded it is not
-// asked again.
-fn file_room() -> [u8; 4194305]
-    ensures { 4194305 ≡ length result }
-{
-    [0; 4194305]
-}
-
 // Room for the answers of any list: a read takes 15 bytes with the end of its line.
-fn answer_room() -> [u32; 279620]
-    ensures { 279620 ≡ length result }
-{
-    [0; 279620]
-}
-
-// A limit that is given, or that what is given is none.
-#[derive(Clone, Copy)]
-enum Limit {
-    Is(usize),
-    Not,
-}
-
-// A decimal digit's value; 10 for any other byte.
-fn digit_of(b: u8) -> usize
-    ensures { result ≤ 10 }
-{
-    match b {
-        b'0'..=b'9' => (b - b'0') as usize,
-        _ => 10,
-    }
-}
+const ANSWERS: usize = 279620;
 
 // The number that decimal digits say, at most nine of them behind any zeros.
-fn limit_of(text: &[u8]) -> Limit {
-    if text.len() == 0 {
-        return Limit::Not;
+fn limit_of(text: &[u8]) -> Option<usize> {
+    if text.is_empty() {
+        return None;
     }
     let mut n: usize = 0;
-    let mut i = 0;
-    while i < text.len() {
-        let d = digit_of(text[i]);
-        if d == 10 {
-            return Limit::Not;
+    for b in text {
+        if !b.is_ascii_digit() || 99999999 < n {
+            return None;
         }
-        if 99999999 < n {
-            return Limit::Not;
-        }
-        n = n * 10 + d;
-        i += 1;
+        n = n * 10 + usize::from(*b - b'0');
     }
-    Limit::Is(n)
+    Some(n)
 }
 
-// The third argument; where there is none, as many lines as no list has more.
-fn given_limit(rt: &HostRuntime) -> Limit {
-    let mut text = [0u8; 32];
-    match rt.arg(3, &mut text) {
+// The limit that is given; where there is none, LIST_LIMIT, which no list exceeds.
+fn given_limit(rt: &HostRuntime) -> Result<usize, Stopped> {
+    let mut text = [0; 32];
+    let limit = match rt.arg(LIMIT.place, &mut text) {
         Ok(k) => limit_of(&text[..k]),
-        Err(FillError::NotPresent) => Limit::Is(LIST_LIMIT),
-        Err(FillError::TooLong) => Limit::Not,
-    }
+        Err(FillError::NotPresent) => Some(LIST_LIMIT),
+        Err(FillError::TooLong) => None,
+    };
+    limit.ok_or(Stop::by_rule(Why::Number).of(LIMIT.word))
 }
 
-fn refused(rt: &HostRuntime, r: Refusal) {
-    files::refused(rt, r.number as u64, r.place as u64);
+// Reads the list, of which room for one byte more tells a longer one.
+fn read_list(rt: &HostRuntime, file: &mut [u8]) -> Result<Reading, Stopped>
+    ensures { IfOk result (λ list. IsPrefixLen list.n file.new) }
+{
+    let list = files::read_argument(rt, LIST, file)?;
+    if LIST_LIMIT < list.n {
+        return Err(Stop::by_rule(Why::Long).of(LIST.word));
+    }
+    Ok(list)
 }
 
-fn show_answer(rt: &HostRuntime, n: u32) {
-    if n == cart::SILENCE {
-        files::say(rt, b"word=silence\n");
-        return;
+fn show(rt: &HostRuntime, answers: &[u32], lines: usize) -> io::Result<()> {
+    for n in answers {
+        if *n == cart::SILENCE {
+            println!(rt; "word=silence")?;
+        } else {
+            println!(rt; "word={:04X}", n % 0x10000)?;
+        }
     }
-    let line = [
-        b'w',
-        b'o',
-        b'r',
-        b'd',
-        b'=',
-        text::upper_digit(n / 0x1000),
-        text::upper_digit(n / 0x100),
-        text::upper_digit(n / 0x10),
-        text::upper_digit(n),
-        b'\n',
-    ];
-    files::say(rt, &line);
+    println!(rt; "lines={lines}")
 }
 
-fn show(rt: &HostRuntime, answers: &[u32], lines: u64) {
-    let mut i = 0;
-    while i < answers.len() {
-        show_answer(rt, answers[i]);
-        i += 1;
-    }
-    files::line(rt, b"lines=", lines);
-}
-
-// Runs the list on the cartridge as it is loaded.
-fn run(
-    rt: &HostRuntime,
-    list: &[u8],
-    limit: usize,
-    c: Cartridge,
-    ram: &mut [u16],
-    flash: &mut [u16],
-    out: &mut [u32],
-) {
-    let ran = accesses::run(list, limit, c, ram, flash, out);
-    let r = ran.refusal;
-    if r.number != 0 {
-        refused(rt, r);
-        return;
-    }
-    let n = ran.length;
-    // never so: 29 would have come first
-    if out.len() < n {
-        return;
-    }
-    show(rt, &out[..n], ran.lines as u64);
-}
-
-// Reads the list and the limit, and runs it.
-fn run_file(
+// Loads the image, with the flash that it asks for, and runs the list on it. The image stands in the list's room first: once it is loaded
+// it is not asked again.
+fn play(
     rt: &HostRuntime,
     file: &mut [u8],
-    c: Cartridge,
     ram: &mut [u16],
     flash: &mut [u16],
-    out: &mut [u32],
-) {
-    let t = files::read_argument(rt, 2, file);
-    let n = t.n;
-    if files::stops(t.stop) {
-        files::stopped(rt, b"LIST", t.stop);
-        return;
+    answers: &mut [u32],
+) -> Result<(), Failure> {
+    let image = files::read_argument(rt, IMAGE, file)?;
+    let f = lending::flash_words(&file[..image.n], flash.len());
+    let flash = &mut flash[..f];
+    let loading = load::load(&file[..image.n], ram, flash);
+    if loading.refusal.number != 0 {
+        return Err(Failure::Refused(loading.refusal));
     }
-    if LIST_LIMIT < n {
-        files::say(rt, b"result=stopped\nfile=LIST\nwhy=long\nerror=0\n");
-        return;
+    let list = read_list(rt, file)?;
+    let limit = given_limit(rt)?;
+    let list = &file[..list.n];
+    let ran = accesses::run(list, limit, loading.cartridge, ram, flash, answers);
+    if ran.refusal.number != 0 {
+        return Err(Failure::Refused(ran.refusal));
     }
-    let Limit::Is(most) = given_limit(rt) else {
-        files::say(rt, b"result=stopped\nfile=LIMIT\nwhy=number\nerror=0\n");
-        return;
-    };
-    run(rt, &file[..n], most, c, ram, flash, out);
-}
-
-// Loads the image, with the flash that it asks for, and runs the list on it.
-fn play(rt: &HostRuntime, file: &mut [u8], ram: &mut [u16], flash: &mut [u16], out: &mut [u32]) {
-    let t = files::read_argument(rt, 1, file);
-    let n = t.n;
-    if files::stops(t.stop) {
-        files::stopped(rt, b"IMAGE", t.stop);
-        return;
-    }
-    let f = lending::flash_words(&file[..n], flash.len());
-    let loading = load::load(&file[..n], ram, &flash[..f]);
-    let r = loading.refusal;
-    if r.number != 0 {
-        refused(rt, r);
-        return;
-    }
-    let c = loading.cartridge;
-    run_file(rt, file, c, ram, &mut flash[..f], out);
+    // The answers lie in the buffer: accesses would have refused with 29.
+    let n = ran.length.min(answers.len());
+    let _ = show(rt, &answers[..n], ran.lines);
+    Ok(())
 }
 
 fn main(rt: HostRuntime) {
-    let mut file = file_room();
-    let mut answers = answer_room();
+    let mut file: [u8; LIST_LIMIT + 1] = files::room(0);
+    let mut answers: [u32; ANSWERS] = files::room(0);
     let mut ram = lending::blank_ram();
     let mut flash = lending::erased_flash();
-    play(&rt, &mut file, &mut ram, &mut flash, &mut answers);
+    if let Err(failure) = play(&rt, &mut file, &mut ram, &mut flash, &mut answers) {
+        let _ = rt.print(failure);
+    }
 }

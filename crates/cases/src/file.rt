@@ -12,8 +12,11 @@ pub struct FileRead {
 // `name` has the family's name, of k bytes; the rest of it is overwritten.
 pub fn read_family(rt: &HostRuntime, name: &mut [u8], k: usize, file: &mut [u8]) -> FileRead {
     let end = put(name, k, b".vec");
-    let r = files::read_file(rt, front(name, end), file);
-    let n = r.n;
-    let cut = basics::either(files::stops(r.stop), n == file.len());
-    FileRead { n, whole: !cut }
+    match files::read_file(rt, front(name, end), file) {
+        Ok(read) => FileRead {
+            n: read.n,
+            whole: read.n != file.len(),
+        },
+        Err(_) => FileRead { n: 0, whole: false },
+    }
 }

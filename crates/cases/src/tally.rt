@@ -1,4 +1,5 @@
 // How many cases there were, how many differ, and the first that does.
+use std::io;
 use std::num::wrapping_add_u64;
 
 #[derive(Clone, Copy)]
@@ -50,45 +51,47 @@ pub fn with_cases(had: u64, t: Tally) -> u64 {
     wrapping_add_u64(had, 1)
 }
 
-fn counts(rt: &HostRuntime, t: Tally) {
-    files::say_number(rt, t.cases);
-    files::say(rt, b" cases, ");
-    files::say_number(rt, t.differ);
-    files::say(rt, b" differ");
+fn write_not_run(rt: &HostRuntime, name: &[u8]) -> io::Result<()> {
+    rt.write_all(name)?;
+    println!(rt; ": not run")
 }
 
-// The line of a family that was not run.
+fn write_all_cases(rt: &HostRuntime, t: Tally, had: u64, files: u64) -> io::Result<()> {
+    let Tally { cases, differ, .. } = t;
+    print!(rt; "all: {cases} cases, {differ} differ, {had} of {files} files run")?;
+    if had != files {
+        print!(rt; "; a file is missing, cannot be read or is empty")?;
+    }
+    println!(rt)
+}
+
+fn write_family(rt: &HostRuntime, name: &[u8], t: Tally) -> io::Result<()> {
+    let Tally {
+        cases,
+        differ,
+        first,
+    } = t;
+    rt.write_all(name)?;
+    println!(rt; ": {cases} cases, {differ} differ")?;
+    if differ != 0 {
+        print!(rt; "first: ")?;
+        rt.write_all(name)?;
+        println!(rt; " {first}")?;
+    }
+    Ok(())
+}
+
+// The line of a family that was not run. Where a line cannot be written, nobody is left to be told.
 pub fn not_run(rt: &HostRuntime, name: &[u8]) {
-    files::say(rt, name);
-    files::say(rt, b": not run\n");
+    let _ = write_not_run(rt, name);
 }
 
 // The last line.
 pub fn report_all(rt: &HostRuntime, t: Tally, had: u64, files: u64) {
-    files::say(rt, b"all: ");
-    counts(rt, t);
-    files::say(rt, b", ");
-    files::say_number(rt, had);
-    files::say(rt, b" of ");
-    files::say_number(rt, files);
-    files::say(rt, b" files run");
-    if had != files {
-        files::say(rt, b"; a file is missing, cannot be read or is empty");
-    }
-    files::say(rt, b"\n");
+    let _ = write_all_cases(rt, t, had, files);
 }
 
 // The line of a family; another names the first case that differs.
 pub fn report(rt: &HostRuntime, name: &[u8], t: Tally) {
-    files::say(rt, name);
-    files::say(rt, b": ");
-    counts(rt, t);
-    files::say(rt, b"\n");
-    if t.differ != 0 {
-        files::say(rt, b"first: ");
-        files::say(rt, name);
-        files::say(rt, b" ");
-        files::say_number(rt, t.first);
-        files::say(rt, b"\n");
-    }
+    let _ = write_family(rt, name, t);
 }

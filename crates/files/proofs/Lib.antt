@@ -1,4 +1,3 @@
-pub mod Signs
 pub mod Loops
 pub mod Parts
 pub mod Verdicts

@@ -1,79 +1,29 @@
 -- What the loops over names and inputs keep.
-use Prim.Native.Nat.{ℕ, suc, ◌+◌, ◌*◌, ◌≤◌, ◌<◌, ◌/◌, ◌%◌}
-use mathlib.Core.Bool.{Bool, true, false, not, ◌||◌}
+use Prim.Native.Nat.{ℕ, zero, suc, ◌+◌, ◌*◌, ◌≤◌, ◌<◌, ◌/◌, ◌%◌}
+use mathlib.Core.Bool.{Bool, true, false, cond, not, ◌||◌}
 use mathlib.Core.List.{List, [], ◌∷◌, ◌++◌, append_assoc}
 use mathlib.Core.Path.{◌≡◌, refl, sym, ap, ◌∙◌}
 use native.Mathlib.Omega.{arith}
 use native.Mathlib.Numerals.{add-one}
 use lib.Dec.{eqb, ltb}
-use lib.ListN.{length, get_or, take, drop, set, length-set, length-append, drop_of_length-le}
-use lib.Seq.{take_all, take-suc, length-take-le, drop-cons}
+use lib.ListN.{length, get_or, take, set, length-set, length-append}
+use lib.Seq.{take_all, take-suc, length-take-le}
+use Rattle.std.proofs.Common.{inl, inr, ◌⊎◌, eq-or-lt_of_le}
+use Rattle.std.specs.List.{IsAnyAnswer, list_any}
+use Rattle.std.specs.Option.{MatchOption}
+use Rattle.std.specs.Prelude.{Option, Some, None}
 use borrow.Author.Tests.{eq-eqb, ne_eqb, lt-ltb, le-ltb}
 use Rattle.files.specs.Counts.{IsPrefixLen}
 use Rattle.files.specs.Digits.{hex_digit_ascii}
 use Rattle.basics.specs.Counts.{all}
 use Rattle.basics.specs.Lists.{joined}
-use Rattle.basics.specs.Laws.Counts.{all_at}
+use Rattle.basics.specs.Laws.Counts.{all_at, all_of}
 use Rattle.basics.specs.Laws.Each.{joined_append}
 use Rattle.basics.specs.Laws.Tests.{cases, true_is_not_false, and_false}
 use Rattle.basics.specs.Laws.Wrote.{Wrote, wrote_none, wrote_set, wrote_all}
-use Rattle.files.specs.declared.Seen.{Seen}
+use Rattle.files.specs.declared.sight.Seen.{Seen}
 use Rattle.files.specs.Names.{behind, folder_of, is_name, hex_of}
 use Rattle.files.specs.Rule.{same_file, is_input}
-
--- k is the place behind the last `/` of the first i bytes
-pub record Behind (s : List ℕ) (k i : ℕ) : Type 0 where
-  pub up : i ≤ length s
-  pub under : k ≤ i
-  pub is : k ≡ behind s i
-
-module _ (s : List ℕ) where
-  pub behind_none : Behind s 0 0
-  unfolding behind
-  behind_none = record { up = omega arith; under = omega arith; is = refl }
-
-  pub behind_here : (k i j : ℕ) → Behind s k i → i < length s → get_or s i 0 ≡ 47 → j ≡ i + 1 → Behind s j (i + 1)
-  unfolding behind
-  behind_here k i j c h e q = record { up = omega arith; under = omega arith; is = q ∙ simp (add-one, eq-eqb _ _ e) }
-
-  pub behind_before : (k i j : ℕ) → Behind s k i → i < length s → (get_or s i 0 ≡ 47 → ⊥) → j ≡ k → Behind s j (i + 1)
-  unfolding behind
-  behind_before k i j c h n q = record { up = omega arith; under = omega (arith, c.under); is = q ∙ c.is ∙ simp (add-one, ne_eqb _ _ n) }
-
-  pub behind_all : (k i : ℕ) → Behind s k i → length s ≤ i → k ≡ folder_of s
-  behind_all k i c h = let e : i ≡ length s = omega (arith, c.up) in c.is ∙ ap (behind s) e
-
-  pub behind_within : (k i : ℕ) → Behind s k i → k ≤ length s
-  behind_within k i c = omega (arith, c.up, c.under)
-
--- whether it is a name
-module _ (s : List ℕ) where
-  abbrev pub sound : ℕ → Bool
-  sound i = not (eqb (get_or s i 0) 0)
-
-  pub sound_none : all 0 sound ≡ true
-  unfolding all
-  sound_none = refl
-
-  pub sound_more : (i : ℕ) → all i sound ≡ true → (get_or s i 0 ≡ 0 → ⊥) → all (i + 1) sound ≡ true
-  unfolding all
-  sound_more i e n = simp (add-one, ne_eqb _ _ n, e)
-
-  pub too_long : 4096 ≤ length s → false ≡ is_name s
-  unfolding is_name
-  too_long h = simp (le-ltb _ _ h)
-
-  pub has_zero : (i : ℕ) → i < length s → get_or s i 0 ≡ 0 → false ≡ is_name s
-  unfolding is_name
-  has_zero i h e =
-      cases (all (length s) sound) (λ q. true_is_not_false (all_at (length s) sound q i h) (simp (eq-eqb _ _ e)))
-      (λ q. sym (and_false (ltb (length s) 4096) (all (length s) (sound)) q))
-
-  pub name_good : (i : ℕ) → length s < 4096 → i ≤ length s → length s ≤ i → all i sound ≡ true → true ≡ is_name s
-  unfolding is_name
-  name_good i h a b e =
-      let j : i ≡ length s = omega arith in
-      simp (lt-ltb _ _ h, sym (ap (λ (n : ℕ). all n sound) (sym j) ∙ e))
 
 -- the first i bytes of a tag are put, two digits each
 pub record Hexing (tag out₀ out : List ℕ) (i : ℕ) : Type 0 where
@@ -117,29 +67,56 @@ hex_all tag out₀ out i c h =
     wrote_all out₀ out (joined hex_of (take i tag)) c.wrote (ap (λ (x : List ℕ). length (joined hex_of x)) t ∙ length_hex tag ∙ sym c.fits)
     ∙ ap (joined hex_of) t
 
--- no input before place i is the file
-module _ (seen : Seen) (inputs : List Seen) where
-  abbrev pub Passed : ℕ → Type 0
-  Passed i = is_input seen (drop i inputs) ≡ is_input seen inputs
-
-  pub input_found :
-      (d : Seen) (i : ℕ) (b : Bool) → length inputs ≡ 4 → i < 4 → Passed i → b ≡ same_file seen (get_or inputs i d) → b ≡ true
-      → true ≡ is_input seen inputs
-  unfolding is_input
-  input_found d i b l h p e t =
-      sym (sym p ∙ ap (is_input seen) (drop-cons inputs i d (omega arith)) ∙ ap (λ (x : Bool). x || is_input seen (drop (suc i) inputs)) (sym e ∙ t))
-
-  pub input_passed :
-      (d : Seen) (i : ℕ) (b : Bool) → length inputs ≡ 4 → i < 4 → Passed i → b ≡ same_file seen (get_or inputs i d) → b ≡ false
-      → Passed (i + 1)
-  unfolding is_input
-  input_passed d i b l h p e t =
-      rw add-one
-      (sym (ap (is_input seen) (drop-cons inputs i d (omega arith)) ∙ ap (λ (x : Bool). x || is_input seen (drop (suc i) inputs)) (sym e ∙ t)) ∙ p)
-
-  pub input_none : (i : ℕ) → length inputs ≡ 4 → 4 ≤ i → Passed i → false ≡ is_input seen inputs
-  unfolding is_input
-  input_none i l h p = let k : length inputs ≤ i = omega arith in ap (is_input seen) (sym (drop_of_length-le inputs k)) ∙ p
-
 pub counted : (n : ℕ) (xs : List ℕ) → n ≤ length xs → IsPrefixLen n xs
 counted n xs h = (h, sym (length-take-le n xs h))
+
+-- whether it is a name
+module _ (s : List ℕ) where
+  abbrev sound : ℕ → Bool
+  sound i = not (eqb (get_or s i 0) 0)
+
+  pub too_long : 4096 ≤ length s → false ≡ is_name s
+  unfolding is_name
+  too_long h = simp (le-ltb _ _ h)
+
+  pub not_too_long : (r : Bool) → length s < 4096 → IsAnyAnswer (λ y b. eqb y 0 ≡ b) s r → not r ≡ is_name s
+  unfolding is_name
+  not_too_long true h (k, l, e) =
+      cases (all (length s) sound) (λ q. true_is_not_false (all_at (length s) sound q k l) (simp (e 0)))
+      (λ q. sym (and_false (ltb (length s) 4096) (all (length s) sound) q))
+  not_too_long false h e =
+      let a : all (length s) sound ≡ true = all_of (length s) sound (λ i l. simp (e i 0 (omega arith) l)) in
+      simp (lt-ltb _ _ h, a)
+
+-- whether it is an input, as the library's search says it
+pub input_any : (seen : Seen) (inputs : List Seen) → list_any (same_file seen) inputs ≡ is_input seen inputs
+unfolding is_input
+input_any seen [] = refl
+input_any seen (input ∷ inputs) = ap (λ (b : Bool). same_file seen input || b) (input_any seen inputs)
+
+-- the last `/` is found, or there is none
+module _ (s : List ℕ) where
+  pub behind_found : (n k : ℕ) → k < n → get_or s k 0 ≡ 47 → ((j : ℕ) → k < j → j < n → get_or s j 0 ≡ 47 → ⊥) → k + 1 ≡ behind s n
+  unfolding behind
+  behind_found zero k h e m = absurd (omega arith)
+  behind_found (suc n) k h e m = go (eq-or-lt_of_le (omega arith)) (λ l. behind_found n k l e (λ j a b. m j a (omega arith)))
+    where
+      go : (k ≡ n) ⊎ (k < n) → (k < n → k + 1 ≡ behind s n) → k + 1 ≡ cond (eqb (get_or s n 0) 47) (suc n) (behind s n)
+      go (inl q) l = let a : get_or s n 0 ≡ 47 = ap (λ (i : ℕ). get_or s i 0) (sym q) ∙ e in simp (eq-eqb _ _ a, q, add-one)
+      go (inr q) l = let a : eqb (get_or s n 0) 47 ≡ false = ne_eqb _ _ (m n q (omega arith)) in simp a (l q)
+
+  pub behind_nowhere : (n : ℕ) → ((j : ℕ) → j < n → get_or s j 0 ≡ 47 → ⊥) → 0 ≡ behind s n
+  unfolding behind
+  behind_nowhere zero m = refl
+  behind_nowhere (suc n) m = let e : eqb (get_or s n 0) 47 ≡ false = ne_eqb _ _ (m n (omega arith)) in simp e (behind_nowhere n (λ j l. m j (omega arith)))
+
+-- r is the place of the last `/`
+abbrev pub IsLastSlash : List ℕ → Option ℕ → Type 0
+IsLastSlash s r =
+    MatchOption r ((j : ℕ) → j < length s → get_or s j 0 ≡ 47 → ⊥)
+    (λ k. (k < length s) × (get_or s k 0 ≡ 47) × ((j : ℕ) → k < j → j < length s → get_or s j 0 ≡ 47 → ⊥))
+
+pub folder_found :
+    (s : List ℕ) (r : Option ℕ) (k : ℕ) → IsLastSlash s r → MatchOption r (k ≡ 0) (λ i. k ≡ i + 1) → (k ≡ folder_of s) × IsPrefixLen k s
+folder_found s None k m e = (e ∙ behind_nowhere s (length s) m, counted k s (omega arith))
+folder_found s (Some i) k (h, l, m) e = (e ∙ behind_found s (length s) i h l m, counted k s (omega arith))

@@ -7,6 +7,7 @@ use lib.ListN.{length, take, drop, length-append}
 use lib.Seq.{length-take-le}
 use borrow.Author.Tests.{lt-ltb, le-ltb}
 use borrow.Rule.Slice.PartMut.{put_mid}
+use Rattle.std.specs.Prelude.{Some, None}
 use Rattle.basics.specs.Lists.{joined}
 use Rattle.basics.specs.Laws.Wrote.{Wrote, wrote_part, wrote_all}
 use Rattle.files.specs.Names.{hex_of, folder_of, mark, part_of, part_length, part_in}
@@ -32,7 +33,7 @@ module _ (name : List ℕ) (k : ℕ) (is : k ≡ folder_of name) where
       ∙ ap (λ (j : ℕ). take j name ++ (mark ++ joined hex_of tag)) is
 
   -- where it does not fit, and where it does
-  pub short_length : (room : ℕ) → room < k + 31 → 0 ≡ part_length name room
+  pub short_length : (room : ℕ) → room < k + 31 → None ≡ part_length name room
   unfolding part_length
   short_length room h = simp (← is, lt-ltb _ _ h)
 
@@ -40,7 +41,7 @@ module _ (name : List ℕ) (k : ℕ) (is : k ≡ folder_of name) where
   unfolding part_in
   short_out tag out h = simp (← is, lt-ltb _ _ h)
 
-  pub whole_length : (room : ℕ) → k + 31 ≤ room → k + 31 ≡ part_length name room
+  pub whole_length : (room : ℕ) → k + 31 ≤ room → Some (k + 31) ≡ part_length name room
   unfolding part_length
   whole_length room h = simp (← is, le-ltb _ _ h)
 

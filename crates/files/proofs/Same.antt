@@ -1,5 +1,5 @@
 -- Any two answers that the promise of a public function allows are equal (01, What the promises rule out). What the system does can
--- be promised by nobody: `read_all` to `write_argument`, `say`, `line` and `stopped` are tried by tests/files.sh.
+-- be promised by nobody: `read_all` to `write_arguments`, and `answer`, are tried by tests/files.sh.
 use Rattle.basics.specs.Same.{OneAnswer, OneLent}
 use Rattle.basics.specs.Laws.Same.{same}
 use Rattle.files.proofs.names.folder.Reads as folder
@@ -11,8 +11,6 @@ use Rattle.files.proofs.rule.kind_of.Reads as kind_of_lem
 use Rattle.files.proofs.rule.same_file.Reads as same-file
 use Rattle.files.proofs.rule.is_input.Reads as is-input
 use Rattle.files.proofs.rule.verdict.Reads as verdict
-use Rattle.files.proofs.saying.stops.Reads as stops
-use Rattle.files.proofs.sight.nobody.Reads as nobody
 
 pub one_folder : OneAnswer folder.Learnt
 one_folder κs a y z e f p q = same p.0 q.0
@@ -24,7 +22,7 @@ pub one_part_name : OneAnswer part-name.Learnt
 one_part_name κs a y z e f p q = same p.0 q.0
 
 pub one_part_name_lent : OneLent part-name.Learnt (λ κs e. e.1.1.0.now)
-one_part_name_lent κs a y z e f p q = same p.1 q.1
+one_part_name_lent κs a y z e f p q = same p.1.0 q.1.0
 
 pub one_meaning : OneAnswer meaning.Learnt
 one_meaning κs a y z e f p q = same p.0 q.0
@@ -43,9 +41,3 @@ one_is_input κs a y z e f = same
 
 pub one_verdict : OneAnswer verdict.Learnt
 one_verdict κs a y z e f = same
-
-pub one_stops : OneAnswer stops.Learnt
-one_stops κs a y z e f = same
-
-pub one_nobody : OneAnswer nobody.Learnt
-one_nobody κs a y z e f = same

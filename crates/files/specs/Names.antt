@@ -1,5 +1,5 @@
 -- Names of files: the folder, what the system takes for a name, and the name of a part file beside its target.
-use Rattle.std.specs.Prelude.{ℕ, zero, suc, ◌+◌, ◌/◌, ◌%◌, Bool, cond, not, ◌&&◌, List, [], ◌∷◌, ◌++◌, eqb, ltb, length, get_or, take, drop}
+use Rattle.std.specs.Prelude.{ℕ, zero, suc, ◌+◌, ◌/◌, ◌%◌, Bool, cond, not, ◌&&◌, List, [], ◌∷◌, ◌++◌, eqb, ltb, length, get_or, take, drop, Option, Some, None}
 use Rattle.basics.specs.Counts.{all}
 use Rattle.basics.specs.Lists.{joined}
 use Rattle.files.specs.Digits.{hex_digit_ascii}
@@ -29,12 +29,12 @@ mark = 46 ∷ 108 ∷ 117 ∷ 105 ∷ 103 ∷ 105 ∷ 45 ∷ []
 unfoldable pub part_of : List ℕ → List ℕ → List ℕ
 part_of name tag = take (folder_of name) name ++ (mark ++ joined hex_of tag)
 
--- a part's name has 31 bytes behind its folder, and stands at the buffer's front; where it does not fit, nothing is written and its length is 0
+-- a part's name has 31 bytes behind its folder, and stands at the buffer's front; where it does not fit, nothing is written and it has no length
 abbrev pub is_short : List ℕ → ℕ → Bool
 is_short name room = ltb room (folder_of name + 31)
 
-unfoldable pub part_length : List ℕ → ℕ → ℕ
-part_length name room = cond (is_short name room) 0 (folder_of name + 31)
+unfoldable pub part_length : List ℕ → ℕ → Option ℕ
+part_length name room = cond (is_short name room) None (Some (folder_of name + 31))
 
 unfoldable pub part_in : List ℕ → List ℕ → List ℕ → List ℕ
 part_in name tag out = cond (is_short name (length out)) out (part_of name tag ++ drop (folder_of name + 31) out)

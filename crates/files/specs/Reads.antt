@@ -1,14 +1,13 @@
 -- What a read's answer means: an error is no end (POSIX, read).
-use Rattle.std.specs.Prelude.{ℕ, zero, suc, min, ℤ, pos, negsuc}
-use Rattle.files.specs.declared.reading.Brought.{Brought}
-use Rattle.files.specs.declared.reading.Brought.TheVariants.{Bytes, End, Failed}
+use Rattle.std.specs.Prelude.{ℕ, zero, suc, min, Result, Ok, Err, Option, Some, None}
+use Rattle.files.specs.declared.errors.Errno.{Errno}
 
-abbrev pub meaning_of : ℤ → ℕ → Brought
-meaning_of (pos zero) room = End
-meaning_of (pos (suc k)) room = Bytes (min (suc k) room)
-meaning_of (negsuc k) room = Failed
+abbrev pub meaning_of : Result ℕ Errno → ℕ → Result (Option ℕ) Errno
+meaning_of (Ok zero) room = Ok None
+meaning_of (Ok (suc k)) room = Ok (Some (min (suc k) room))
+meaning_of (Err error) room = Err error
 
-abbrev pub count_in : Brought → ℕ
-count_in (Bytes k) = k
-count_in End = 0
-count_in Failed = 0
+abbrev pub count_in : Result (Option ℕ) Errno → ℕ
+count_in (Ok (Some k)) = k
+count_in (Ok None) = 0
+count_in (Err error) = 0

@@ -1,26 +1,29 @@
 // The program's arguments: the name of the program is argument 0.
 ghost use Rattle.std.specs.Io.{WritesAtMost};
 
-use crate::sight::{EINVAL, ENAMETOOLONG};
+use crate::errors::{At, Stopped, Why};
 use std::env::FillError;
 use std::rt::Env;
 
-// Argument i at the front of a buffer; answers its length, or the system's number for an argument that is not there or does not fit.
-pub fn argument(rt: &HostRuntime, i: usize, out: &mut [u8]) -> Result<usize, u32>
-    ensures { WritesAtMost result out.new }
-{
-    match rt.arg(i, out) {
-        Ok(n) => Ok(n),
-        Err(FillError::NotPresent) => Err(EINVAL),
-        Err(FillError::TooLong) => Err(ENAMETOOLONG),
-    }
+// An argument that names a file: its place, and the word by which the desk knows the file.
+#[derive(Clone, Copy)]
+pub struct Argument {
+    pub place: usize,
+    pub word: &'static str,
 }
 
-// Whether there is an argument i, however long it is.
-pub fn has_argument(rt: &HostRuntime, i: usize) -> bool {
-    let mut none = [0u8; 0];
-    match argument(rt, i, &mut none) {
-        Ok(_) => true,
-        Err(error) => error == ENAMETOOLONG,
+impl Argument {
+    // The argument at the front of a buffer; answers its length.
+    pub fn put(self, rt: &HostRuntime, out: &mut [u8]) -> Result<usize, Stopped>
+        ensures { WritesAtMost result out.new }
+    {
+        rt.arg(self.place, out)
+            .at(Why::Argument)
+            .map_err(|stop| stop.of(self.word))
+    }
+
+    // Whether it is given, however long it is.
+    pub fn is_given(self, rt: &HostRuntime) -> bool {
+        !matches!(rt.arg(self.place, &mut []), Err(FillError::NotPresent))
     }
 }

@@ -3,6 +3,7 @@
 #![tactic(auto)]
 
 mod arguments;
+mod errors;
 mod names;
 mod reading;
 mod rule;
@@ -10,51 +11,13 @@ mod saying;
 mod sight;
 mod writing;
 
-pub use arguments::has_argument;
+pub use arguments::Argument;
+pub use errors::{At, Errno, Failure, Stop, Stopped, Why};
 pub use names::{folder, is_name, part_name};
-pub use reading::{meaning, read_all, read_argument, read_file, stop_of};
+pub use reading::{
+    Reading, meaning, read_all, read_argument, read_file, read_given, room, stop_of,
+};
 pub use rule::{is_input, kind_of, same_file, verdict};
-pub use saying::{line, refused, say, say_number, stopped, stops};
-pub use sight::nobody;
-pub use writing::{Stops, write_argument, write_arguments, write_file};
-
-// How many files a program may have read before it writes.
-pub const INPUTS: usize = 4;
-
-// Why a program stopped; Nothing, where it did not.
-#[derive(Clone, Copy)]
-pub enum Why {
-    Nothing,
-    Argument,
-    Closed,
-    Open,
-    Read,
-    Look,
-    Link,
-    Kind,
-    Input,
-    Protected,
-    Create,
-    Mode,
-    Write,
-    Sync,
-    Move,
-}
-
-// A stop: why, and the system's number for it; 0 where the system has none.
-#[derive(Clone, Copy)]
-pub struct Stop {
-    pub why: Why,
-    pub error: u32,
-}
-
-// What the system tells of a file: error is 0 where it tells something. A file is known by its number and its device.
-#[derive(Clone, Copy)]
-pub struct Seen {
-    pub error: u32,
-    pub device: u64,
-    pub node: u64,
-    pub mode: u32,
-    pub owner: u32,
-    pub group: u32,
-}
+pub use saying::answer;
+pub use sight::Seen;
+pub use writing::{write_argument, write_arguments, write_file};

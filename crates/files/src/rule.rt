@@ -2,9 +2,8 @@
 ghost use Rattle.std.specs.Prelude.{◌/◌, ◌%◌, ◌≡◌};
 ghost use Rattle.files.specs.Rule.{kind_of, same_file, is_input, verdict_of};
 
-use crate::sight::ENOENT;
-use crate::{INPUTS, Seen, Why};
-use basics::both;
+use crate::errors::{ENOENT, Errno, Why};
+use crate::sight::Seen;
 
 // The kinds of a file that the rule tells apart, as the upper bits of a mode have them.
 const REGULAR: u32 = 8;
@@ -17,47 +16,33 @@ pub fn kind_of(mode: u32) -> u32
     mode / 4096 % 16
 }
 
-// Whether two sights are of one file: both are told, with one number on one device.
+// Whether two sights are of one file: one number on one device.
 pub fn same_file(a: Seen, b: Seen) -> bool
     ensures { result ≡ same_file a b }
 {
-    let told = both(a.error == 0, b.error == 0);
-    both(told, both(a.device == b.device, a.node == b.node))
+    a.device == b.device && a.node == b.node
 }
 
 // Whether it is one of the files that were read.
-pub fn is_input(seen: Seen, inputs: [Seen; INPUTS]) -> bool
-    ensures { result ≡ is_input seen inputs }
+pub fn is_input(seen: Seen, inputs: &[Seen]) -> bool
+    ensures { result ≡ is_input seen inputs.now }
 {
-    let mut i = 0;
-    while i < INPUTS {
-        if same_file(seen, inputs[i]) {
-            return true;
-        }
-        i += 1;
-    }
-    false
+    inputs.iter().any(|input| same_file(seen, *input))
 }
 
-// Why nothing may be moved over what was seen under a name.
-pub fn verdict(seen: Seen, inputs: [Seen; INPUTS]) -> Why
-    ensures { result ≡ verdict_of seen inputs }
+// Whether a file may be moved over what was seen under its name, and why not. A name that nothing has is free.
+pub fn verdict(seen: Result<Seen, Errno>, inputs: &[Seen]) -> Result<(), Why>
+    ensures { result ≡ verdict_of seen inputs.now }
 {
-    if seen.error == ENOENT {
-        return Why::Nothing;
+    let seen = match seen {
+        Ok(seen) => seen,
+        Err(error) if error == ENOENT => return Ok(()),
+        Err(_) => return Err(Why::Look),
+    };
+    match kind_of(seen.mode) {
+        LINK => Err(Why::Link),
+        REGULAR if is_input(seen, inputs) => Err(Why::Input),
+        REGULAR => Ok(()),
+        _ => Err(Why::Kind),
     }
-    if seen.error != 0 {
-        return Why::Look;
-    }
-    let kind = kind_of(seen.mode);
-    if kind == LINK {
-        return Why::Link;
-    }
-    if kind != REGULAR {
-        return Why::Kind;
-    }
-    if is_input(seen, inputs) {
-        return Why::Input;
-    }
-    Why::Nothing
 }

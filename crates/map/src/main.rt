@@ -3,13 +3,19 @@
 // `result=stopped` with the file and the reason.
 #![tactic(auto)]
 
-ghost use Rattle.std.specs.Prelude.{◌≡◌, ◌+◌, ◌<◌, length};
-ghost use Rattle.places.specs.Limits.{chapters, image_limit};
+ghost use Rattle.std.specs.Prelude.{◌<◌};
+ghost use Rattle.places.specs.Limits.{chapters};
 
-use basics::Refusal;
 use cart::Cartridge;
 use chart::{Leaf, Shown};
+use files::{Argument, Failure};
 use places::{CHAPTER_PAGES, CHAPTER_PARAGRAPHS, CHAPTERS, FLIP_ENTRIES, IMAGE_LIMIT};
+use std::io;
+
+const IMAGE: Argument = Argument {
+    place: 1,
+    word: "IMAGE",
+};
 
 // The lengths of a chapter's line and of a line of pages, and where their first sign and their first page stand.
 const CHAPTER_LINE: usize = 37;
@@ -19,19 +25,6 @@ const SIGNS_AT: usize = 5;
 const PAGES_LINE: usize = 52;
 
 const PAGES_AT: usize = 4;
-
-// Room for one byte more than an image may have, so that a longer one is seen to be longer.
-const FILE_ROOM: usize = IMAGE_LIMIT + 1;
-
-fn file_room() -> [u8; FILE_ROOM]
-    ensures { image_limit + 1 ≡ length result }
-{
-    [0; FILE_ROOM]
-}
-
-fn refused(rt: &HostRuntime, r: Refusal) {
-    files::refused(rt, r.number as u64, r.place as u64);
-}
 
 fn sign_of(s: Shown) -> u8 {
     match s {
@@ -45,7 +38,7 @@ fn sign_of(s: Shown) -> u8 {
 }
 
 // Chapter x and the signs of its paragraphs.
-fn show_chapter(rt: &HostRuntime, c: Cartridge, x: usize)
+fn show_chapter(rt: &HostRuntime, c: Cartridge, x: usize) -> io::Result<()>
     requires { x < chapters }
 {
     let mut line = [b' '; CHAPTER_LINE];
@@ -55,18 +48,15 @@ fn show_chapter(rt: &HostRuntime, c: Cartridge, x: usize)
     for k in 0..CHAPTER_PARAGRAPHS {
         line[SIGNS_AT + 2 * k] = sign_of(chart::shown_at(c, (CHAPTER_PARAGRAPHS * x + k) as u8));
     }
-    files::say(rt, &line);
+    rt.write_all(&line)
 }
 
-fn show_chapters(rt: &HostRuntime, c: Cartridge) {
-    files::say(rt, b"     0 1 2 3 4 5 6 7 8 9 A B C D E F\n");
+fn show_chapters(rt: &HostRuntime, c: Cartridge) -> io::Result<()> {
+    println!(rt; "     0 1 2 3 4 5 6 7 8 9 A B C D E F")?;
     for x in 0..CHAPTERS {
-        show_chapter(rt, c, x);
+        show_chapter(rt, c, x)?;
     }
-    files::say(
-        rt,
-        b"\n.  silent    #  ROM    W  RAM 16    B  RAM 8    P  paged    J  JLP\n\n",
-    );
+    println!(rt; "\n.  silent    #  ROM    W  RAM 16    B  RAM 8    P  paged    J  JLP\n")
 }
 
 // What a flip entry shows, in two bytes: the number of a page of the cartridge's RAM, dots for silence, strokes where the entry does not act.
@@ -85,7 +75,7 @@ fn pair_of(l: Leaf) -> Pair {
 }
 
 // Chapter x and what each of its pages shows.
-fn show_pages(rt: &HostRuntime, flips: &[u16; FLIP_ENTRIES], x: usize)
+fn show_pages(rt: &HostRuntime, flips: &[u16; FLIP_ENTRIES], x: usize) -> io::Result<()>
     requires { x < chapters }
 {
     let mut line = [b' '; PAGES_LINE];
@@ -97,78 +87,63 @@ fn show_pages(rt: &HostRuntime, flips: &[u16; FLIP_ENTRIES], x: usize)
         line[PAGES_AT + 3 * y] = pair.0;
         line[PAGES_AT + 3 * y + 1] = pair.1;
     }
-    files::say(rt, &line);
+    rt.write_all(&line)
 }
 
 // Whether chapter x shows pages: its last paragraph tells.
 fn is_paged(c: Cartridge, x: usize) -> bool
     requires { x < chapters }
 {
-    let shown = chart::shown_at(c, (CHAPTER_PARAGRAPHS * x + (CHAPTER_PARAGRAPHS - 1)) as u8);
-    match shown {
-        Shown::Paged => true,
-        _ => false,
-    }
+    let last = (CHAPTER_PARAGRAPHS * x + (CHAPTER_PARAGRAPHS - 1)) as u8;
+    matches!(chart::shown_at(c, last), Shown::Paged)
 }
 
 // Whether any does.
 fn any_paged(c: Cartridge) -> bool {
-    for x in 0..CHAPTERS {
-        if is_paged(c, x) {
-            return true;
-        }
-    }
-    false
+    (0..CHAPTERS).any(|x| is_paged(c, x))
 }
 
-fn show_paged(rt: &HostRuntime, c: Cartridge) {
+fn show_paged(rt: &HostRuntime, c: Cartridge) -> io::Result<()> {
     if !any_paged(c) {
-        return;
+        return Ok(());
     }
-    files::say(
-        rt,
-        b"pages, by the page of cartridge RAM that each shows (.. silence, -- no page)\n",
-    );
-    files::say(rt, b"     0  1  2  3  4  5  6  7  8  9  A  B  C  D  E  F\n");
+    println!(rt; "pages, by the page of cartridge RAM that each shows (.. silence, -- no page)")?;
+    println!(rt; "     0  1  2  3  4  5  6  7  8  9  A  B  C  D  E  F")?;
     for x in 0..CHAPTERS {
         if is_paged(c, x) {
-            show_pages(rt, &c.flips, x);
+            show_pages(rt, &c.flips, x)?;
         }
     }
-    files::say(rt, b"\n");
+    println!(rt)
 }
 
-fn show(rt: &HostRuntime, c: Cartridge, words: u64) {
-    let j = c.jlp;
-    let saves = j.saves;
-    show_chapters(rt, c);
-    show_paged(rt, c);
-    files::line(rt, b"words=", words);
-    files::line(rt, b"jlp=", j.field as u64);
-    files::line(rt, b"flash=", saves.sectors as u64);
+fn show(rt: &HostRuntime, c: Cartridge, words: usize) -> io::Result<()> {
+    show_chapters(rt, c)?;
+    show_paged(rt, c)?;
+    let field = c.jlp.field;
+    let sectors = c.jlp.saves.sectors;
+    println!(rt; "words={words}\njlp={field}\nflash={sectors}")
 }
 
 // Loads the image, with the flash that it asks for, and shows its map.
-fn map(rt: &HostRuntime, file: &mut [u8], ram: &mut [u16], flash: &[u16]) {
-    let t = files::read_argument(rt, 1, file);
-    let n = t.n;
-    if files::stops(t.stop) {
-        files::stopped(rt, b"IMAGE", t.stop);
-        return;
+fn map(rt: &HostRuntime, file: &mut [u8], ram: &mut [u16], flash: &[u16]) -> Result<(), Failure> {
+    let read = files::read_argument(rt, IMAGE, file)?;
+    let image = &file[..read.n];
+    let f = lending::flash_words(image, flash.len());
+    let loading = load::load(image, ram, &flash[..f]);
+    if loading.refusal.number != 0 {
+        return Err(Failure::Refused(loading.refusal));
     }
-    let f = lending::flash_words(&file[..n], flash.len());
-    let loading = load::load(&file[..n], ram, &flash[..f]);
-    let r = loading.refusal;
-    if r.number != 0 {
-        refused(rt, r);
-        return;
-    }
-    show(rt, loading.cartridge, loading.words as u64);
+    let _ = show(rt, loading.cartridge, loading.words);
+    Ok(())
 }
 
+// There is room for one byte more than an image may have, so that a longer file is seen to be longer.
 fn main(rt: HostRuntime) {
-    let mut file = file_room();
+    let mut file: [u8; IMAGE_LIMIT + 1] = files::room(0);
     let mut ram = lending::blank_ram();
     let flash = lending::erased_flash();
-    map(&rt, &mut file, &mut ram, &flash);
+    if let Err(failure) = map(&rt, &mut file, &mut ram, &flash) {
+        let _ = rt.print(failure);
+    }
 }

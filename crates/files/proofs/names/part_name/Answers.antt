@@ -7,10 +7,7 @@ use Rattle.files.proofs.Parts.{short_length, short_out, whole_length, whole_out}
 use Rattle.files.proofs.names.part_name.Goals as goal
 
 pub returns-then-out-k : goal.returns-then-out-k
-returns-then-out-k c = (short_length _ _ c.folder-k.ensures.0 _ (omega arith), short_out _ _ c.folder-k.ensures.0 _ _ (omega arith), search rules)
-
-pub returns-then-out-k-lt-PART : goal.returns-then-out-k-lt-PART
-returns-then-out-k-lt-PART c = (short_length _ _ c.folder-k.ensures.0 _ (omega arith), short_out _ _ c.folder-k.ensures.0 _ _ (omega arith), search rules)
+returns-then-out-k c = record { length = short_length _ _ c.folder-k.ensures.0 _ (omega arith); name = short_out _ _ c.folder-k.ensures.0 _ _ (omega arith); front = search rules }
 
 pub slice_bounds-put_part-end-2 : goal.slice_bounds-put_part-end-2
 slice_bounds-put_part-end-2 c = simp length-take (omega arith)
@@ -20,8 +17,8 @@ put_part-requires c = (search rules, search rules, simp length-take (omega arith
 
 pub returns : goal.returns
 returns c =
-    let folder = c.folder-k in (
-      whole_length _ _ folder.ensures.0 _ (omega arith),
-      whole_out _ _ folder.ensures.0 _ _ _ (omega arith) c.put_part.ensures,
-      counted _ _ (simp (length-append, length-drop, c.put_part.auto.out, length-take) (omega arith)),
-    )
+    let folder = c.folder-k in record {
+      length = whole_length _ _ folder.ensures.0 _ (omega arith);
+      name = whole_out _ _ folder.ensures.0 _ _ _ (omega arith) c.put_part.ensures;
+      front = counted _ _ (simp (length-append, length-drop, c.put_part.auto.out, length-take) (omega arith));
+    }

@@ -1,11 +1,6 @@
 -- `names::put_hex` meets its contract. The loop's invariant: the first i bytes are put, two digits each.
-use Prim.Native.Nat.{◌-◌}
-use lib.ListN.{length}
 use Rattle.files.proofs.Loops.{Hexing}
 use Rattle.files.proofs.names.put_hex.Given as goal
 
 abbrev pub invariant-loop-i : goal.invariant-loop-i
 invariant-loop-i l = Hexing l.tag l.initial.out l.out l.i
-
-abbrev pub decreases-loop-i : goal.decreases-loop-i
-decreases-loop-i l = length l.tag - l.i

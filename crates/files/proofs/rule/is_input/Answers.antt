@@ -1,13 +1,14 @@
--- `rule::is_input` meets its contract. The loop's invariant: no input before place i is the file.
+-- `rule::is_input` meets its contract: the library's search over the inputs finds what the definition finds.
 use borrow.Author.Rules.{rules}
-use Rattle.files.proofs.Loops.{input_found, input_passed, input_none}
+use mathlib.Core.Path.{◌∙◌}
+use Rattle.std.proofs.lemmas.Iterator.{YieldsList-from_slice}
+use Rattle.std.proofs.lemmas.Iterator.Search.{any_from_yields_List}
+use Rattle.basics.specs.Laws.Tests.{tests}
+use Rattle.files.specs.Rule.{same_file}
+use Rattle.files.proofs.Loops.{input_any}
 use Rattle.files.proofs.rule.is_input.Goals as goal
 
-pub returns-then-same_file : goal.returns-then-same_file
-returns-then-same_file c = search (rules, input_found)
-
-pub loop-i-preserved : goal.loop-i-preserved
-loop-i-preserved c = (search rules, search (rules, input_passed))
-
 pub returns : goal.returns
-returns c = search (rules, input_none)
+returns c =
+    any_from_yields_List (same_file c.args.seen) _ _ c.any.result c.any.ensures.ran (YieldsList-from_slice c.args.inputs.now cc) (λ x b q k. search (rules, tests))
+    ∙ input_any c.args.seen c.args.inputs.now

@@ -1,8 +1,0 @@
--- `bus::answer_room` meets its contract: a repeat has as many elements as it says, and none of them is counted here.
-use Prim.Native.Nat.{ℕ}
-use mathlib.Core.Path.{sym}
-use lib.ListN.{length-replicate}
-use Rattle.bus.proofs.answer_room.Goals as goal
-
-pub returns : goal.returns
-returns c = sym (length-replicate {A = ℕ} 279620 0)

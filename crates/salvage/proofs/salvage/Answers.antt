@@ -1,7 +1,0 @@
--- `salvage::salvage` is safe and ends: an image that was written lies in the buffer.
-use native.Mathlib.Omega.{arith}
-use lib.ListN.{length-take}
-use Rattle.salvage.proofs.salvage.Goals as goal
-
-pub slice_bounds-write_argument-end : goal.slice_bounds-write_argument-end
-slice_bounds-write_argument-end c = simp length-take (omega arith)
