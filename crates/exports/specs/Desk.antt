@@ -1,7 +1,6 @@
 -- Where a text stands, and what a salvage and going back answer, as C lays them out (02, W-204, W-208 and W-213).
 use Rattle.std.specs.Prelude.{ℕ, Option, Some, None, Result, Ok, Err}
 use Rattle.basics.specs.declared.Refusal.{Refusal}
-use Rattle.metadata.specs.declared.Span.{Span}
 use Rattle.lookup.specs.declared.Place.{Place}
 use Rattle.lookup.specs.declared.Place.TheVariants.{Label, Image}
 use Rattle.recovery.specs.declared.Stopped.{Stopped}

@@ -75,11 +75,10 @@ pub struct Salvaged {
 fn salvaged_at(s: Salvaging, stopped: u32, stop: usize) -> Salvaged
     ensures { result ≡ salvaged_at s stopped stop }
 {
-    let r = s.refusal;
     Salvaged {
-        number: r.number,
+        number: s.refusal.number,
         stopped,
-        place: r.place,
+        place: s.refusal.place,
         length: s.length,
         kept: s.kept,
         dropped: s.dropped,
@@ -90,8 +89,7 @@ fn salvaged_at(s: Salvaging, stopped: u32, stop: usize) -> Salvaged
 fn salvaged_as(s: Salvaging) -> Salvaged
     ensures { result ≡ salvaged_as s }
 {
-    let stopped = s.stopped;
-    match stopped {
+    match s.stopped {
         Stopped::Nowhere => salvaged_at(s, 0, 0),
         Stopped::At(p) => salvaged_at(s, 1, p),
     }
@@ -126,10 +124,9 @@ pub struct Unbuilt {
 fn unbuilt_as(u: Unbuilding) -> Unbuilt
     ensures { result ≡ unbuilt_as u }
 {
-    let r = u.refusal;
     Unbuilt {
-        number: r.number,
-        place: r.place,
+        number: u.refusal.number,
+        place: u.refusal.place,
         bin: u.bin,
         cfg: u.cfg,
     }

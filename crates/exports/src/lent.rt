@@ -87,10 +87,12 @@ pub extern "C" fn luigi_reset<'a>(
         × (readable.new ≡ readable_of initial_permissions.now)
         × (accelerators.new ≡ words_of (reset_jlp (jlp_from accelerators.old))) }
 {
-    let j = jlp_from(accelerators);
-    let im = *initial_mapping;
-    let ip = *initial_permissions;
-    let c = cart::reset(cart::fresh(j, im, ip, [0; FLIP_ENTRIES]));
+    let c = cart::reset(cart::fresh(
+        jlp_from(accelerators),
+        *initial_mapping,
+        *initial_permissions,
+        [0; FLIP_ENTRIES],
+    ));
     let m = c.mapping;
     let p = c.permissions;
     *mapping = m;

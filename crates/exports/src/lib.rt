@@ -67,36 +67,33 @@ pub struct Loaded {
 fn compat_of(c: Compat) -> [u8; 5]
     ensures { result ≡ fields_of c }
 {
-    let stated = c.tutorvision;
-    let tutorvision = header::number_of(stated);
     [
         c.intellivoice,
         c.ecs,
         c.intellivision2,
         c.keyboard,
-        tutorvision,
+        header::number_of(c.tutorvision),
     ]
 }
 
+// The arrays go through variables, here and in `active_as` and `state_of`: tried straight from field to field, which the check does not cover.
 fn answered(l: Loading) -> Loaded
     ensures { result ≡ loaded_of l }
 {
-    let cartridge = l.cartridge;
-    let mapping = cartridge.mapping;
-    let permissions = cartridge.permissions;
-    let flips = cartridge.flips;
-    let accelerators = words_of(cartridge.jlp);
-    let r = l.refusal;
+    let mapping = l.cartridge.mapping;
+    let permissions = l.cartridge.permissions;
+    let flips = l.cartridge.flips;
+    let accelerators = words_of(l.cartridge.jlp);
     Loaded {
-        number: r.number,
-        place: r.place,
+        number: l.refusal.number,
+        place: l.refusal.place,
         blocks: l.blocks,
         words: l.words,
         compat: compat_of(l.compat),
         mapping,
         permissions,
         flips,
-        readable: cartridge.readable,
+        readable: l.cartridge.readable,
         accelerators,
     }
 }
@@ -131,11 +128,10 @@ pub struct Built {
 fn built_as(b: Building) -> Built
     ensures { result ≡ built_as b }
 {
-    let r = b.refusal;
     Built {
-        number: r.number,
+        number: b.refusal.number,
         needed: b.needed,
-        place: r.place,
+        place: b.refusal.place,
         length: b.length,
     }
 }
@@ -168,11 +164,7 @@ fn fresh<'a>(
 ) -> Cartridge
     ensures { result ≡ fresh (jlp_from accelerators.now) mapping.now permissions.now flips.now }
 {
-    let m = *mapping;
-    let p = *permissions;
-    let f = *flips;
-    let j = jlp_from(accelerators);
-    cart::fresh(j, m, p, f)
+    cart::fresh(jlp_from(accelerators), *mapping, *permissions, *flips)
 }
 
 fn active_as(c: Cartridge) -> Active
@@ -189,7 +181,8 @@ fn active_as(c: Cartridge) -> Active
     }
 }
 
-// Reads at the addresses of `at`, one after the other, by these tables and accelerators; the answers go to the first words of `out`.
+// Reads at the addresses of `at`, one after the other, by these tables and accelerators; the answers go to the first words of `out`. An index runs
+// here and in the three loops below, and no zip: what an adapter of `iter_mut` leaves in a slice is not known to a proof.
 #[unsafe(no_mangle)]
 pub extern "C" fn luigi_reads<'a>(
     mapping: &'a [u16; PARAGRAPHS],
@@ -202,7 +195,7 @@ pub extern "C" fn luigi_reads<'a>(
     ensures { out.new ≡ answers_in (jlp_from accelerators.now) mapping.now permissions.now ram.now at.now out.old }
 {
     let on = registers::is_on(accelerators);
-    for i in 0..basics::least(at.len(), out.len()) {
+    for i in 0..at.len().min(out.len()) {
         let a = Console(at[i]);
         let mut n = direct::hear(mapping, permissions, on, ram, a);
         if n == direct::ASKED {
@@ -226,7 +219,7 @@ pub extern "C" fn luigi_reads_by_value<'a>(
     ensures { out.new ≡ answers_in (jlp_from accelerators.now) mapping.now permissions.now ram.now at.now out.old }
 {
     let c = fresh(mapping, permissions, flips, accelerators);
-    for i in 0..basics::least(at.len(), out.len()) {
+    for i in 0..at.len().min(out.len()) {
         out[i] = cart::heard(cart::read(c, ram, Console(at[i])));
     }
 }
@@ -234,7 +227,7 @@ pub extern "C" fn luigi_reads_by_value<'a>(
 fn least_of(a: usize, b: usize, c: usize) -> usize
     ensures { (result ≡ min (min a b) c) × (result ≤ a) × (result ≤ b) × (result ≤ c) }
 {
-    basics::least(basics::least(a, b), c)
+    a.min(b).min(c)
 }
 
 // Writes of the words of `value` to the addresses of `at`, one after the other, by these tables, the number of paragraphs that can be read and the
@@ -300,10 +293,8 @@ pub extern "C" fn luigi_writes_by_value<'a>(
         × (flash.new ≡ flash_after (fresh (jlp_from accelerators.now) mapping.now permissions.now flips.now) ram.old flash.old at.now value.now (min (length at.now) (length value.now))) }
 {
     let mut c = fresh(mapping, permissions, flips, accelerators);
-    for i in 0..basics::least(at.len(), value.len()) {
-        let done = cart::write(c, ram, flash, Console(at[i]), value[i]);
-        let next = done.cartridge;
-        c = next;
+    for i in 0..at.len().min(value.len()) {
+        c = cart::write(c, ram, flash, Console(at[i]), value[i]).cartridge;
     }
     active_as(c)
 }

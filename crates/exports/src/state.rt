@@ -50,21 +50,14 @@ fn state_of(c: Cartridge) -> State
 fn cartridge_from(s: State) -> Cartridge
     ensures { result ≡ cartridge_from s }
 {
-    let initial_mapping = s.initial_mapping;
-    let initial_permissions = s.initial_permissions;
-    let mapping = s.mapping;
-    let permissions = s.permissions;
-    let flips = s.flips;
-    let words = s.accelerators;
-    let jlp = jlp_from(&words);
     Cartridge {
-        initial_mapping,
-        initial_permissions,
-        mapping,
-        permissions,
-        flips,
+        initial_mapping: s.initial_mapping,
+        initial_permissions: s.initial_permissions,
+        mapping: s.mapping,
+        permissions: s.permissions,
+        flips: s.flips,
         readable: s.readable,
-        jlp,
+        jlp: jlp_from(&s.accelerators),
     }
 }
 
@@ -86,10 +79,13 @@ pub extern "C" fn luigi_state<'a>(
 pub extern "C" fn luigi_read_by_value(state: State, ram: &[u16], at: u16) -> u32
     ensures { result ≡ heard (read_of (cartridge_from state) ram.now (console at)) }
 {
-    let mapping = state.mapping;
-    let permissions = state.permissions;
-    let words = state.accelerators;
-    direct::read(&mapping, &permissions, &words, ram, Console(at))
+    direct::read(
+        &state.mapping,
+        &state.permissions,
+        &state.accelerators,
+        ram,
+        Console(at),
+    )
 }
 
 // The state that a write leaves, and how many mapping entries it has assigned.
@@ -110,17 +106,12 @@ fn with_active(
 ) -> State
     ensures { result ≡ state_with state mapping permissions readable accelerators }
 {
-    let initial_mapping = state.initial_mapping;
-    let initial_permissions = state.initial_permissions;
-    let flips = state.flips;
     State {
-        initial_mapping,
-        initial_permissions,
         mapping,
         permissions,
-        flips,
         readable,
         accelerators,
+        ..state
     }
 }
 
@@ -138,13 +129,12 @@ pub extern "C" fn luigi_write_by_value(
 {
     let mut m = state.mapping;
     let mut p = state.permissions;
-    let flips = state.flips;
     let mut readable = state.readable;
     let mut words = state.accelerators;
     let assigned = direct::write(
         &mut m,
         &mut p,
-        &flips,
+        &state.flips,
         &mut readable,
         &mut words,
         ram,
@@ -179,14 +169,12 @@ pub struct RanList {
 fn ran_as(ran: Ran) -> RanList
     ensures { result ≡ ran_as ran }
 {
-    let r = ran.refusal;
-    let state = state_of(ran.cartridge);
     RanList {
-        number: r.number,
-        place: r.place,
+        number: ran.refusal.number,
+        place: ran.refusal.place,
         lines: ran.lines,
         length: ran.length,
-        state,
+        state: state_of(ran.cartridge),
     }
 }
 
@@ -205,6 +193,12 @@ pub extern "C" fn luigi_run(
         × (flash.new ≡ (left (world (cartridge_from state) flash.old ram.old) list.now limit (length out.old)).flash)
         × (out.new ≡ answers_in (world (cartridge_from state) flash.old ram.old) list.now limit out.old) }
 {
-    let c = cartridge_from(state);
-    ran_as(accesses::run(list, limit, c, ram, flash, out))
+    ran_as(accesses::run(
+        list,
+        limit,
+        cartridge_from(state),
+        ram,
+        flash,
+        out,
+    ))
 }

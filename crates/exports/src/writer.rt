@@ -7,6 +7,7 @@ ghost use Rattle.exports.specs.Images.{marks_from, image_as};
 use header::{FLAGS_SIZE, UID_SIZE};
 use places::{LOCUTUS_PARAGRAPHS, PARAGRAPHS};
 use save::Writing;
+use std::array;
 
 // What the writer answers: its refusal, and the image's length.
 #[repr(C)]
@@ -20,10 +21,9 @@ pub struct WrittenImage {
 fn image_as(w: Writing) -> WrittenImage
     ensures { result ≡ image_as w }
 {
-    let r = w.refusal;
     WrittenImage {
-        number: r.number,
-        place: r.place,
+        number: w.refusal.number,
+        place: w.refusal.place,
         length: w.length,
     }
 }
@@ -32,11 +32,7 @@ fn image_as(w: Writing) -> WrittenImage
 fn marks_from(bytes: &[u8; LOCUTUS_PARAGRAPHS]) -> [bool; LOCUTUS_PARAGRAPHS]
     ensures { result ≡ marks_from bytes.now }
 {
-    let mut marks = [false; LOCUTUS_PARAGRAPHS];
-    for p in 0..LOCUTUS_PARAGRAPHS {
-        marks[p] = bytes[p] != 0;
-    }
-    marks
+    array::from_fn(|p| bytes[p] != 0)
 }
 
 // The image of the marked paragraphs, into the front of a lent buffer.

@@ -8,7 +8,7 @@ use Rattle.exports.proofs.luigi_reads.Goals as goal
 use Rattle.exports.proofs.luigi_reads.Goals.{then-n-eq-ASKED, else-n-eq-ASKED}
 
 pub loop-i-init : goal.loop-i-init
-loop-i-init c = search (rules, c.least-i-end.ensures, min-le_left, min-le_right, answered_none)
+loop-i-init c = search (rules, c.min-i-end.ensures, min-le_left, min-le_right, answered_none)
 
 -- what is laid is what was heard, by the short way or by the long one
 pub loop-i-preserved : goal.loop-i-preserved
@@ -25,5 +25,5 @@ loop-i-preserved c = (
 
 pub returns : goal.returns
 returns c =
-    let n : c.loop-i.i ≡ c.least-i-end.result = omega arith in
-    rw (← c.least-i-end.ensures, ← n) c.loop-i.invariant.4
+    let n : c.loop-i.i ≡ c.min-i-end.result = omega arith in
+    rw (← c.min-i-end.ensures, ← n) c.loop-i.invariant.4

@@ -7,7 +7,7 @@ use Rattle.exports.specs.Laws.Runs.{answered_none, answered_one}
 use Rattle.exports.proofs.luigi_reads_by_value.Goals as goal
 
 pub loop-i-init : goal.loop-i-init
-loop-i-init c = search (rules, c.least-i-end.ensures, min-le_left, min-le_right, answered_none)
+loop-i-init c = search (rules, c.min-i-end.ensures, min-le_left, min-le_right, answered_none)
 
 pub loop-i-preserved : goal.loop-i-preserved
 loop-i-preserved c = (
@@ -20,5 +20,5 @@ loop-i-preserved c = (
 
 pub returns : goal.returns
 returns c =
-    let n : c.loop-i.i ≡ c.least-i-end.result = omega arith in
-    rw (← c.least-i-end.ensures, ← n) (rw c.fresh-c.ensures at c.loop-i.invariant.4)
+    let n : c.loop-i.i ≡ c.min-i-end.result = omega arith in
+    rw (← c.min-i-end.ensures, ← n) (rw c.fresh-c.ensures at c.loop-i.invariant.4)

@@ -21,8 +21,8 @@ flash-last c d ram flash at v m i n p q e = rw (← p, ← q) e
 pub loop-i-init : goal.loop-i-init
 loop-i-init c = (
   (search rules),
-  (search (rules, c.least-i-end.ensures, min-le_left)),
-  (search (rules, c.least-i-end.ensures, min-le_right)),
+  (search (rules, c.min-i-end.ensures, min-le_left)),
+  (search (rules, c.min-i-end.ensures, min-le_right)),
   (search rules),
   (search rules),
   (search cartridge_none),
@@ -32,7 +32,7 @@ loop-i-init c = (
 
 pub loop-i-preserved : goal.loop-i-preserved
 loop-i-preserved c =
-    let done = c.write-done.ensures in (
+    let done = c.write.ensures in (
       (search rules),
       (search rules),
       (search rules),
@@ -46,8 +46,8 @@ loop-i-preserved c =
 pub returns : goal.returns
 returns c =
     let made = c.fresh-c.ensures in
-    let i : c.loop-i.i ≡ c.least-i-end.result = omega arith in
-    let n = i ∙ c.least-i-end.ensures in (
+    let i : c.loop-i.i ≡ c.min-i-end.result = omega arith in
+    let n = i ∙ c.min-i-end.ensures in (
       rw (← made, ← n, ← c.loop-i.invariant.5) c.active_as.ensures,
       ram_last _ _ _ _ _ _ _ _ _ made n c.loop-i.invariant.6,
       flash-last _ _ _ _ _ _ _ _ _ made n c.loop-i.invariant.7,

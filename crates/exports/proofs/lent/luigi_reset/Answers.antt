@@ -5,4 +5,4 @@ pub returns : goal.returns
 returns c =
     let left = c.reset-c.ensures in
     let made = c.fresh.ensures in
-    (rw (left, made), rw (left, made), rw (left, made), rw (c.words_of.ensures, left, made, c.jlp_from-j.ensures))
+    (rw (left, made), rw (left, made), rw (left, made), rw (c.words_of.ensures, left, made, c.jlp_from.ensures))

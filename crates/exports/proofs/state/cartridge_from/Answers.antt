@@ -2,4 +2,4 @@
 use Rattle.exports.proofs.state.cartridge_from.Goals as goal
 
 pub returns : goal.returns
-returns c = rw c.jlp_from-jlp.ensures
+returns c = rw c.jlp_from.ensures

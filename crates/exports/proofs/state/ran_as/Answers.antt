@@ -2,4 +2,4 @@
 use Rattle.exports.proofs.state.ran_as.Goals as goal
 
 pub returns : goal.returns
-returns c = rw c.state_of-state.ensures
+returns c = rw c.state_of.ensures
