@@ -1,6 +1,7 @@
 -- What one line adds to what the lines say: one law for each way out of the code.
 use Prim.Native.Nat.{ℕ, ◌+◌, ◌<◌, ◌≤◌}
 use mathlib.Core.Path.{◌≡◌, ◌∙◌}
+use Rattle.std.specs.Prelude.{Option, Some}
 use mathlib.Core.List.{List}
 use lib.ListN.{length, set}
 use borrow.Author.Tests.{eq-eqb, ne_eqb}
@@ -18,11 +19,11 @@ use Rattle.cfg.specs.declared.Scan.{Scan}
 use Rattle.cfg.specs.Code.Steps.{onward, in_section, with_entry, with_outside, noted, noted_line}
 
 -- an entry is stored, and the line of the first that is one too many is kept
-module _ (st : Scan) (e : Entry) (x : ℕ) (ls : List Line) (so : ls ≡ set st.lines st.count (record { source = st.line; entry = e })) where
+module _ (st : Scan) (e : Entry) (x : Option ℕ) (ls : List Line) (so : ls ≡ set st.lines st.count (record { source = st.line; entry = e })) where
   abbrev Stored : Type 0
   Stored = ◌≡◌ {A = Scan} (record { line = st.line; section = st.section; outside = st.outside; extra = x; count = st.count + 1; lines = ls }) (with_entry st e)
 
-  pub entry_extra : st.count ≡ line_limit → x ≡ st.line → Stored
+  pub entry_extra : st.count ≡ line_limit → x ≡ Some st.line → Stored
   entry_extra h f = rw (eq-eqb st.count line_limit h, f, so)
 
   pub entry_other : (st.count ≡ line_limit → ⊥) → x ≡ st.extra → Stored

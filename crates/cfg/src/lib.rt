@@ -28,13 +28,13 @@ impl Lines {
 }
 
 // What the lines so far say: the number of the last, the section they end in, the first line outside the grammar, the line of
-// the first entry past the limit (each 0 where there is none), and the entries.
+// the first entry past the limit, and the entries.
 #[derive(Clone, Copy)]
 struct Scan {
     line: u32,
     section: Section,
-    outside: u32,
-    extra: u32,
+    outside: Option<u32>,
+    extra: Option<u32>,
     count: usize,
     lines: [Line; LINE_LIMIT],
 }
@@ -50,14 +50,13 @@ fn blank_lines() -> [Line; LINE_LIMIT]
 }
 
 // The lines with `e` at `at`, where there is such a place.
-fn store(lines: [Line; LINE_LIMIT], at: usize, e: Line) -> [Line; LINE_LIMIT]
+fn store(mut lines: [Line; LINE_LIMIT], at: usize, e: Line) -> [Line; LINE_LIMIT]
     ensures { result ≡ set lines at e }
 {
-    let mut out = lines;
     if at < LINE_LIMIT {
-        out[at] = e;
+        lines[at] = e;
     }
-    out
+    lines
 }
 
 fn start() -> Scan
@@ -66,8 +65,8 @@ fn start() -> Scan
     Scan {
         line: 0,
         section: Section::Nowhere,
-        outside: 0,
-        extra: 0,
+        outside: None,
+        extra: None,
         count: 0,
         lines: blank_lines(),
     }
@@ -100,7 +99,7 @@ fn with_entry(st: Scan, e: Entry) -> Scan
     };
     Scan {
         extra: if st.count == LINE_LIMIT {
-            st.line
+            Some(st.line)
         } else {
             st.extra
         },
@@ -113,13 +112,10 @@ fn with_entry(st: Scan, e: Entry) -> Scan
 fn with_outside(st: Scan) -> Scan
     ensures { result ≡ with_outside st }
 {
-    if st.outside == 0 {
-        return Scan {
-            outside: st.line,
-            ..st
-        };
+    Scan {
+        outside: st.outside.or(Some(st.line)),
+        ..st
     }
-    st
 }
 
 // What the line just counted adds.
@@ -163,14 +159,14 @@ fn scan_lines(cfg: &[u8]) -> Scan
 fn judge(st: Scan) -> Result<Lines, Refusal>
     ensures { result ≡ lines_or (judged st) }
 {
-    if 0 < st.outside {
-        return Err(refuse(23, st.outside as usize));
+    if let Some(line) = st.outside {
+        return Err(refuse(23, line as usize));
     }
     if st.count == 0 {
         return Err(refuse(24, 0));
     }
-    if LINE_LIMIT < st.count {
-        return Err(refuse(24, st.extra as usize));
+    if let Some(line) = st.extra {
+        return Err(refuse(24, line as usize));
     }
     let lines = st.lines;
     Ok(Lines {

@@ -1,11 +1,13 @@
 -- What the private functions of the file reader promise: what the lines so far say, and what one line adds.
-use Rattle.std.specs.Prelude.{ℕ, ◌+◌, List, [], ◌∷◌, cond, eqb, ltb, get_or, length, set}
+use Rattle.std.specs.Prelude.{Option, Some, None, Bool, true, false, ℕ, ◌+◌, List, [], ◌∷◌, cond, eqb, ltb, get_or, length, set}
+use Rattle.std.specs.Option.{option_or}
 use Rattle.basics.specs.declared.Refusal.{Refusal}
 use Rattle.basics.specs.Lists.{part}
 use Rattle.basics.specs.Rows.{Row}
 use Rattle.basics.specs.Refusals.{refuse, no_refusal, first_refusal, passes}
 use Rattle.places.specs.Limits.{line_limit}
 use Rattle.text.specs.Lines.{line_end}
+use Rattle.lines.specs.declared.Line.{Line}
 use Rattle.lines.specs.declared.Entry.{Entry}
 use Rattle.grammar.specs.declared.Section.{Section}
 use Rattle.grammar.specs.declared.Says.{Says}
@@ -21,14 +23,29 @@ unfoldable pub section_from : Section → List Says → Section
 section_from s [] = s
 section_from s (x ∷ xs) = section_from (section_after x s) xs
 
+-- a line's number, where 0 stands for no line; and the line of the first entry that is one too many
+abbrev pub named : ℕ → Option ℕ
+named n = cond (eqb n 0) None (Some n)
+
+abbrev pub past_limit : List Line → Option ℕ
+past_limit es = cond (ltb line_limit (length es)) (Some (get_or es line_limit blank_line).source) None
+
+abbrev pub number_in : Option ℕ → ℕ
+number_in None = 0
+number_in (Some n) = n
+
+abbrev pub is_there : Option ℕ → Bool
+is_there None = false
+is_there (Some n) = true
+
 -- what lines that say so leave behind them
 abbrev pub scan_of : List Says → Scan
 scan_of xs =
     record {
       line = length xs;
       section = section_from Nowhere xs;
-      outside = outside_from 1 xs;
-      extra = (get_or (entries_from 1 xs) line_limit blank_line).source;
+      outside = named (outside_from 1 xs);
+      extra = past_limit (entries_from 1 xs);
       count = length (entries_from 1 xs);
       lines = shown (entries_from 1 xs);
     }
@@ -46,14 +63,14 @@ with_entry st e =
       line = st.line;
       section = st.section;
       outside = st.outside;
-      extra = cond (eqb st.count line_limit) st.line st.extra;
+      extra = cond (eqb st.count line_limit) (Some st.line) st.extra;
       count = st.count + 1;
       lines = set st.lines st.count (record { source = st.line; entry = e });
     }
 
 abbrev pub with_outside : Scan → Scan
 with_outside st =
-    record { line = st.line; section = st.section; outside = cond (eqb st.outside 0) st.line st.outside; extra = st.extra; count = st.count; lines = st.lines }
+    record { line = st.line; section = st.section; outside = option_or st.outside (Some st.line); extra = st.extra; count = st.count; lines = st.lines }
 
 abbrev pub noted : Scan → Says → Scan
 noted st Blank = st
@@ -67,7 +84,8 @@ noted_line st s at = noted (onward st) (line_says st.section (part s at (line_en
 
 -- refusals 23 and 24 of what all lines say
 abbrev pub scan_rows : Scan → List (Row Refusal)
-scan_rows st = (ltb 0 st.outside, refuse 23 st.outside) ∷ (eqb st.count 0, refuse 24 0) ∷ (ltb line_limit st.count, refuse 24 st.extra) ∷ []
+scan_rows st =
+    (is_there st.outside, refuse 23 (number_in st.outside)) ∷ (eqb st.count 0, refuse 24 0) ∷ (is_there st.extra, refuse 24 (number_in st.extra)) ∷ []
 
 abbrev pub judged : Scan → Reading
 judged st =
