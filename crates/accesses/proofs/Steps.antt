@@ -1,4 +1,5 @@
 -- One access made over lent tables, and its answer noted: a law for each of what a line may say.
+use Rattle.std.specs.Prelude.{Option}
 use Prim.Native.Nat.{ℕ, ◌+◌, ◌<◌, ◌≤◌}
 use mathlib.Core.List.{List}
 use mathlib.Core.Path.{◌≡◌, refl, sym, ◌∙◌}
@@ -10,7 +11,6 @@ use Rattle.switches.specs.Flips.{active}
 use Rattle.jlp.specs.declared.Jlp.{Jlp}
 use Rattle.jlp.specs.Accelerators.{latches, written_jlp, reset_jlp}
 use Rattle.jlp.specs.Laws.Accelerators.{unlatched}
-use Rattle.cart.specs.declared.Answer.{Answer}
 use Rattle.cart.specs.Readable.{readable_of}
 use Rattle.cart.specs.Reads.{heard, read_by}
 use Rattle.cart.specs.Writes.{leaves, leaves_ram, leaves_flash, leaves_readable}
@@ -35,7 +35,7 @@ module _ (im ip m p flips : List ℕ) (readable : ℕ) (j : Jlp) (flash ram : Li
   abbrev W : World
   W = tabled (active im ip) (active m p) flips readable j flash ram
 
-  pub read_done : (at : Console) (x : Answer) (n : ℕ) → s ≡ Read at → x ≡ read_by j (active m p) ram at → n ≡ heard x
+  pub read_done : (at : Console) (x : Option ℕ) (n : ℕ) → s ≡ Read at → x ≡ read_by j (active m p) ram at → n ≡ heard x
       → Done W s (record { jlp = j; reply = Some n }) m p readable flash ram
   read_done at x n e f g = rw (e, g, f) (refl, refl, refl, refl, refl, refl)
 

@@ -1,4 +1,5 @@
 -- One law for each return that makes a cartridge or a count, its premises as the code's calls give them.
+use Rattle.std.specs.Prelude.{Option}
 use Rattle.std.proofs.Common.{◌≡◌, ℕ, ◌%◌, ◌<◌, cond, List, length, get_or, refl, ap, ◌∙◌, arith}
 use Rattle.places.specs.Limits.{paragraphs, flip_entries}
 use Rattle.places.specs.declared.Console.{Console}
@@ -58,12 +59,12 @@ pub written_is : (c : Cartridge) (at : Console) (v : ℕ) (m p : List ℕ) (n k 
 written_is c at v m p n k j d e f g i l h = rw (h, e, f, g, i, l)
 
 -- the command that is asked for, done
-module _ (s : Saves) (m : Memories) (at : Console) (v : ℕ) (c : Command) (x : List ℕ) (e : c ≡ command_of s at v) where
+module _ (s : Saves) (m : Memories) (at : Console) (v : ℕ) (c : Option Command) (x : List ℕ) (e : c ≡ command_of s at v) where
   pub command_flash : x ≡ (acted s.sectors m c).flash → x ≡ (acted s.sectors m (command_of s at v)).flash
-  command_flash f = f ∙ ap (λ (d : Command). (acted s.sectors m d).flash) e
+  command_flash f = f ∙ ap (λ (d : Option Command). (acted s.sectors m d).flash) e
 
   pub command_ram : x ≡ (acted s.sectors m c).ram → x ≡ (acted s.sectors m (command_of s at v)).ram
-  command_ram f = f ∙ ap (λ (d : Command). (acted s.sectors m d).ram) e
+  command_ram f = f ∙ ap (λ (d : Option Command). (acted s.sectors m d).ram) e
 
 -- what a write leaves that `shift` has given to its taker
 module _ (j : Jlp) (a : Active) (flips : List ℕ) (at : Console) (v : ℕ) (t : Taker) (h : t ≡ taker_of j a flips at v) where

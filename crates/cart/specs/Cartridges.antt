@@ -1,12 +1,11 @@
 -- The cartridge: the initial and the active tables, the flip table, the readable paragraphs and the accelerators; what it answers, and
 -- what a write and a reset leave of it (01, The machine; 02, W-206, W-209 and W-211).
-use Rattle.std.specs.Prelude.{ℕ, List, replicate}
+use Rattle.std.specs.Prelude.{ℕ, List, replicate, Option}
 use Rattle.places.specs.declared.Console.{Console}
 use Rattle.places.specs.Limits.{paragraphs, flip_entries}
 use Rattle.switches.specs.Flips.{Active, active}
 use Rattle.jlp.specs.declared.Jlp.{Jlp}
 use Rattle.jlp.specs.Accelerators.{fresh_jlp, reset_jlp, written_jlp}
-use Rattle.cart.specs.declared.Answer.{Answer}
 use Rattle.cart.specs.declared.Cartridge.{Cartridge}
 use Rattle.cart.specs.declared.Written.{Written}
 use Rattle.cart.specs.Readable.{readable_of}
@@ -43,7 +42,7 @@ abbrev pub with_active : Cartridge → Active → ℕ → Jlp → Cartridge
 with_active c a readable jlp = assembled (initial_of c) a c.flips readable jlp
 
 -- a read, a write, and what it leaves of the RAM and of the flash; the accelerators go by their own law, whoever takes the write
-abbrev pub read_of : Cartridge → List ℕ → Console → Answer
+abbrev pub read_of : Cartridge → List ℕ → Console → Option ℕ
 read_of c ram at = read_by c.jlp (active_of c) ram at
 
 abbrev pub write_of : Cartridge → Console → ℕ → Cartridge

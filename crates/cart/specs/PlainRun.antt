@@ -1,5 +1,5 @@
 -- A run over a plain flash: the same accesses, where the flash is a list of rows and no lent words (02, W-209).
-use Rattle.std.specs.Prelude.{◌≡◌, ℕ, List, [], ◌∷◌, ◌++◌}
+use Rattle.std.specs.Prelude.{◌≡◌, ℕ, List, [], ◌∷◌, ◌++◌, Option}
 use Rattle.places.specs.declared.Console.{Console}
 use Rattle.flash.specs.declared.Saves.{Saves}
 use Rattle.flash.specs.Flash.{memories}
@@ -7,7 +7,6 @@ use Rattle.flash.specs.Registers.{command_of}
 use Rattle.flash.specs.Plain.{PlainFlash, plain_flash, plain_acted}
 use Rattle.flash.specs.Shown.{shown_flash}
 use Rattle.cart.specs.declared.Cartridge.{Cartridge}
-use Rattle.cart.specs.declared.Answer.{Answer}
 use Rattle.cart.specs.declared.Taker.{Taker}
 use Rattle.cart.specs.declared.Taker.TheVariants.{Accelerators, Bank, Flip, Ram}
 use Rattle.cart.specs.Writes.{taker_of, stored}
@@ -35,7 +34,7 @@ plain_step w (Read a) = w
 plain_step w (Write a v) = record { cartridge = write_of w.cartridge a v; plain = plain_written w.cartridge w.plain a v }
 plain_step w Reset = record { cartridge = reset_of w.cartridge; plain = w.plain }
 
-abbrev pub plain_said : PlainWorld → Access → List Answer
+abbrev pub plain_said : PlainWorld → Access → List (Option ℕ)
 plain_said w (Read a) = read_of w.cartridge w.plain.ram a ∷ []
 plain_said w (Write a v) = []
 plain_said w Reset = []
@@ -45,7 +44,7 @@ abbrev pub plain_after : PlainWorld → List Access → PlainWorld
 plain_after w [] = w
 plain_after w (x ∷ xs) = plain_after (plain_step w x) xs
 
-abbrev pub plain_answers : PlainWorld → List Access → List Answer
+abbrev pub plain_answers : PlainWorld → List Access → List (Option ℕ)
 plain_answers w [] = []
 plain_answers w (x ∷ xs) = plain_said w x ++ plain_answers (plain_step w x) xs
 

@@ -15,7 +15,7 @@ ghost use Rattle.cart.specs.Reads.{silent, heard, fetched, register_source, wind
 ghost use Rattle.cart.specs.Writes.{stored_word, stored, flip_taker, mapped_taker, window_taker, taker_of, left_by, assigned_by, readable_by, leaves, leaves_ram, leaves_flash, assigned, leaves_readable};
 ghost use Rattle.cart.specs.Cartridges.{assembled, fresh, with_active, read_of, written_of, write_ram_of, write_flash_of, reset_of};
 
-use flash::{Heard, Saves};
+use flash::Saves;
 use jlp::Jlp;
 use places::{Console, FLIP_ENTRIES, LENT_LIMIT, Locutus, PARAGRAPH_SIZE, PARAGRAPHS};
 
@@ -59,13 +59,6 @@ pub enum Source {
     Nobody,
     Latched(u16),
     Ram(Cell),
-}
-
-// What a read gets.
-#[derive(Clone, Copy)]
-pub enum Answer {
-    Word(u16),
-    Silence,
 }
 
 // Who takes a write: the accelerators' registers; the half-page with this first paragraph, which is switched to this paragraph number; the flip entry of this
@@ -139,12 +132,12 @@ pub fn window_cell(at: Console) -> Cell
 }
 
 // A register's word, or nobody.
-fn register_source(heard: Heard) -> Source
+fn register_source(heard: Option<u16>) -> Source
     ensures { result ≡ register_source heard }
 {
     match heard {
-        Heard::Word(w) => Source::Latched(w),
-        Heard::Silence => Source::Nobody,
+        Some(w) => Source::Latched(w),
+        None => Source::Nobody,
     }
 }
 
@@ -196,30 +189,25 @@ fn source_of<'a>(
 }
 
 // The word of a cell that may be read and lies in the lent RAM.
-pub fn fetch(cell: Cell, ram: &[u16]) -> Answer
+pub fn fetch(cell: Cell, ram: &[u16]) -> Option<u16>
     ensures { result ≡ fetched cell ram.now }
 {
     let i = cell.location.0 as usize;
-    if !cell.rights.read {
-        return Answer::Silence;
+    if cell.rights.read && i < places::lent_words(ram) {
+        Some(ram[i])
+    } else {
+        None
     }
-    if places::lent_words(ram) <= i {
-        return Answer::Silence;
-    }
-    Answer::Word(ram[i])
 }
 
 // Silence as a number: above every word.
 pub const SILENCE: u32 = 0x10000;
 
-// An answer as one number.
-pub fn heard(a: Answer) -> u32
+// Returns what a read gets as one number: a word as it is, or silence.
+pub fn heard(a: Option<u16>) -> u32
     ensures { result ≡ heard a }
 {
-    match a {
-        Answer::Word(w) => w as u32,
-        Answer::Silence => SILENCE,
-    }
+    a.map_or(SILENCE, u32::from)
 }
 
 // A read by the active tables, lent, and the accelerators: no table of the cartridge is copied.
@@ -229,17 +217,17 @@ pub fn read_by<'a>(
     j: Jlp,
     ram: &[u16],
     at: Console,
-) -> Answer
+) -> Option<u16>
     ensures { result ≡ read_by j (active mapping.now permissions.now) ram.now at }
 {
     match source_of(mapping, permissions, j, at) {
-        Source::Nobody => Answer::Silence,
-        Source::Latched(w) => Answer::Word(w),
+        Source::Nobody => None,
+        Source::Latched(w) => Some(w),
         Source::Ram(cell) => fetch(cell, ram),
     }
 }
 
-pub fn read(c: Cartridge, ram: &[u16], at: Console) -> Answer
+pub fn read(c: Cartridge, ram: &[u16], at: Console) -> Option<u16>
     ensures { result ≡ read_of c ram.now at }
 {
     let j = c.jlp;

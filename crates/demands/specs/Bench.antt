@@ -1,13 +1,11 @@
 -- The bench cases marked (P), of what the functions promise, as one table under one statement (01, Bench cases).
-use Rattle.std.specs.Prelude.{ℕ, ◌+◌, ◌*◌, ◌<◌, ◌≤◌, List, ◌∷◌, [], ◌≡◌, true, false, length, get_or, Some, None}
+use Rattle.std.specs.Prelude.{ℕ, ◌+◌, ◌*◌, ◌<◌, ◌≤◌, List, ◌∷◌, [], ◌≡◌, true, false, length, get_or, Some, None, Option}
 use Rattle.basics.specs.Refusals.{refuse, no_refusal}
 use Rattle.places.specs.declared.Console.{Console}
 use Rattle.places.specs.Limits.{image_limit}
 use Rattle.sums.specs.Crc.{dowcrc_of, crc32_of}
 use Rattle.sums.specs.Cases.{up_to15, four}
 use Rattle.switches.specs.Flips.{flip_mapping, flip_permissions, asks}
-use Rattle.cart.specs.declared.Answer.{Answer}
-use Rattle.cart.specs.declared.Answer.TheVariants.{Silence, Word}
 use Rattle.cart.specs.Cells.{locate}
 use Rattle.cart.specs.Writes.{stored_word}
 use Rattle.cart.specs.Run.{Access, Read, Write, Reset, answers}
@@ -47,8 +45,8 @@ abbrev pub seven_accesses : List Access
 seven_accesses = Read (at 0xC000) ∷ Write (at 0xCFFF) 0xCA52 ∷ Read (at 0xC000) ∷ Reset ∷ Read (at 0xC000) ∷ []
 
 -- silence, BIN word 0 (its bytes, the high one first), silence
-abbrev pub seven_answers : List ℕ → List Answer
-seven_answers bin = Silence ∷ Word (get_or bin 0 0 * 256 + get_or bin 1 0) ∷ Silence ∷ []
+abbrev pub seven_answers : List ℕ → List (Option ℕ)
+seven_answers bin = None ∷ Some (get_or bin 0 0 * 256 + get_or bin 1 0) ∷ None ∷ []
 
 -- a BIN of 8,192 bytes: entry 194 is 0x0009, the chapter's others 0x0008; and what is read
 pub record Seven (p : Pressing) : Type 0 where

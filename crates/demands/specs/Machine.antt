@@ -1,11 +1,10 @@
 -- What one console access does, said of the tables' own entries and bits (01, The machine; 02, W-202, W-206, W-209, W-211 and W-212). Nothing
 -- here cites the definitions of who answers a read or who takes a write: these are the papers' sentences, of every cartridge and every RAM.
-use Rattle.std.specs.Prelude.{ℕ, ◌+◌, ◌*◌, ◌-◌, ◌/◌, ◌%◌, ◌<◌, ◌≤◌, List, true, cond, ◌↔◌, ◌⊎◌, ◌≡◌, eqb, length, get_or}
+use Rattle.std.specs.Prelude.{ℕ, ◌+◌, ◌*◌, ◌-◌, ◌/◌, ◌%◌, ◌<◌, ◌≤◌, List, true, cond, ◌↔◌, ◌⊎◌, ◌≡◌, eqb, length, get_or, Some}
 use Rattle.basics.specs.Counts.{count}
 use Rattle.places.specs.declared.Console.{Console}
 use Rattle.places.specs.Limits.{lent}
 use Rattle.cart.specs.declared.Cartridge.{Cartridge}
-use Rattle.cart.specs.declared.Answer.TheVariants.{Word}
 use Rattle.cart.specs.Cartridges.{read_of, written_of}
 use Rattle.cart.specs.Run.{World, Write, Reset, step}
 
@@ -182,9 +181,9 @@ reported w at v = (written_of w.cartridge at v).assigned
 -- reads, writes and resets
 pub record Machine : Type 0 where
   -- a read gets the word w exactly when ..; otherwise silence
-  pub hears : (c : Cartridge) (ram : List ℕ) (at : Console) (w : ℕ) → (Accelerated c at → ⊥) → (read_of c ram at ≡ Word w) ↔ Hears c ram at w
+  pub hears : (c : Cartridge) (ram : List ℕ) (at : Console) (w : ℕ) → (Accelerated c at → ⊥) → (read_of c ram at ≡ Some w) ↔ Hears c ram at w
   pub hears_on : (c : Cartridge) (ram : List ℕ) (at : Console) (w : ℕ) → Accelerated c at
-      → (read_of c ram at ≡ Word w) ↔ (HearsRam ram at w ⊎ HearsRegister c at w)
+      → (read_of c ram at ≡ Some w) ↔ (HearsRam ram at w ⊎ HearsRegister c at w)
   -- every write is one of these, and leaves what it says
   pub flips : (w : World) (at : Console) (v : ℕ) → Flips w.cartridge at v → Flipped w (after_write w at v) v (reported w at v)
   pub switches : (w : World) (at : Console) (v h : ℕ) → Switches w.cartridge at h → Switched w (after_write w at v) h v (reported w at v)

@@ -1,5 +1,5 @@
 -- Where an access goes that need ask nobody before the RAM, and what it then hears or leaves (01, The machine; 02, W-202 and W-206).
-use Rattle.std.specs.Prelude.{ℕ, ◌/◌, ◌%◌, Bool, true, false, cond, ◌&&◌, ◌||◌, List, eqb}
+use Rattle.std.specs.Prelude.{ℕ, ◌/◌, ◌%◌, Bool, true, false, cond, ◌&&◌, ◌||◌, List, eqb, Option, Some, None}
 use Rattle.places.specs.declared.Console.{Console}
 use Rattle.switches.specs.Flips.{Active}
 use Rattle.jlp.specs.Window.{in_window, in_ram, on_at}
@@ -30,15 +30,11 @@ asks_more at = eqb (at.0 / 0x20) 2 || (eqb (at.0 % 0x1000) 0xFFF || eqb at.0 on_
 abbrev pub write_reach : Bool → Active → Console → Reach
 write_reach on a at = cond (on && in_window at) (window_reach at) (cond (asks_more at) Asked (At (cell_at a at)))
 
--- that somebody is to be asked, among the answers: above silence
-abbrev pub asked : ℕ
-asked = 0x10001
-
--- what a read hears there
-abbrev pub hears : Reach → List ℕ → ℕ
-hears Asked ram = asked
-hears Nobody ram = silence
-hears (At c) ram = heard (fetched c ram)
+-- what a read hears there as one number, or none where somebody is to be asked
+abbrev pub hears : Reach → List ℕ → Option ℕ
+hears Asked ram = None
+hears Nobody ram = Some silence
+hears (At c) ram = Some (heard (fetched c ram))
 
 -- whether a write is done there, and what it leaves of the RAM
 abbrev pub is_done : Reach → Bool

@@ -16,36 +16,36 @@ ghost use Rattle.direct.specs.Direct.{window_reach, read_reach, asks_more, write
 use places::{Console, FLIP_ENTRIES, PARAGRAPHS};
 use registers::ACCELERATOR_WORDS;
 
-// What the short way hears where a register is to be asked: above every word, and above silence.
-pub const ASKED: u32 = 0x10001;
-
-// A read in the accelerators' window, while they are on: of their RAM, or a register is to be asked.
-fn hear_window(ram: &[u16], at: Console) -> u32
+// Returns what a read in the accelerators' window gets while they are on: a word of their RAM, or None where a register must be asked.
+fn hear_window(ram: &[u16], at: Console) -> Option<u32>
     ensures { result ≡ hears (window_reach at) ram.now }
 {
     if !jlp::in_ram(at) {
-        return ASKED;
+        return None;
     }
-    cart::heard(cart::fetch(cart::window_cell(at), ram))
+    Some(cart::heard(cart::fetch(cart::window_cell(at), ram)))
 }
 
-// What a read gets as one number, or that a register is to be asked.
+// Returns what a read gets as one number, or None where a register must be asked.
 pub fn hear<'a>(
     mapping: &'a [u16; PARAGRAPHS],
     permissions: &'a [u8; PARAGRAPHS],
     on: bool,
     ram: &[u16],
     at: Console,
-) -> u32
+) -> Option<u32>
     ensures { result ≡ hears (read_reach on (active mapping.now permissions.now) at) ram.now }
 {
-    if basics::both(on, jlp::in_window(at)) {
+    if on && jlp::in_window(at) {
         return hear_window(ram, at);
     }
     if cart::is_silent(at) {
-        return cart::SILENCE;
+        return Some(cart::SILENCE);
     }
-    cart::heard(cart::fetch(cart::cell_at(mapping, permissions, at), ram))
+    Some(cart::heard(cart::fetch(
+        cart::cell_at(mapping, permissions, at),
+        ram,
+    )))
 }
 
 // Whether a write there can be more than a store: a bankswitch register, the address of a chapter's page requests, and the one that turns the
@@ -54,13 +54,7 @@ fn asks_more(at: Console) -> bool
     ensures { result ≡ asks_more at }
 {
     let a = at.0;
-    if a / 0x20 == 2 {
-        return true;
-    }
-    if a % 0x1000 == 0xFFF {
-        return true;
-    }
-    a == jlp::ON_AT
+    a / 0x20 == 2 || a % 0x1000 == 0xFFF || a == jlp::ON_AT
 }
 
 // A write in the accelerators' window, while they are on, and whether it was a store to their RAM.
@@ -86,7 +80,7 @@ pub fn store<'a>(
     ensures { (result ≡ is_done (write_reach on (active mapping.now permissions.now) at))
         × (ram.new ≡ keeps (write_reach on (active mapping.now permissions.now) at) ram.old value) }
 {
-    if basics::both(on, jlp::in_window(at)) {
+    if on && jlp::in_window(at) {
         return store_window(ram, at, value);
     }
     if asks_more(at) {

@@ -25,11 +25,10 @@ pub extern "C" fn luigi_read<'a>(
 {
     let a = Console(at);
     let on = registers::is_on(accelerators);
-    let n = direct::hear(mapping, permissions, on, ram, a);
-    if n != direct::ASKED {
-        return n;
+    match direct::hear(mapping, permissions, on, ram, a) {
+        Some(n) => n,
+        None => direct::read(mapping, permissions, accelerators, ram, a),
     }
-    direct::read(mapping, permissions, accelerators, ram, a)
 }
 
 // A write; it answers how many mapping entries it has assigned.

@@ -197,11 +197,10 @@ pub extern "C" fn luigi_reads<'a>(
     let on = registers::is_on(accelerators);
     for i in 0..at.len().min(out.len()) {
         let a = Console(at[i]);
-        let mut n = direct::hear(mapping, permissions, on, ram, a);
-        if n == direct::ASKED {
-            n = direct::read(mapping, permissions, accelerators, ram, a);
-        }
-        out[i] = n;
+        out[i] = match direct::hear(mapping, permissions, on, ram, a) {
+            Some(n) => n,
+            None => direct::read(mapping, permissions, accelerators, ram, a),
+        };
     }
 }
 

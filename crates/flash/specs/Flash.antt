@@ -1,10 +1,10 @@
 -- Saved games: rows of a lent flash, and what each command leaves of it and of the lent RAM (02, W-209; 000, JLP Flash).
-use Rattle.std.specs.Prelude.{ℕ, ◌+◌, ◌*◌, ◌/◌, List, [], ◌∷◌, Bool, cond, ◌&&◌, false, length, get_or, ltb, leb, eqb}
+use Rattle.std.specs.Prelude.{ℕ, ◌+◌, ◌*◌, ◌/◌, List, [], ◌∷◌, Bool, cond, ◌&&◌, false, length, get_or, ltb, leb, eqb, Option, Some, None}
 use Rattle.basics.specs.Lists.{laid}
 use Rattle.basics.specs.Counts.{all}
 use Rattle.places.specs.declared.Console.{Console}
 use Rattle.flash.specs.declared.Command.{Command}
-use Rattle.flash.specs.declared.Command.TheVariants.{Read, Write, Erase, Nothing}
+use Rattle.flash.specs.declared.Command.TheVariants.{Read, Write, Erase}
 
 -- a row holds 96 words, a sector consists of 8 rows, so of 768 words; a flash has 682 sectors at most; an erased word is $FFFF
 abbrev pub row_words : ℕ
@@ -101,18 +101,18 @@ pub record Memories : Type 0 where
 abbrev pub memories : List ℕ → List ℕ → Memories
 memories flash ram = record { flash = flash; ram = ram }
 
-abbrev pub command_acts : ℕ → Memories → Command → Bool
-command_acts sectors m (Read row at) = readable sectors m.flash m.ram row at
-command_acts sectors m (Write row at) = writable sectors m.flash m.ram row at
-command_acts sectors m (Erase row) = erasable sectors m.flash row
-command_acts sectors m Nothing = false
+abbrev pub command_acts : ℕ → Memories → Option Command → Bool
+command_acts sectors m (Some (Read row at)) = readable sectors m.flash m.ram row at
+command_acts sectors m (Some (Write row at)) = writable sectors m.flash m.ram row at
+command_acts sectors m (Some (Erase row)) = erasable sectors m.flash row
+command_acts sectors m None = false
 
-abbrev pub acted : ℕ → Memories → Command → Memories
-acted sectors m (Read row at) = memories m.flash (read_ram sectors m.flash m.ram row at)
-acted sectors m (Write row at) = memories (written_flash sectors m.flash m.ram row at) m.ram
-acted sectors m (Erase row) = memories (erased_flash sectors m.flash row) m.ram
-acted sectors m Nothing = m
+abbrev pub acted : ℕ → Memories → Option Command → Memories
+acted sectors m (Some (Read row at)) = memories m.flash (read_ram sectors m.flash m.ram row at)
+acted sectors m (Some (Write row at)) = memories (written_flash sectors m.flash m.ram row at) m.ram
+acted sectors m (Some (Erase row)) = memories (erased_flash sectors m.flash row) m.ram
+acted sectors m None = m
 
-abbrev pub acted_all : ℕ → Memories → List Command → Memories
+abbrev pub acted_all : ℕ → Memories → List (Option Command) → Memories
 acted_all sectors m [] = m
 acted_all sectors m (c ∷ cs) = acted_all sectors (acted sectors m c) cs

@@ -1,11 +1,11 @@
 -- The plain flash: a list of rows, eight to a sector, and the three commands on it (000, JLP Flash). No place in a lent flash, and no size.
-use Rattle.std.specs.Prelude.{ℕ, ◌+◌, ◌*◌, ◌/◌, List, [], ◌∷◌, Bool, cond, ◌&&◌, length, get_or, ltb, leb, eqb}
+use Rattle.std.specs.Prelude.{ℕ, ◌+◌, ◌*◌, ◌/◌, List, [], ◌∷◌, Bool, cond, ◌&&◌, length, get_or, ltb, leb, eqb, Option, Some, None}
 use Rattle.basics.specs.Lists.{laid}
 use Rattle.basics.specs.Tables.{table}
 use Rattle.basics.specs.Counts.{all}
 use Rattle.places.specs.declared.Console.{Console}
 use Rattle.flash.specs.declared.Command.{Command}
-use Rattle.flash.specs.declared.Command.TheVariants.{Read, Write, Erase, Nothing}
+use Rattle.flash.specs.declared.Command.TheVariants.{Read, Write, Erase}
 use Rattle.flash.specs.Flash.{row_words, sector_rows, erased_word, ram_place, ram_lent, ram_word}
 
 -- the rows that there are, and the RAM beside them
@@ -58,12 +58,12 @@ plain_erased_rows rows row =
     cond (has_sector rows row) (changed rows (λ r. eqb (r / sector_rows) (row / sector_rows)) blank_row) rows
 
 -- a command, and a list of them
-abbrev pub plain_acted : PlainFlash → Command → PlainFlash
-plain_acted p (Read row at) = plain_flash p.rows (plain_read_ram p row at)
-plain_acted p (Write row at) = plain_flash (plain_written_rows p row at) p.ram
-plain_acted p (Erase row) = plain_flash (plain_erased_rows p.rows row) p.ram
-plain_acted p Nothing = p
+abbrev pub plain_acted : PlainFlash → Option Command → PlainFlash
+plain_acted p (Some (Read row at)) = plain_flash p.rows (plain_read_ram p row at)
+plain_acted p (Some (Write row at)) = plain_flash (plain_written_rows p row at) p.ram
+plain_acted p (Some (Erase row)) = plain_flash (plain_erased_rows p.rows row) p.ram
+plain_acted p None = p
 
-abbrev pub plain_acted_all : PlainFlash → List Command → PlainFlash
+abbrev pub plain_acted_all : PlainFlash → List (Option Command) → PlainFlash
 plain_acted_all p [] = p
 plain_acted_all p (c ∷ cs) = plain_acted_all (plain_acted p c) cs

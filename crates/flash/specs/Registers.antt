@@ -1,13 +1,11 @@
 -- The flash's registers: what a read of one gets, what a write leaves in them, and which command it asks for (02, W-209; 000, JLP Flash).
-use Rattle.std.specs.Prelude.{ℕ, ◌*◌, ◌-◌, [], ◌∷◌, Bool, not, ◌&&◌, leb, eqb}
+use Rattle.std.specs.Prelude.{ℕ, ◌*◌, ◌-◌, [], ◌∷◌, Bool, not, ◌&&◌, leb, eqb, Option, Some, None}
 use Rattle.basics.specs.Rows.{first_of}
 use Rattle.places.specs.declared.Console.{Console}
 use Rattle.places.specs.Places.{console}
 use Rattle.flash.specs.declared.Command.{Command}
-use Rattle.flash.specs.declared.Command.TheVariants.{Read, Write, Erase, Nothing}
+use Rattle.flash.specs.declared.Command.TheVariants.{Read, Write, Erase}
 use Rattle.flash.specs.declared.Saves.{Saves}
-use Rattle.flash.specs.declared.Heard.{Heard}
-use Rattle.flash.specs.declared.Heard.TheVariants.{Word, Silence}
 use Rattle.flash.specs.Flash.{sector_rows, sector_limit}
 
 -- JF.first and JF.last, which are read; JF.addr and JF.row, which are written; JF.wrcmd, JF.rdcmd and JF.ercmd, and the key of each
@@ -57,14 +55,14 @@ abbrev pub last_row : ℕ → ℕ
 last_row sectors = sector_rows * sectors - 1
 
 -- what a read gets: the first and the last row; the other registers are write_only
-unfoldable pub flash_heard : Saves → Console → Heard
+unfoldable pub flash_heard : Saves → Console → Option ℕ
 flash_heard s at =
     first_of
-    ((not (has_flash s.sectors), Silence)
-    ∷ (eqb at.0 jf_first, Word first_row)
-    ∷ (eqb at.0 jf_last, Word (last_row s.sectors))
+    ((not (has_flash s.sectors), None)
+    ∷ (eqb at.0 jf_first, Some first_row)
+    ∷ (eqb at.0 jf_last, Some (last_row s.sectors))
     ∷ [])
-    Silence
+    None
 
 -- what a write leaves: the address and the row are kept, and nothing else is
 unfoldable pub remembered : Saves → Console → ℕ → Saves
@@ -77,12 +75,12 @@ remembered s at v =
     s
 
 -- the command that a write asks for: its key, written to its register; its row and its address are those of the registers
-unfoldable pub command_of : Saves → Console → ℕ → Command
+unfoldable pub command_of : Saves → Console → ℕ → Option Command
 command_of s at v =
     first_of
-    ((not (has_flash s.sectors), Nothing)
-    ∷ (eqb at.0 jf_wrcmd && eqb v jf_wrkey, Write s.row (console s.addr))
-    ∷ (eqb at.0 jf_rdcmd && eqb v jf_rdkey, Read s.row (console s.addr))
-    ∷ (eqb at.0 jf_ercmd && eqb v jf_erkey, Erase s.row)
+    ((not (has_flash s.sectors), None)
+    ∷ (eqb at.0 jf_wrcmd && eqb v jf_wrkey, Some (Write s.row (console s.addr)))
+    ∷ (eqb at.0 jf_rdcmd && eqb v jf_rdkey, Some (Read s.row (console s.addr)))
+    ∷ (eqb at.0 jf_ercmd && eqb v jf_erkey, Some (Erase s.row))
     ∷ [])
-    Nothing
+    None

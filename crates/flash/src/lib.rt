@@ -7,7 +7,6 @@ ghost use Rattle.basics.specs.Lists.{laid};
 ghost use Rattle.flash.specs.Flash.{row_words, sector_words, sector_limit, erased_word, in_range, row_lent, sector_lent, ram_lent, empty_at, readable, writable, read_ram, written_flash, erased_flash, memories, acted};
 ghost use Rattle.flash.specs.Registers.{has_flash, last_row, fresh_saves, flash_heard, remembered, command_of};
 
-use basics::both;
 use places::Console;
 
 // The words of a row, the rows and the words of a sector, the most sectors, and a word that is erased.
@@ -49,13 +48,12 @@ pub const JF_RDKEY: u16 = 0xDEC0;
 
 pub const JF_ERKEY: u16 = 0xBEEF;
 
-// What a write asks of the flash: a row into RAM at an address, RAM at an address into a row, a row's sector erased, or nothing.
+// What a write can ask of the flash: a row into RAM at an address, RAM at an address into a row, or a row's sector erased.
 #[derive(Clone, Copy)]
 pub enum Command {
     Read(u16, Console),
     Write(u16, Console),
     Erase(u16),
-    Nothing,
 }
 
 // The flash as the console sees it: its size in sectors, where 0 is none, and the address and row registers as last written.
@@ -64,13 +62,6 @@ pub struct Saves {
     pub sectors: u16,
     pub addr: u16,
     pub row: u16,
-}
-
-// What a read of a register gets.
-#[derive(Clone, Copy)]
-pub enum Heard {
-    Word(u16),
-    Silence,
 }
 
 // Whether a row is one of the flash's.
@@ -85,7 +76,7 @@ fn row_lent(sectors: u16, words: usize, row: u16) -> bool
     ensures { result ≡ row_lent sectors words row }
 {
     let n = row as usize;
-    both(in_range(sectors, row), ROW_WORDS * n + ROW_WORDS <= words)
+    in_range(sectors, row) && ROW_WORDS * n + ROW_WORDS <= words
 }
 
 // Whether a row is in range, and its sector lies wholly in so many lent words.
@@ -93,10 +84,7 @@ fn sector_lent(sectors: u16, words: usize, row: u16) -> bool
     ensures { result ≡ sector_lent sectors words row }
 {
     let n = row as usize / SECTOR_ROWS;
-    both(
-        in_range(sectors, row),
-        SECTOR_WORDS * n + SECTOR_WORDS <= words,
-    )
+    in_range(sectors, row) && SECTOR_WORDS * n + SECTOR_WORDS <= words
 }
 
 // Whether the 96 words at an address are RAM that commands reach, and lie in so many lent words.
@@ -104,13 +92,9 @@ fn ram_lent(words: usize, at: Console) -> bool
     ensures { result ≡ ram_lent words at }
 {
     let a = at.0 as usize;
-    if a < RAM_START as usize {
-        return false;
-    }
-    if RAM_END as usize + 1 < a + ROW_WORDS {
-        return false;
-    }
-    a + RAM_SHIFT as usize + ROW_WORDS <= words
+    RAM_START as usize <= a
+        && a + ROW_WORDS <= RAM_END as usize + 1
+        && a + RAM_SHIFT as usize + ROW_WORDS <= words
 }
 
 // Whether the 96 words at a place are erased.
@@ -150,69 +134,63 @@ fn blank(s: &mut [u16], a: usize)
 fn readable(sectors: u16, flash: &[u16], ram: &[u16], row: u16, at: Console) -> bool
     ensures { result ≡ readable sectors flash.now ram.now row at }
 {
-    both(row_lent(sectors, flash.len(), row), ram_lent(ram.len(), at))
+    row_lent(sectors, flash.len(), row) && ram_lent(ram.len(), at)
 }
 
 // Whether a write acts: the row is empty, too.
 fn writable(sectors: u16, flash: &[u16], ram: &[u16], row: u16, at: Console) -> bool
     ensures { result ≡ writable sectors flash.now ram.now row at }
 {
-    if !readable(sectors, flash, ram, row, at) {
-        return false;
-    }
-    is_empty(flash, ROW_WORDS * row as usize)
+    readable(sectors, flash, ram, row, at) && is_empty(flash, ROW_WORDS * row as usize)
 }
 
 // A row of flash into RAM.
 pub fn read(sectors: u16, flash: &[u16], ram: &mut [u16], row: u16, at: Console)
     ensures { ram.new ≡ read_ram sectors flash.now ram.old row at }
 {
-    if !readable(sectors, flash, ram, row, at) {
-        return;
+    if readable(sectors, flash, ram, row, at) {
+        copy(
+            flash,
+            ROW_WORDS * row as usize,
+            ram,
+            at.0 as usize + RAM_SHIFT as usize,
+        );
     }
-    copy(
-        flash,
-        ROW_WORDS * row as usize,
-        ram,
-        at.0 as usize + RAM_SHIFT as usize,
-    );
 }
 
 // RAM into a row of flash that is empty.
 pub fn write(sectors: u16, flash: &mut [u16], ram: &[u16], row: u16, at: Console)
     ensures { flash.new ≡ written_flash sectors flash.old ram.now row at }
 {
-    if !writable(sectors, flash, ram, row, at) {
-        return;
+    if writable(sectors, flash, ram, row, at) {
+        copy(
+            ram,
+            at.0 as usize + RAM_SHIFT as usize,
+            flash,
+            ROW_WORDS * row as usize,
+        );
     }
-    copy(
-        ram,
-        at.0 as usize + RAM_SHIFT as usize,
-        flash,
-        ROW_WORDS * row as usize,
-    );
 }
 
 // All eight rows of a row's sector erased.
 pub fn erase(sectors: u16, flash: &mut [u16], row: u16)
     ensures { flash.new ≡ erased_flash sectors flash.old row }
 {
-    if !sector_lent(sectors, flash.len(), row) {
-        return;
+    if sector_lent(sectors, flash.len(), row) {
+        blank(flash, SECTOR_WORDS * (row as usize / SECTOR_ROWS));
     }
-    blank(flash, SECTOR_WORDS * (row as usize / SECTOR_ROWS));
 }
 
-// A command: what it leaves in flash and in RAM.
-pub fn act(sectors: u16, flash: &mut [u16], ram: &mut [u16], c: Command)
+// What a write that asks for this command, or for none, leaves in flash and in RAM.
+pub fn act(sectors: u16, flash: &mut [u16], ram: &mut [u16], c: Option<Command>)
     ensures { (flash.new ≡ (acted sectors (memories flash.old ram.old) c).flash)
         × (ram.new ≡ (acted sectors (memories flash.old ram.old) c).ram) }
 {
     match c {
-        Command::Read(row, at) => read(sectors, flash, ram, row, at),
-        Command::Write(row, at) => write(sectors, flash, ram, row, at),
-        Command::Erase(row) => erase(sectors, flash, row),
-        Command::Nothing => {}
+        Some(Command::Read(row, at)) => read(sectors, flash, ram, row, at),
+        Some(Command::Write(row, at)) => write(sectors, flash, ram, row, at),
+        Some(Command::Erase(row)) => erase(sectors, flash, row),
+        None => {}
     }
 }
 
@@ -231,10 +209,7 @@ pub fn fresh(sectors: u16) -> Saves
 fn has_flash(sectors: u16) -> bool
     ensures { result ≡ has_flash sectors }
 {
-    if sectors < 1 {
-        return false;
-    }
-    sectors as usize <= SECTOR_LIMIT
+    (1..=SECTOR_LIMIT).contains(&(sectors as usize))
 }
 
 // The last row of a flash.
@@ -245,21 +220,21 @@ fn last_row(sectors: u16) -> u16
     (SECTOR_ROWS * sectors as usize - 1) as u16
 }
 
-// What a read of a register gets.
-pub fn hear(s: Saves, at: Console) -> Heard
+// Returns the word that a read of a register gets, where it is not silent.
+pub fn hear(s: Saves, at: Console) -> Option<u16>
     ensures { result ≡ flash_heard s at }
 {
     let a = at.0;
     if !has_flash(s.sectors) {
-        return Heard::Silence;
+        return None;
     }
     if a == JF_FIRST {
-        return Heard::Word(0);
+        return Some(0);
     }
     if a == JF_LAST {
-        return Heard::Word(last_row(s.sectors));
+        return Some(last_row(s.sectors));
     }
-    Heard::Silence
+    None
 }
 
 // The registers behind a write.
@@ -271,38 +246,30 @@ pub fn remember(s: Saves, at: Console, value: u16) -> Saves
         return s;
     }
     if a == JF_ADDR {
-        return Saves {
-            sectors: s.sectors,
-            addr: value,
-            row: s.row,
-        };
+        return Saves { addr: value, ..s };
     }
     if a == JF_ROW {
-        return Saves {
-            sectors: s.sectors,
-            addr: s.addr,
-            row: value,
-        };
+        return Saves { row: value, ..s };
     }
     s
 }
 
 // The command that a write asks for, by the registers.
-pub fn asked(s: Saves, at: Console, value: u16) -> Command
+pub fn asked(s: Saves, at: Console, value: u16) -> Option<Command>
     ensures { result ≡ command_of s at value }
 {
     let a = at.0;
     if !has_flash(s.sectors) {
-        return Command::Nothing;
+        return None;
     }
-    if both(a == JF_WRCMD, value == JF_WRKEY) {
-        return Command::Write(s.row, Console(s.addr));
+    if a == JF_WRCMD && value == JF_WRKEY {
+        return Some(Command::Write(s.row, Console(s.addr)));
     }
-    if both(a == JF_RDCMD, value == JF_RDKEY) {
-        return Command::Read(s.row, Console(s.addr));
+    if a == JF_RDCMD && value == JF_RDKEY {
+        return Some(Command::Read(s.row, Console(s.addr)));
     }
-    if both(a == JF_ERCMD, value == JF_ERKEY) {
-        return Command::Erase(s.row);
+    if a == JF_ERCMD && value == JF_ERKEY {
+        return Some(Command::Erase(s.row));
     }
-    Command::Nothing
+    None
 }

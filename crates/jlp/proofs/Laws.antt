@@ -1,53 +1,57 @@
 -- One law for each return: what the code has tested and called, as the definition that it answers.
-use Prim.Native.Nat.{ℕ, zero, suc, ◌-◌, ◌*◌, ◌/◌, ◌%◌, ◌<◌, ◌≤◌}
+use Prim.Native.Nat.{ℕ, zero, suc, ◌+◌, ◌-◌, ◌*◌, ◌/◌, ◌%◌, ◌<◌, ◌≤◌}
 use mathlib.Core.Bool.{Bool, true, false, not, ◌&&◌}
 use mathlib.Core.Path.{◌≡◌, refl, sym, ◌∙◌}
 use native.Mathlib.Omega.{arith}
 use native.Mathlib.Nat.{mul-le-mul_left, le_of_lt}
-use lib.Bits.{bit_xor}
+use lib.Bits.{bit_xor, xor_lt}
+use Rattle.std.proofs.Common.{lit<}
+use Rattle.sums.specs.Laws.Crc.{bits_lt}
 use lib.Dec.{eqb, ltb}
 use lib.ListN.{set}
-use borrow.Author.Tests.{le-leb, lt-leb, eq-eqb, ne_eqb}
+use borrow.Author.Tests.{eq-eqb, ne_eqb}
 use Rattle.basics.specs.Laws.Tests.{cases, not-true, not-false, true_is_not_false, and_false, or_right, cond_true}
 use Rattle.places.specs.declared.Console.{Console}
 use Rattle.sums.specs.Crc.{crc_bits}
-use Rattle.flash.specs.declared.Heard.{Heard}
-use Rattle.flash.specs.declared.Heard.TheVariants.{Silence}
 use Rattle.flash.specs.declared.Saves.{Saves}
 use Rattle.flash.specs.Registers.{remembered}
 use Rattle.jlp.specs.declared.arith.Number.{Number}
 use Rattle.jlp.specs.declared.Jlp.{Jlp}
 use Rattle.jlp.specs.declared.Results.{Results}
-use Rattle.jlp.specs.Window.{between, in_window, in_ram, is_operand, operands_start, operands_end}
-use Rattle.jlp.specs.Arith.{word_values, long_values, number, number_of, word_of, unlike, results, product_of, multiplied, quotient_of, divided}
+use Rattle.jlp.specs.Window.{between, in_window, is_operand, operands_start, operands_end}
+use Rattle.jlp.specs.Arith.{word_values, long_values, number_of, word_of, unlike, results, product_of, multiplied, quotient_of, divided}
 use Rattle.jlp.specs.Crc.{jlp_poly, crc_word}
-use Rattle.jlp.specs.Accelerators.{with_on, turns_on, turns_off, takes, latches, function_of, computed, operated, operand_count, crc_after, with_crc_and_saves, written_on, written_jlp, register_word, heard_at}
+use Rattle.jlp.specs.Accelerators.{with_on, turns_on, turns_off, takes, function_of, computed, operated, operand_count, crc_after, with_crc_and_saves, written_on, written_jlp}
 use Rattle.jlp.specs.Laws.Values.{signs}
 use Rattle.jlp.specs.Laws.Window.{between_low, between_high}
 use Rattle.jlp.specs.Laws.Accelerators.{on_in_window, off_takes}
-
--- a word as a number
-pub number_plain : (s : Bool) (w : ℕ) → not s ≡ true → number false w ≡ number_of s w
-number_plain s w e = rw (not-true s e)
-
-pub number_low : (s : Bool) (w : ℕ) → not s ≡ false → w < 0x8000 → number false w ≡ number_of s w
-number_low s w e h = rw (not-false s e, lt-leb _ _ h)
-
-pub number_high : (s : Bool) (w : ℕ) → not s ≡ false → 0x8000 ≤ w → number true (word_values - w) ≡ number_of s w
-number_high s w e h = rw (not-false s e, le-leb _ _ h)
-
--- a number as a word
-pub word_negative : (m : ℕ) (n : Bool) (k : ℕ) → n ≡ true → (m - k) % m ≡ word_of m n k
-word_negative m n k e = rw e
 
 -- a product of two sizes has 32 bits
 pub product_fits : (a b : ℕ) → a < 0x10000 → b < 0x10000 → a * b < 0x1_0000_0000
 product_fits a b h k = omega (arith, mul-le-mul_left a (le_of_lt k))
 
-pub product_is : (a b : Number) (d : Bool) (r : ℕ) → d ≡ unlike a.negative b.negative → r ≡ word_of long_values d (a.size * b.size)
-    → r ≡ product_of a b
-unfolding product_of
-product_is a b d r e f = rw (← e) f
+-- the signs of two factors differ, or are one
+unlike_so : (x y : Bool) → (x ≡ y → ⊥) → unlike x y ≡ true
+unlike_so true true n = absurd (n refl)
+unlike_so true false n = refl
+unlike_so false true n = refl
+unlike_so false false n = absurd (n refl)
+
+unlike_not : (x y : Bool) → x ≡ y → unlike x y ≡ false
+unlike_not true true e = refl
+unlike_not true false e = e
+unlike_not false true e = sym e
+unlike_not false false e = refl
+
+module _ (a b : Number) where
+  pub product_negative : (r : ℕ) → (a.negative ≡ b.negative → ⊥) → a.size * b.size < long_values → r < long_values
+      → (r + a.size * b.size) % long_values ≡ 0 → r ≡ product_of a b
+  unfolding product_of
+  product_negative r n h k e = rw (unlike_so a.negative b.negative n) (omega arith)
+
+  pub product_positive : a.negative ≡ b.negative → a.size * b.size ≡ product_of a b
+  unfolding product_of
+  product_positive e = rw (unlike_not a.negative b.negative e)
 
 pub multiply_is : (s t : Bool) (a b p : ℕ) (x y : Number) → x ≡ number_of s a → y ≡ number_of t b → p ≡ product_of x y
     → results (p % word_values) (p / word_values) ≡ multiplied s t a b
@@ -72,10 +76,14 @@ pub divide_some : (s : Bool) (a b : ℕ) (old r : Results) (x y : Number)
 unfolding divided
 divide_some s a b old r x y h e f g = rw (ne_eqb _ _ h, ← e, ← f) g
 
--- all sixteen bits of a word have gone by
-pub word_done : (c w n x : ℕ) → n ≤ 16 → 16 ≤ n → x ≡ crc_bits jlp_poly n (bit_xor c w) → x ≡ crc_word c w
-unfolding crc_word
-word_done c w n x a b f = let e : n ≡ 16 = omega arith in rw e at f
+-- sixteen bits of the sum with the word merged in, which has sixteen bits
+module _ (c w p x r : ℕ) (e : p ≡ jlp_poly) (f : x ≡ bit_xor c w) (g : r ≡ crc_bits p 16 x) where
+  pub word_fits : c < 0x10000 → w < 0x10000 → r < 0x10000
+  word_fits h k = rw (g, e, f) (bits_lt jlp_poly 16 (lit< tt) 16 (bit_xor c w) (xor_lt 16 c w h k))
+
+  pub word_is : r ≡ crc_word c w
+  unfolding crc_word
+  word_is = rw (← e, ← f) g
 
 -- a function by its number: the four products, by which of their factors are signed, and the two quotients
 pub product_row : (n a b : ℕ) (old r : Results) → n < 4 → r ≡ multiplied (ltb n 2) (eqb (n % 2) 0) a b → r ≡ function_of n a b old
@@ -107,34 +115,25 @@ operate_is j k v r e = rw e
 
 module _ (j : Jlp) (at : Console) where
   -- a write is not in the window, or comes while on, or while off
-  pub takes_outside : (v : ℕ) (w : Bool) → w ≡ in_window at → not w ≡ true → false ≡ takes j at v
+  pub takes_outside : (v : ℕ) (w : Bool) → w ≡ in_window at → w ≡ false → false ≡ takes j at v
   unfolding takes
   takes_outside v w e n =
-      let out : in_window at ≡ false = sym e ∙ not-true w n in
+      let out : in_window at ≡ false = sym e ∙ n in
       let off : turns_on j.field at v ≡ false = not_here v out in
       rw (off, out) (sym (and_false j.on false refl))
     where
       not_here : (v : ℕ) → in_window at ≡ false → turns_on j.field at v ≡ false
       not_here v out = cases (turns_on j.field at v) (λ t. true_is_not_false (on_in_window j.field at v t) out) (λ t. t)
 
-  pub takes_on : (v : ℕ) (w : Bool) → w ≡ in_window at → not w ≡ false → j.on ≡ true → true ≡ takes j at v
+  pub takes_on : (v : ℕ) (w : Bool) → w ≡ in_window at → w ≡ true → j.on ≡ true → true ≡ takes j at v
   unfolding takes
   takes_on v w e n o =
-      let here : in_window at ≡ true = sym e ∙ not-false w n in
+      let here : in_window at ≡ true = sym e ∙ n in
       sym (or_right (turns_on j.field at v) (j.on && in_window at) (rw (o, here)))
 
   pub takes_off : (v : ℕ) (t : Bool) → j.on ≡ false → t ≡ turns_on j.field at v → t ≡ takes j at v
   unfolding takes
   takes_off v t o e = e ∙ sym (off_takes j at v o)
-
-  -- a write to a word of the RAM, and any other
-  pub latches_ram : (v : ℕ) (b : Bool) → b ≡ in_ram at → b ≡ true → false ≡ latches j at v
-  unfolding latches
-  latches_ram v b e t = rw (← e, t)
-
-  pub latches_taken : (v : ℕ) (b t : Bool) → b ≡ in_ram at → b ≡ false → t ≡ takes j at v → t ≡ latches j at v
-  unfolding latches
-  latches_taken v b t e f g = rw (← e, f) g
 
   -- while on: the word that turns off, an operand, and any other write
   pub on_off : (v : ℕ) (t : Bool) (r : Jlp) → t ≡ turns_off at v → t ≡ true → r ≡ with_on j false → r ≡ written_on j at v
@@ -164,12 +163,3 @@ module _ (j : Jlp) (at : Console) where
       → r ≡ written_jlp j at v
   unfolding written_jlp
   write_on v t r e h o f = rw (← e, h) (f ∙ sym (cond_true j.on (written_on j at v) j (not-false j.on o)))
-
-  -- a read while off, and while on
-  pub read_off : not j.on ≡ true → Silence ≡ heard_at j at
-  unfolding heard_at
-  read_off o = rw (not-true j.on o)
-
-  pub read_on : (r : Heard) → not j.on ≡ false → r ≡ register_word j at → r ≡ heard_at j at
-  unfolding heard_at
-  read_on r o f = f ∙ sym (cond_true j.on (register_word j at) Silence (not-false j.on o))

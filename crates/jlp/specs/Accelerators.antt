@@ -1,11 +1,9 @@
 -- The accelerators: on or off, and what a write, a reset and a read do (02, W-206); with them go the flash's registers (02, W-209).
-use Rattle.std.specs.Prelude.{ℕ, ◌+◌, ◌*◌, ◌/◌, ◌-◌, Bool, true, false, cond, not, ◌&&◌, ◌||◌, List, [], ◌∷◌, eqb, get_or, set, replicate}
+use Rattle.std.specs.Prelude.{ℕ, ◌+◌, ◌*◌, ◌/◌, ◌-◌, Bool, true, false, cond, not, ◌&&◌, ◌||◌, List, [], ◌∷◌, eqb, get_or, set, replicate, Option, Some, None}
 use Rattle.basics.specs.Rows.{first_of}
 use Rattle.places.specs.declared.Console.{Console}
 use Rattle.jlp.specs.declared.Results.{Results}
 use Rattle.jlp.specs.declared.Jlp.{Jlp}
-use Rattle.flash.specs.declared.Heard.{Heard}
-use Rattle.flash.specs.declared.Heard.TheVariants.{Word, Silence}
 use Rattle.flash.specs.declared.Saves.{Saves}
 use Rattle.flash.specs.Registers.{fresh_saves, flash_heard, remembered}
 use Rattle.jlp.specs.Window.{in_window, in_ram, on_at, on_word, off_at, off_word, operands_start, is_operand, first_at, second_at, data_at, crc_at}
@@ -116,12 +114,12 @@ unfoldable pub written_jlp : Jlp → Console → ℕ → Jlp
 written_jlp j at v = cond (turns_on j.field at v) (with_on j true) (cond j.on (written_on j at v) j)
 
 -- the registers that answer: the results at $9F8E and $9F8F, and the CRC at $9FFD; all others are the flash's, or silent
-unfoldable pub register_word : Jlp → Console → Heard
+unfoldable pub register_word : Jlp → Console → Option ℕ
 register_word j at =
     first_of
-    ((eqb at.0 first_at, Word j.results.first) ∷ (eqb at.0 second_at, Word j.results.second) ∷ (eqb at.0 crc_at, Word j.crc) ∷ [])
+    ((eqb at.0 first_at, Some j.results.first) ∷ (eqb at.0 second_at, Some j.results.second) ∷ (eqb at.0 crc_at, Some j.crc) ∷ [])
     (flash_heard j.saves at)
 
 -- what a read of them gets: while off, silence
-unfoldable pub heard_at : Jlp → Console → Heard
-heard_at j at = cond j.on (register_word j at) Silence
+unfoldable pub heard_at : Jlp → Console → Option ℕ
+heard_at j at = cond j.on (register_word j at) None

@@ -15,58 +15,34 @@ pub(crate) struct Number {
 fn number_of(signed: bool, w: u16) -> Number
     ensures { result ≡ number_of signed w }
 {
-    if !signed {
+    if signed && 0x8000 <= w {
         return Number {
-            negative: false,
-            size: w,
-        };
-    }
-    if w < 0x8000 {
-        return Number {
-            negative: false,
-            size: w,
+            negative: true,
+            size: w.wrapping_neg(),
         };
     }
     Number {
-        negative: true,
-        size: (0x1_0000 - w as u32) as u16,
+        negative: false,
+        size: w,
     }
 }
 
-fn unlike(a: bool, b: bool) -> bool
-    ensures { result ≡ unlike a b }
-{
-    if a { !b } else { b }
-}
-
-// A number in 16 bits, and in 32.
+// Returns a number of this sign and size in 16 bits.
 fn word16(negative: bool, size: u16) -> u16
     ensures { result ≡ word_of word_values negative size }
 {
-    if negative {
-        ((0x1_0000 - size as u32) % 0x1_0000) as u16
-    } else {
-        size
-    }
-}
-
-fn word32(negative: bool, size: u32) -> u32
-    ensures { result ≡ word_of long_values negative size }
-{
-    if negative {
-        ((0x1_0000_0000 - size as u64) % 0x1_0000_0000) as u32
-    } else {
-        size
-    }
+    if negative { size.wrapping_neg() } else { size }
 }
 
 fn product(a: Number, b: Number) -> u32
     ensures { result ≡ product_of a b }
 {
-    word32(
-        unlike(a.negative, b.negative),
-        a.size as u32 * b.size as u32,
-    )
+    let size = a.size as u32 * b.size as u32;
+    if a.negative != b.negative {
+        size.wrapping_neg()
+    } else {
+        size
+    }
 }
 
 // A product of 32 bits, each factor signed or not.
@@ -85,7 +61,7 @@ fn quotient(a: Number, b: Number) -> Results
     ensures { result ≡ quotient_of a b }
 {
     Results {
-        first: word16(unlike(a.negative, b.negative), a.size / b.size),
+        first: word16(a.negative != b.negative, a.size / b.size),
         second: word16(a.negative, a.size % b.size),
     }
 }

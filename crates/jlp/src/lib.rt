@@ -11,7 +11,7 @@ ghost use Rattle.jlp.specs.Window.{between, in_window, in_ram, is_operand, ram_l
 ghost use Rattle.jlp.specs.Accelerators.{operand_count, starts_on, fresh_jlp, with_on, reset_jlp, turns_on, turns_off, takes, latches, function_of, operated, crc_after, with_crc_and_saves, written_on, written_jlp, register_word, heard_at};
 
 pub use arith::{divide, multiply};
-use flash::{Heard, RAM_END, RAM_SHIFT, RAM_START, Saves};
+use flash::{RAM_END, RAM_SHIFT, RAM_START, Saves};
 use places::{Console, Locutus};
 pub use sum::checksum;
 
@@ -70,10 +70,7 @@ pub struct Jlp {
 fn between(low: u16, high: u16, a: u16) -> bool
     ensures { result ≡ between low high a }
 {
-    if a < low {
-        return false;
-    }
-    a <= high
+    (low..=high).contains(&a)
 }
 
 pub fn in_window(at: Console) -> bool
@@ -106,30 +103,23 @@ pub fn location(at: Console) -> Locutus
 fn starts_on(field: u8) -> bool
     ensures { result ≡ starts_on field }
 {
-    if field == 1 {
-        return true;
-    }
-    field == 3
+    field == 1 || field == 3
 }
 
 // The accelerators at load, with a flash of so many sectors.
 pub fn fresh(field: u8, sectors: u16) -> Jlp
     ensures { result ≡ fresh_jlp field sectors }
 {
-    let on = starts_on(field);
-    let operands = [0u16; OPERAND_COUNT];
-    let results = Results {
-        first: 0,
-        second: 0,
-    };
-    let saves = flash::fresh(sectors);
     Jlp {
         field,
-        on,
-        operands,
-        results,
+        on: starts_on(field),
+        operands: [0; OPERAND_COUNT],
+        results: Results {
+            first: 0,
+            second: 0,
+        },
         crc: 0,
-        saves,
+        saves: flash::fresh(sectors),
     }
 }
 
@@ -151,46 +141,28 @@ pub fn reset(j: Jlp) -> Jlp
 pub fn turns_on(field: u8, at: Console, value: u16) -> bool
     ensures { result ≡ turns_on field at value }
 {
-    if at.0 != ON_AT {
-        return false;
-    }
-    if value != ON_WORD {
-        return false;
-    }
-    field != 0
+    at.0 == ON_AT && value == ON_WORD && field != 0
 }
 
 // The word that turns them off.
 pub fn turns_off(at: Console, value: u16) -> bool
     ensures { result ≡ turns_off at value }
 {
-    if at.0 != OFF_AT {
-        return false;
-    }
-    value == OFF_WORD
+    at.0 == OFF_AT && value == OFF_WORD
 }
 
 // Whether the accelerators take a write. The address decides most.
 pub fn takes(j: Jlp, at: Console, value: u16) -> bool
     ensures { result ≡ takes j at value }
 {
-    if !in_window(at) {
-        return false;
-    }
-    if j.on {
-        return true;
-    }
-    turns_on(j.field, at, value)
+    in_window(at) && (j.on || turns_on(j.field, at, value))
 }
 
 // Whether a write goes to one of their registers: no other changes anything of them.
 pub fn latches(j: Jlp, at: Console, value: u16) -> bool
     ensures { result ≡ latches j at value }
 {
-    if in_ram(at) {
-        return false;
-    }
-    takes(j, at, value)
+    !in_ram(at) && takes(j, at, value)
 }
 
 // The functions as 000's table has them: products, S before U in each factor, then quotients, DIVSS before DIVUU. The number tells which factors are signed,
@@ -211,11 +183,7 @@ fn operate(mut j: Jlp, k: usize, value: u16) -> Jlp
 {
     let n = k / 2;
     j.operands[k] = value;
-    let a = j.operands[2 * n];
-    let b = j.operands[2 * n + 1];
-    let old = j.results;
-    let results = function_of(n, a, b, old);
-    j.results = results;
+    j.results = function_of(n, j.operands[2 * n], j.operands[2 * n + 1], j.results);
     j
 }
 
@@ -271,27 +239,24 @@ pub fn write(j: Jlp, at: Console, value: u16) -> Jlp
 }
 
 // The registers that answer.
-fn register_at(j: Jlp, at: Console) -> Heard
+fn register_at(j: Jlp, at: Console) -> Option<u16>
     ensures { result ≡ register_word j at }
 {
     if at.0 == FIRST_AT {
-        return Heard::Word(j.results.first);
+        return Some(j.results.first);
     }
     if at.0 == SECOND_AT {
-        return Heard::Word(j.results.second);
+        return Some(j.results.second);
     }
     if at.0 == CRC_AT {
-        return Heard::Word(j.crc);
+        return Some(j.crc);
     }
     flash::hear(j.saves, at)
 }
 
 // What a read of them gets.
-pub fn read(j: Jlp, at: Console) -> Heard
+pub fn read(j: Jlp, at: Console) -> Option<u16>
     ensures { result ≡ heard_at j at }
 {
-    if !j.on {
-        return Heard::Silence;
-    }
-    register_at(j, at)
+    if j.on { register_at(j, at) } else { None }
 }

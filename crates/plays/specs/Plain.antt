@@ -1,10 +1,9 @@
 -- The plain cartridge: sixteen page numbers and RAM, and how they answer the console (01, What a CFG may say).
-use Rattle.std.specs.Prelude.{ℕ, suc, ◌/◌, ◌%◌, List, ◌∷◌, [], ◌++◌, Bool, ◌&&◌, cond, eqb}
+use Rattle.std.specs.Prelude as Std
+use Rattle.std.specs.Prelude.{ℕ, suc, ◌/◌, ◌%◌, List, ◌∷◌, [], ◌++◌, Bool, ◌&&◌, cond, eqb, Some, None}
 use Rattle.std.proofs.Math.Option.{Option, none, some}
 use Rattle.places.specs.declared.Console.{Console}
 use Rattle.places.specs.Limits.{chapter_size}
-use Rattle.cart.specs.declared.Answer.{Answer}
-use Rattle.cart.specs.declared.Answer.TheVariants.{Silence, Word}
 use Rattle.cart.specs.Run.{Access, Read, Write, Reset}
 use Rattle.lines.specs.declared.Entry.{Entry}
 use Rattle.lines.specs.declared.Entry.TheVariants.{Rom, Paged, Ram}
@@ -37,11 +36,11 @@ unfoldable pub shown_line : List Line → ℕ → Console → Option Line
 shown_line lines y a = or_else (line_at lines (suc y) a.0) (line_at lines 0 a.0)
 
 -- else silence
-abbrev pub answer_by : List ℕ → (Console → ℕ) → Option Line → Console → Answer
-answer_by bin ram none a = Silence
-answer_by bin ram (some l) a = Word (word_by bin ram l.entry a)
+abbrev pub answer_by : List ℕ → (Console → ℕ) → Option Line → Console → Std.Option ℕ
+answer_by bin ram none a = None
+answer_by bin ram (some l) a = Some (word_by bin ram l.entry a)
 
-unfoldable pub plain_read : List ℕ → List Line → Plain → Console → Answer
+unfoldable pub plain_read : List ℕ → List Line → Plain → Console → Std.Option ℕ
 plain_read bin lines c a = answer_by bin c.ram (shown_line lines (c.number (a.0 / chapter_size)) a) a
 
 -- a write of $xA5y to $xFFF makes chapter x's number y
@@ -76,11 +75,11 @@ plain_step lines c (Write a v) =
 plain_step lines c Reset = record { number = λ x. 0; ram = c.ram }
 
 -- what an access answers, and a list of them
-abbrev pub plain_said : List ℕ → List Line → Plain → Access → List Answer
+abbrev pub plain_said : List ℕ → List Line → Plain → Access → List (Std.Option ℕ)
 plain_said bin lines c (Read a) = plain_read bin lines c a ∷ []
 plain_said bin lines c (Write a v) = []
 plain_said bin lines c Reset = []
 
-abbrev pub plain_answers : List ℕ → List Line → Plain → List Access → List Answer
+abbrev pub plain_answers : List ℕ → List Line → Plain → List Access → List (Std.Option ℕ)
 plain_answers bin lines c [] = []
 plain_answers bin lines c (x ∷ xs) = plain_said bin lines c x ++ plain_answers bin lines (plain_step lines c x) xs

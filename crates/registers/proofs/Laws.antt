@@ -1,51 +1,49 @@
 -- One law for each return: what the code has tested and called, as the words that it leaves.
 use Prim.Native.Nat.{ℕ, ◌-◌, ◌+◌, ◌*◌, ◌/◌, ◌<◌, ◌≤◌}
-use mathlib.Core.Bool.{Bool, true, false, not}
+use mathlib.Core.Bool.{Bool, true, false}
 use mathlib.Core.List.{List}
 use mathlib.Core.Path.{◌≡◌, refl, sym, ap, ◌∙◌}
 use native.Mathlib.Omega.{arith}
 use lib.ListN.{get_or, set}
 use borrow.Author.Tests.{ne_eqb}
-use Rattle.basics.specs.Laws.Tests.{cases, and_false, true_is_not_false, not-true, not-false}
+use Rattle.std.specs.Int.{from_bool}
+use Rattle.basics.specs.Laws.Tests.{cases, and_false, true_is_not_false}
 use Rattle.places.specs.declared.Console.{Console}
 use Rattle.flash.specs.declared.Saves.{Saves}
 use Rattle.flash.specs.Registers.{remembered}
 use Rattle.jlp.specs.declared.Jlp.{Jlp}
 use Rattle.jlp.specs.declared.Results.{Results}
 use Rattle.jlp.specs.Arith.{results}
-use Rattle.jlp.specs.Window.{in_window, in_ram, is_operand, on_at, off_at, operands_start}
+use Rattle.jlp.specs.Window.{in_window, is_operand, on_at, off_at, operands_start}
 use Rattle.jlp.specs.Laws.Window.{between_low, between_high}
-use Rattle.jlp.specs.Accelerators.{operand_count, with_on, turns_on, turns_off, takes, latches, function_of, operated, crc_after, with_crc_and_saves, written_on, written_jlp}
+use Rattle.jlp.specs.Accelerators.{operand_count, with_on, turns_on, turns_off, takes, function_of, operated, crc_after, with_crc_and_saves, written_on, written_jlp}
 use Rattle.jlp.specs.Laws.Accelerators.{on_in_window, off_takes, on_takes}
-use Rattle.registers.specs.Words.{words_of, jlp_from, operates, behind_operand}
+use Rattle.registers.specs.Words.{one_if, words_of, jlp_from, operates, behind_operand}
 use Rattle.registers.specs.Code.Tidy.{Tidy}
 use Rattle.registers.specs.Laws.Words.{turned, noted, operand_at, laid_out, from_tidied, tidy_now, behind_operand_lem, behind_other}
 
+-- a test as a word
+pub word_of_test : (b : Bool) (x : ℕ) → x ≡ from_bool b → x ≡ one_if b
+word_of_test true x e = e
+word_of_test false x e = e
+
 -- a write is not in the window, or comes while on, or while off
 module _ (w : List ℕ) (at : Console) (v : ℕ) where
-  pub takes_outside : (i : Bool) → i ≡ in_window at → not i ≡ true → false ≡ takes (jlp_from w) at v
+  pub takes_outside : (i : Bool) → i ≡ in_window at → i ≡ false → false ≡ takes (jlp_from w) at v
   unfolding takes
   takes_outside i e n =
-      let out : in_window at ≡ false = sym e ∙ not-true i n in
+      let out : in_window at ≡ false = sym e ∙ n in
       let off : turns_on (jlp_from w).field at v ≡ false =
       cases (turns_on (jlp_from w).field at v) (λ t. true_is_not_false (on_in_window (jlp_from w).field at v t) out) (λ t. t) in
       rw (off, out) (sym (and_false (jlp_from w).on false refl))
 
-  pub takes_on : (i o : Bool) → i ≡ in_window at → not i ≡ false → o ≡ (jlp_from w).on → o ≡ true → true ≡ takes (jlp_from w) at v
-  takes_on i o e n f t = sym (on_takes (jlp_from w) at v (sym f ∙ t) (sym e ∙ not-false i n))
+  pub takes_on : (i o : Bool) → i ≡ in_window at → i ≡ true → o ≡ (jlp_from w).on → o ≡ true → o ≡ takes (jlp_from w) at v
+  takes_on i o e n f t = t ∙ sym (on_takes (jlp_from w) at v (sym f ∙ t) (sym e ∙ n))
 
   pub takes_off : (o : Bool) (k : ℕ) (r : Bool) → o ≡ (jlp_from w).on → o ≡ false → k ≡ (jlp_from w).field → r ≡ turns_on k at v → r ≡ takes (jlp_from w) at v
   takes_off o k r f t g h = h ∙ ap (λ (x : ℕ). turns_on x at v) g ∙ sym (off_takes (jlp_from w) at v (sym f ∙ t))
 
 pub ruleset taken = (takes_outside, takes_on, takes_off)
-
-pub latches_ram : (w : List ℕ) (at : Console) (v : ℕ) (b : Bool) → b ≡ in_ram at → b ≡ true → false ≡ latches (jlp_from w) at v
-unfolding latches
-latches_ram w at v b e t = rw (← e, t)
-
-pub latches_taken : (w : List ℕ) (at : Console) (v : ℕ) (b r : Bool) → b ≡ in_ram at → b ≡ false → r ≡ takes (jlp_from w) at v → r ≡ latches (jlp_from w) at v
-unfolding latches
-latches_taken w at v b r e f g = rw (← e, f) g
 
 -- an operand's number
 pub operand_from : (at : Console) (b : Bool) → b ≡ is_operand at → b ≡ true → operands_start ≤ at.0
@@ -53,12 +51,6 @@ operand_from at b e t = between_low _ _ _ (sym e ∙ t)
 
 pub operand_below : (at : Console) (b : Bool) → b ≡ is_operand at → b ≡ true → at.0 - operands_start < operand_count
 operand_below at b e t = omega (arith, between_high _ _ _ (sym e ∙ t))
-
-pub operand_from_not : (at : Console) (b : Bool) → b ≡ is_operand at → not b ≡ false → operands_start ≤ at.0
-operand_from_not at b e n = operand_from at b e (not-false b n)
-
-pub operand_below_not : (at : Console) (b : Bool) → b ≡ is_operand at → not b ≡ false → at.0 - operands_start < operand_count
-operand_below_not at b e n = operand_below at b e (not-false b n)
 
 module _ (w : List ℕ) (t : Tidy w) where
   -- an operand that is stored, with its function's results
@@ -120,11 +112,11 @@ module _ (w₀ w : List ℕ) (e : w ≡ words_of (jlp_from w₀)) (at : Console)
   write_turns t = tidied_too _ (turned w (tidy_now w₀ w e) true ∙ ap words_of (sym (by_turning (jlp_from w) at v (sym turns ∙ t))))
 
   module _ (o : Bool) (k : o ≡ (jlp_from w).on) (t : b ≡ false) where
-    pub write_off : not o ≡ true → w ≡ words_of (written_jlp (jlp_from w₀) at v)
-    write_off n = tidied_too _ (tidy_now w₀ w e ∙ ap words_of (sym (by_off (jlp_from w) at v (sym turns ∙ t) (sym k ∙ not-true o n))))
+    pub write_off : o ≡ false → w ≡ words_of (written_jlp (jlp_from w₀) at v)
+    write_off n = tidied_too _ (tidy_now w₀ w e ∙ ap words_of (sym (by_off (jlp_from w) at v (sym turns ∙ t) (sym k ∙ n))))
 
-    pub write_on : (x : List ℕ) → not o ≡ false → x ≡ words_of (written_on (jlp_from w) at v) → x ≡ words_of (written_jlp (jlp_from w₀) at v)
-    write_on x n p = tidied_too x (p ∙ ap words_of (sym (by_on (jlp_from w) at v (sym turns ∙ t) (sym k ∙ not-false o n))))
+    pub write_on : (x : List ℕ) → o ≡ true → x ≡ words_of (written_on (jlp_from w) at v) → x ≡ words_of (written_jlp (jlp_from w₀) at v)
+    write_on x n p = tidied_too x (p ∙ ap words_of (sym (by_on (jlp_from w) at v (sym turns ∙ t) (sym k ∙ n))))
 
 -- an operand's address is none of the words that turn on and off
 module _ (at : Console) (h : is_operand at ≡ true) where
@@ -146,21 +138,21 @@ module _ (w : List ℕ) (at : Console) (v : ℕ) where
   stays e = (sym e, sym (behind_other w at v e))
 
   module _ (o : Bool) (k : o ≡ (jlp_from w).on) where
-    pub operates_off : not o ≡ true → (false ≡ operates (jlp_from w) at) × (w ≡ behind_operand w at v)
+    pub operates_off : o ≡ false → (false ≡ operates (jlp_from w) at) × (w ≡ behind_operand w at v)
     unfolding operates
-    operates_off n = stays (rw (← k, not-true o n))
+    operates_off n = stays (rw (← k, n))
 
-    module _ (n : not o ≡ false) (b : Bool) (g : b ≡ is_operand at) where
-      pub operates_not : not b ≡ true → (false ≡ operates (jlp_from w) at) × (w ≡ behind_operand w at v)
+    module _ (n : o ≡ true) (b : Bool) (g : b ≡ is_operand at) where
+      pub operates_not : b ≡ false → (false ≡ operates (jlp_from w) at) × (w ≡ behind_operand w at v)
       unfolding operates
-      operates_not m = stays (rw (← k, not-false o n, ← g, not-true b m))
+      operates_not m = stays (rw (← k, n, ← g, m))
 
-      pub operates_so : not b ≡ false → (x y : List ℕ) → x ≡ words_of (jlp_from w) → y ≡ words_of (operated (jlp_from x) (at.0 - operands_start) v)
+      pub operates_so : b ≡ true → (x y : List ℕ) → x ≡ words_of (jlp_from w) → y ≡ words_of (operated (jlp_from x) (at.0 - operands_start) v)
           → (true ≡ operates (jlp_from w) at) × (y ≡ behind_operand w at v)
       unfolding operates
       operates_so m x y e f =
-          let i : is_operand at ≡ true = sym g ∙ not-false b m in
-          let h : operates (jlp_from w) at ≡ true = rw (← k, not-false o n, i) in
+          let i : is_operand at ≡ true = sym g ∙ m in
+          let h : operates (jlp_from w) at ≡ true = rw (← k, n, i) in
           let l : y ≡ words_of (written_jlp (jlp_from w) at v) =
-          f ∙ ap words_of (ap (λ (j : Jlp). operated j (at.0 - operands_start) v) (from_tidied w x e) ∙ sym (operand_written at i (jlp_from w) v (sym k ∙ not-false o n))) in
+          f ∙ ap words_of (ap (λ (j : Jlp). operated j (at.0 - operands_start) v) (from_tidied w x e) ∙ sym (operand_written at i (jlp_from w) v (sym k ∙ n))) in
           (sym h, l ∙ sym (behind_operand_lem w at v h))

@@ -5,37 +5,25 @@
 ghost use Rattle.std.specs.Prelude.{◌<◌, ◌≡◌, length};
 ghost use Rattle.jlp.specs.Accelerators.{operand_count, takes, latches, operated, with_crc_and_saves, crc_after, written_on, written_jlp};
 ghost use Rattle.flash.specs.Registers.{remembered};
-ghost use Rattle.registers.specs.Words.{accelerator_words, one_if, words_of, jlp_from, operates, behind_operand};
+ghost use Rattle.registers.specs.Words.{accelerator_words, words_of, jlp_from, operates, behind_operand};
 ghost use Rattle.registers.specs.Code.Tidy.{Tidy};
 
 use flash::Saves;
 use jlp::{Jlp, Results};
 use places::Console;
+use std::array;
 
 // As many words hold the accelerators: the JLP field, 1 for on, the operands, the two results, the CRC; the flash's sectors, address and row.
 pub const ACCELERATOR_WORDS: usize = 20;
-
-fn one_if(b: bool) -> u16
-    ensures { result ≡ one_if b }
-{
-    if b {
-        return 1;
-    }
-    0
-}
 
 // The accelerators, laid out.
 pub fn words_of(j: Jlp) -> [u16; ACCELERATOR_WORDS]
     ensures { result ≡ words_of j }
 {
     let o = j.operands;
-    let results = j.results;
-    let saves = j.saves;
-    let field = j.field as u16;
-    let on = one_if(j.on);
     [
-        field,
-        on,
+        u16::from(j.field),
+        u16::from(j.on),
         o[0],
         o[1],
         o[2],
@@ -48,12 +36,12 @@ pub fn words_of(j: Jlp) -> [u16; ACCELERATOR_WORDS]
         o[9],
         o[10],
         o[11],
-        results.first,
-        results.second,
+        j.results.first,
+        j.results.second,
         j.crc,
-        saves.sectors,
-        saves.addr,
-        saves.row,
+        j.saves.sectors,
+        j.saves.addr,
+        j.saves.row,
     ]
 }
 
@@ -61,25 +49,13 @@ pub fn words_of(j: Jlp) -> [u16; ACCELERATOR_WORDS]
 pub fn jlp_from(w: &[u16; ACCELERATOR_WORDS]) -> Jlp
     ensures { result ≡ jlp_from w.now }
 {
-    let operands = [
-        w[2], w[3], w[4], w[5], w[6], w[7], w[8], w[9], w[10], w[11], w[12], w[13],
-    ];
-    let results = Results {
-        first: w[14],
-        second: w[15],
-    };
-    let saves = Saves {
-        sectors: w[17],
-        addr: w[18],
-        row: w[19],
-    };
     Jlp {
-        field: (w[0] % 256) as u8,
-        on: w[1] != 0,
-        operands,
-        results,
+        field: field_of(w),
+        on: is_on(w),
+        operands: array::from_fn(|i| w[2 + i]),
+        results: results_of(w),
         crc: w[16],
-        saves,
+        saves: saves_of(w),
     }
 }
 
@@ -93,6 +69,15 @@ pub fn is_on(w: &[u16; ACCELERATOR_WORDS]) -> bool
     ensures { result ≡ (jlp_from w.now).on }
 {
     w[1] != 0
+}
+
+fn results_of(w: &[u16; ACCELERATOR_WORDS]) -> Results
+    ensures { result ≡ (jlp_from w.now).results }
+{
+    Results {
+        first: w[14],
+        second: w[15],
+    }
 }
 
 // The registers of the flash among them.
@@ -110,40 +95,22 @@ pub fn saves_of(w: &[u16; ACCELERATOR_WORDS]) -> Saves
 fn takes(w: &[u16; ACCELERATOR_WORDS], at: Console, value: u16) -> bool
     ensures { result ≡ takes (jlp_from w.now) at value }
 {
-    if !jlp::in_window(at) {
-        return false;
-    }
-    if is_on(w) {
-        return true;
-    }
-    jlp::turns_on(field_of(w), at, value)
+    jlp::in_window(at) && (is_on(w) || jlp::turns_on(field_of(w), at, value))
 }
 
 // Whether a write goes to one of their registers.
 pub fn latches(w: &[u16; ACCELERATOR_WORDS], at: Console, value: u16) -> bool
     ensures { result ≡ latches (jlp_from w.now) at value }
 {
-    if jlp::in_ram(at) {
-        return false;
-    }
-    takes(w, at, value)
+    !jlp::in_ram(at) && takes(w, at, value)
 }
 
-// The field a byte, on 0 or 1.
-fn tidy_words(w: &mut [u16])
-    requires { length w.old ≡ accelerator_words }
-    ensures { w.new ≡ words_of (jlp_from w.old) }
-{
-    let on = one_if(w[1] != 0);
-    w[0] = w[0] % 256;
-    w[1] = on;
-}
-
-// Any words, as the accelerators that they are lay them out.
+// Any words, as the accelerators that they are lay them out: the field a byte, on 0 or 1.
 pub fn tidy(w: &mut [u16; ACCELERATOR_WORDS])
     ensures { w.new ≡ words_of (jlp_from w.old) }
 {
-    tidy_words(w);
+    w[0] %= 256;
+    w[1] = u16::from(w[1] != 0);
 }
 
 // Operand k is written, and its own function computes.
@@ -151,13 +118,9 @@ fn operate(w: &mut [u16; ACCELERATOR_WORDS], k: usize, value: u16)
     requires { (k < operand_count) × Tidy w.old }
     ensures { w.new ≡ words_of (operated (jlp_from w.old) k value) }
 {
-    let old = Results {
-        first: w[14],
-        second: w[15],
-    };
     let n = k / 2;
     w[2 + k] = value;
-    let r = jlp::function_of(n, w[2 + 2 * n], w[2 + (2 * n + 1)], old);
+    let r = jlp::function_of(n, w[2 + 2 * n], w[2 + (2 * n + 1)], results_of(w));
     w[14] = r.first;
     w[15] = r.second;
 }
@@ -166,15 +129,12 @@ fn operate(w: &mut [u16; ACCELERATOR_WORDS], k: usize, value: u16)
 pub fn operates(w: &mut [u16; ACCELERATOR_WORDS], at: Console, value: u16) -> bool
     ensures { (result ≡ operates (jlp_from w.old) at) × (w.new ≡ behind_operand w.old at value) }
 {
-    if !is_on(w) {
-        return false;
+    if is_on(w) && jlp::is_operand(at) {
+        tidy(w);
+        operate(w, (at.0 - jlp::OPERANDS_START) as usize, value);
+        return true;
     }
-    if !jlp::is_operand(at) {
-        return false;
-    }
-    tidy(w);
-    operate(w, (at.0 - jlp::OPERANDS_START) as usize, value);
-    true
+    false
 }
 
 // The CRC and the registers of the flash behind a write.
@@ -183,8 +143,7 @@ fn remember(w: &mut [u16; ACCELERATOR_WORDS], at: Console, value: u16)
     ensures { w.new ≡ words_of (with_crc_and_saves (jlp_from w.old) (crc_after (jlp_from w.old).crc at value) (remembered (jlp_from w.old).saves at value)) }
 {
     let s = flash::remember(saves_of(w), at, value);
-    let crc = jlp::crc_after(w[16], at, value);
-    w[16] = crc;
+    w[16] = jlp::crc_after(w[16], at, value);
     w[17] = s.sectors;
     w[18] = s.addr;
     w[19] = s.row;
@@ -215,8 +174,7 @@ pub fn write(w: &mut [u16; ACCELERATOR_WORDS], at: Console, value: u16)
         w[1] = 1;
         return;
     }
-    if !is_on(w) {
-        return;
+    if is_on(w) {
+        write_on(w, at, value);
     }
-    write_on(w, at, value);
 }

@@ -1,5 +1,5 @@
 // Accesses on the machine, each answer beside the one in the record.
-use cart::{Answer, Cartridge};
+use cart::Cartridge;
 use cases::record::{after, get8, get16};
 use places::Console;
 
@@ -12,10 +12,10 @@ pub struct Played {
 }
 
 // Whether a read's answer is the record's: a word that is heard, or silence.
-fn is_answer(answer: Answer, value: u16, heard: usize) -> bool {
+fn is_answer(answer: Option<u16>, value: u16, heard: usize) -> bool {
     match answer {
-        Answer::Word(w) => basics::both(heard == 1, w == value),
-        Answer::Silence => basics::both(heard == 0, value == 0),
+        Some(w) => heard == 1 && w == value,
+        None => heard == 0 && value == 0,
     }
 }
 

@@ -1,12 +1,11 @@
 -- Runs of accesses (02, W-214): one by one, in two goes, and under a higher limit; and how many lines are run.
-use Rattle.std.specs.Prelude.{ℕ, suc, ◌+◌, ◌-◌, ◌≤◌, min, ◌≡◌, refl, length, take, drop}
+use Rattle.std.specs.Prelude.{ℕ, suc, ◌+◌, ◌-◌, ◌≤◌, min, ◌≡◌, refl, length, take, drop, Option}
 use mathlib.Core.List.{List, [], ◌∷◌, ◌++◌, map, map-append, append_assoc, append-nil, foldl}
 use Rattle.std.proofs.Common.{sym, ap, ◌∙◌, arith, length-take, take-add, ltb-false}
 use Rattle.basics.specs.Rows.{Silent, also}
 use Rattle.basics.specs.Refusals.{no_refusal, passes}
 use Rattle.basics.specs.Laws.Rows.{silent_first}
 use Rattle.basics.specs.Laws.Tests.{cases}
-use Rattle.cart.specs.declared.Answer.{Answer}
 use Rattle.cart.specs.Cartridges.{read_of, written_of, write_flash_of, write_ram_of, reset_of}
 use Rattle.cart.specs.Run.{World, Access, Read, Write, Reset, step, after, answers}
 use Rattle.text.specs.Lines.{lines_of}
@@ -33,7 +32,7 @@ answers_append w (Reset ∷ xs) ys = answers_append (step w Reset) xs ys
 -- a cartridge with its memories, and the answers so far; one access more, by what the cartridge's read, write and reset promise
 pub record Bench : Type 0 where
   pub world : World
-  pub heard : List Answer
+  pub heard : List (Option ℕ)
 
 abbrev pub makes : Bench → Access → Bench
 makes b (Read a) = record { world = b.world; heard = b.heard ++ (read_of b.world.cartridge b.world.ram a ∷ []) }
@@ -46,12 +45,12 @@ makes b (Write a v) =
     }
 makes b Reset = record { world = world (reset_of b.world.cartridge) b.world.flash b.world.ram; heard = b.heard }
 
-from : (w : World) (before : List Answer) (xs : List Access)
+from : (w : World) (before : List (Option ℕ)) (xs : List Access)
     → foldl makes (record { world = w; heard = before }) xs ≡ record { world = after w xs; heard = before ++ answers w xs }
 from w before [] = rw (append-nil before)
 from w before (Read a ∷ xs) =
     from w (before ++ (read_of w.cartridge w.ram a ∷ [])) xs
-    ∙ ap (λ (h : List Answer). record { world = after w xs; heard = h }) (append_assoc before (read_of w.cartridge w.ram a ∷ []) (answers w xs))
+    ∙ ap (λ (h : List (Option ℕ)). record { world = after w xs; heard = h }) (append_assoc before (read_of w.cartridge w.ram a ∷ []) (answers w xs))
 from w before (Write a v ∷ xs) = from (step w (Write a v)) before xs
 from w before (Reset ∷ xs) = from (step w Reset) before xs
 

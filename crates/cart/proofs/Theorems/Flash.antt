@@ -1,13 +1,12 @@
 -- The flash over the cartridge (02, W-209): an access leaves of it what the command leaves that it asks for while the accelerators are on, so no
 -- other access changes it; and any list of accesses answers as it would over a plain list of rows, with the same rows behind it.
-use Rattle.std.specs.Prelude.{◌≡◌, ℕ, ◌≤◌, Bool, true, false, cond, List, [], ◌∷◌, ◌++◌}
+use Rattle.std.specs.Prelude.{◌≡◌, ℕ, ◌≤◌, Bool, true, false, cond, List, [], ◌∷◌, ◌++◌, Option, None}
 use Rattle.std.proofs.Math.Path.{refl}
 use Rattle.std.proofs.Common.{sym, ap, ◌∙◌, arith}
 use Rattle.basics.specs.Laws.Tests.{cases, true_is_not_false}
 use Rattle.places.specs.declared.Console.{Console}
 use Rattle.switches.specs.Flips.{Active}
 use Rattle.flash.specs.declared.Command.{Command}
-use Rattle.flash.specs.declared.Command.TheVariants as Commands
 use Rattle.flash.specs.declared.Saves.{Saves}
 use Rattle.flash.specs.Flash.{Memories, memories, acted, ram_start}
 use Rattle.flash.specs.Registers.{command_of}
@@ -20,7 +19,6 @@ use Rattle.jlp.specs.Window.{in_window, in_ram, is_operand, window_start, window
 use Rattle.jlp.specs.Accelerators.{turns_on, turns_off, takes, written_on, written_jlp}
 use Rattle.jlp.specs.Laws.Window.{between_low, between_out}
 use Rattle.jlp.specs.Laws.Accelerators.{off_takes, on_takes, turns_on_exactly}
-use Rattle.cart.specs.declared.Answer.{Answer}
 use Rattle.cart.specs.declared.Cartridge.{Cartridge}
 use Rattle.cart.specs.declared.Taker.{Taker}
 use Rattle.cart.specs.declared.Taker.TheVariants.{Accelerators, Bank, Flip, Ram}
@@ -32,43 +30,43 @@ use Rattle.cart.specs.PlainRun.{PlainWorld, plain_by, plain_step, plain_said, pl
 use Rattle.cart.proofs.Theorems.Jlp.{mapped_by_tables, tables_flash}
 
 -- the command that an access asks for: a write, while the accelerators are on
-abbrev pub command_by : World → Access → Command
-command_by w (Read a) = Commands.Nothing
-command_by w (Write a v) = cond w.cartridge.jlp.on (command_of w.cartridge.jlp.saves a v) Commands.Nothing
-command_by w Reset = Commands.Nothing
+abbrev pub command_by : World → Access → Option Command
+command_by w (Read a) = None
+command_by w (Write a v) = cond w.cartridge.jlp.on (command_of w.cartridge.jlp.saves a v) None
+command_by w Reset = None
 
 -- outside of the window and in the RAM no write asks for one, nor does the word that turns on
 module _ (s : Saves) (at : Console) (v : ℕ) where
-  outside_asks_nothing : in_window at ≡ false → command_of s at v ≡ Commands.Nothing
+  outside_asks_nothing : in_window at ≡ false → command_of s at v ≡ None
   outside_asks_nothing out =
       others_ask_nothing s at v (λ q. here (omega arith) (omega arith)) (λ q. here (omega arith) (omega arith)) (λ q. here (omega arith) (omega arith))
     where
       here : window_start ≤ at.0 → at.0 ≤ window_end → ⊥
       here = between_out window_start window_end at.0 out
 
-  ram_asks_nothing : in_ram at ≡ true → command_of s at v ≡ Commands.Nothing
+  ram_asks_nothing : in_ram at ≡ true → command_of s at v ≡ None
   ram_asks_nothing e =
       let low : ram_start ≤ at.0 = between_low _ _ _ e in
       others_ask_nothing s at v (λ q. omega arith) (λ q. omega arith) (λ q. omega arith)
 
-  on_asks_nothing : at.0 ≡ on_at → command_of s at v ≡ Commands.Nothing
+  on_asks_nothing : at.0 ≡ on_at → command_of s at v ≡ None
   on_asks_nothing e = others_ask_nothing s at v (λ q. omega arith) (λ q. omega arith) (λ q. omega arith)
 
 -- what a write leaves of the flash, by its taker, is what its command leaves
 module _ (j : Jlp) (m : Memories) (at : Console) (v : ℕ) where
-  abbrev asked : Command
-  asked = cond j.on (command_of j.saves at v) Commands.Nothing
+  abbrev asked : Option Command
+  asked = cond j.on (command_of j.saves at v) None
 
-  abbrev by_command : Command → List ℕ
+  abbrev by_command : Option Command → List ℕ
   by_command c = (acted j.saves.sectors m c).flash
 
   abbrev by_taker : Taker → List ℕ
   by_taker t = (memories_by t j.saves m at v).flash
 
-  asks_nothing : command_of j.saves at v ≡ Commands.Nothing → asked ≡ Commands.Nothing
+  asks_nothing : command_of j.saves at v ≡ None → asked ≡ None
   asks_nothing e = by j.on
     where
-      by : (b : Bool) → cond b (command_of j.saves at v) Commands.Nothing ≡ Commands.Nothing
+      by : (b : Bool) → cond b (command_of j.saves at v) None ≡ None
       by true = e
       by false = refl
 
@@ -81,9 +79,9 @@ module _ (j : Jlp) (m : Memories) (at : Console) (v : ℕ) where
 
       same : command_of j.saves at v ≡ asked
       same =
-          cases j.on (λ o. ap (λ (b : Bool). cond b (command_of j.saves at v) Commands.Nothing) (sym o))
+          cases j.on (λ o. ap (λ (b : Bool). cond b (command_of j.saves at v) None) (sym o))
           (λ o.
-          let e : command_of j.saves at v ≡ Commands.Nothing =
+          let e : command_of j.saves at v ≡ None =
           on_asks_nothing j.saves at v ((turns_on_exactly j.field at v).0 (sym (off_takes j at v o) ∙ t)).0 in
           e ∙ sym (asks_nothing e))
 
@@ -91,13 +89,13 @@ module _ (j : Jlp) (m : Memories) (at : Console) (v : ℕ) where
       at_register e = ap (λ (b : Bool). by_taker (cond b (Ram (window_cell at)) Accelerators)) e ∙ ap by_command same
 
   -- not taken: while on, the write is outside of the window
-  untaken_asks_nothing : takes j at v ≡ false → asked ≡ Commands.Nothing
+  untaken_asks_nothing : takes j at v ≡ false → asked ≡ None
   untaken_asks_nothing n =
       cases j.on
       (λ o.
       asks_nothing
       (outside_asks_nothing j.saves at v (cases (in_window at) (λ i. true_is_not_false (on_takes j at v o i) n) (λ i. i))))
-      (λ o. ap (λ (b : Bool). cond b (command_of j.saves at v) Commands.Nothing) o)
+      (λ o. ap (λ (b : Bool). cond b (command_of j.saves at v) None) o)
 
   pub write_flash : (a : Active) (flips : List ℕ) → by_taker (taker_of j a flips at v) ≡ by_command asked
   write_flash a flips =
@@ -109,7 +107,7 @@ module _ (j : Jlp) (m : Memories) (at : Console) (v : ℕ) where
 
 -- so does every access; one that asks for no command leaves the flash, and so does every one while off
 module _ (w : World) where
-  abbrev behind : Command → List ℕ
+  abbrev behind : Option Command → List ℕ
   behind c = (acted w.cartridge.jlp.saves.sectors (memories w.flash w.ram) c).flash
 
   pub flash_by_command : (x : Access) → (step w x).flash ≡ behind (command_by w x)
@@ -119,15 +117,15 @@ module _ (w : World) where
       write_flash w.cartridge.jlp (memories w.flash w.ram) a v (active_of w.cartridge) w.cartridge.flips
   flash_by_command Reset = refl
 
-  pub only_commands : (x : Access) → command_by w x ≡ Commands.Nothing → (step w x).flash ≡ w.flash
+  pub only_commands : (x : Access) → command_by w x ≡ None → (step w x).flash ≡ w.flash
   only_commands x e = flash_by_command x ∙ ap behind e
 
   pub off_keeps_flash : (x : Access) → w.cartridge.jlp.on ≡ false → (step w x).flash ≡ w.flash
   off_keeps_flash x off = only_commands x (none x)
     where
-      none : (x : Access) → command_by w x ≡ Commands.Nothing
+      none : (x : Access) → command_by w x ≡ None
       none (Read a) = refl
-      none (Write a v) = ap (λ (b : Bool). cond b (command_of w.cartridge.jlp.saves a v) Commands.Nothing) off
+      none (Write a v) = ap (λ (b : Bool). cond b (command_of w.cartridge.jlp.saves a v) None) off
       none Reset = refl
 
 -- no write changes the size of the flash
@@ -179,8 +177,8 @@ said_shown w Reset = refl
 pub answers_shown : (w : World) (xs : List Access) → answers w xs ≡ plain_answers (shown_world w) xs
 answers_shown w [] = refl
 answers_shown w (x ∷ xs) =
-    ap (λ (l : List Answer). said w x ++ l) (answers_shown (step w x) xs ∙ ap (λ (p : PlainWorld). plain_answers p xs) (step_shown w x))
-    ∙ ap (λ (l : List Answer). l ++ plain_answers (plain_step (shown_world w) x) xs) (said_shown w x)
+    ap (λ (l : List (Option ℕ)). said w x ++ l) (answers_shown (step w x) xs ∙ ap (λ (p : PlainWorld). plain_answers p xs) (step_shown w x))
+    ∙ ap (λ (l : List (Option ℕ)). l ++ plain_answers (plain_step (shown_world w) x) xs) (said_shown w x)
 
 pub after_shown : (w : World) (xs : List Access) → shown_world (after w xs) ≡ plain_after (shown_world w) xs
 after_shown w [] = refl

@@ -1,13 +1,13 @@
 -- `cart::fetch` meets its contract: the cell is shut, or past the words lent, or open.
 use Rattle.std.proofs.Common.{rules}
-use Rattle.cart.specs.Laws.Reads.{fetches}
+use Rattle.basics.specs.Laws.Tests.{tests}
+use Rattle.cart.specs.Reads.{fetched}
 use Rattle.cart.proofs.fetch.Goals as goal
 
-pub returns-then-not-cell : goal.returns-then-not-cell
-returns-then-not-cell c = search (rules, fetches)
+pub returns-then-i-lent_words : goal.returns-then-i-lent_words
+unfolding fetched
+returns-then-i-lent_words c = search (rules, tests)
 
-pub returns-then-lent_words-i : goal.returns-then-lent_words-i
-returns-then-lent_words-i c = search (rules, fetches)
-
-pub returns : goal.returns
-returns c = search (rules, fetches)
+pub returns-else-cell : goal.returns-else-cell
+unfolding fetched
+returns-else-cell c = search (rules, tests)

@@ -1,5 +1,5 @@
 -- Laws of reads: a cell as the code comes to it, and what a read gets by the source that the code has found.
-use Rattle.std.specs.Prelude.{◌≡◌, ℕ, ◌<◌, ◌≤◌, Bool, true, false, not, ◌&&◌, List, slice_index}
+use Rattle.std.specs.Prelude.{◌≡◌, ℕ, ◌<◌, ◌≤◌, Bool, true, false, not, ◌&&◌, List, slice_index, Option, Some, None}
 use Rattle.std.proofs.Common.{sym, ◌∙◌}
 use borrow.Author.Tests.{lt-ltb, le-ltb, not-true, not-false}
 use Rattle.basics.specs.Laws.Tests.{and_true, cond_true}
@@ -7,8 +7,6 @@ use Rattle.places.specs.declared.Console.{Console}
 use Rattle.places.specs.declared.Locutus.{Locutus}
 use Rattle.places.specs.Limits.{lent}
 use Rattle.switches.specs.Flips.{Active}
-use Rattle.flash.specs.declared.Heard.{Heard}
-use Rattle.flash.specs.declared.Heard.TheVariants as Hears
 use Rattle.jlp.specs.declared.Jlp.{Jlp}
 use Rattle.jlp.specs.Window.{in_window, in_ram, ram_location}
 use Rattle.jlp.specs.Accelerators.{heard_at}
@@ -16,23 +14,21 @@ use Rattle.cart.specs.declared.Rights.{Rights}
 use Rattle.cart.specs.declared.Cell.{Cell}
 use Rattle.cart.specs.declared.Source.{Source}
 use Rattle.cart.specs.declared.Source.TheVariants.{Nobody, Latched, Ram}
-use Rattle.cart.specs.declared.Answer.{Answer}
-use Rattle.cart.specs.declared.Answer.TheVariants.{Word, Silence}
 use Rattle.cart.specs.Cells.{cell_at, window_cell}
 use Rattle.cart.specs.Reads.{silent, fetched, register_source, window_source, mapped_source, source_of, given_by, read_by}
 
 -- shut by its rights; past the n words that are lent; open
 module _ (c : Cell) (ram : List ℕ) where
-  pub fetch_shut : not c.rights.read ≡ true → Silence ≡ fetched c ram
+  pub fetch_shut : not c.rights.read ≡ true → None ≡ fetched c ram
   unfolding fetched
   fetch_shut r = rw (not-true c.rights.read r)
 
   module _ (n : ℕ) (h : n ≡ lent ram) (r : not c.rights.read ≡ false) where
-    pub fetch_past : n ≤ c.location.0 → Silence ≡ fetched c ram
+    pub fetch_past : n ≤ c.location.0 → None ≡ fetched c ram
     unfolding fetched
     fetch_past l = rw (not-false c.rights.read r, ← h, le-ltb _ _ l)
 
-    pub fetch_open : c.location.0 < n → Word (slice_index ram c.location.0) ≡ fetched c ram
+    pub fetch_open : c.location.0 < n → Some (slice_index ram c.location.0) ≡ fetched c ram
     unfolding fetched
     fetch_open l = rw (not-false c.rights.read r, ← h, lt-ltb _ _ l)
 
@@ -43,7 +39,7 @@ pub window_is : (at : Console) (l : Locutus) (r : Rights) → l ≡ ram_location
     → record { location = l; rights = r } ≡ window_cell at
 window_is at l r e f = rw (e, f)
 
-pub register_word_lem : (h : Heard) (w : ℕ) → h ≡ Hears.Word w → Latched w ≡ register_source h
+pub register_word_lem : (h : Option ℕ) (w : ℕ) → h ≡ Some w → Latched w ≡ register_source h
 register_word_lem h w e = rw e
 
 -- the word of JLP RAM, or a register, by the code's test of the address
@@ -51,7 +47,7 @@ module _ (j : Jlp) (at : Console) (b : Bool) (e : b ≡ in_ram at) where
   pub window_ram : (c : Cell) → b ≡ true → c ≡ window_cell at → Ram c ≡ window_source j at
   window_ram c t h = rw (← e, t, h)
 
-  pub window_register : (h : Heard) (s : Source) → b ≡ false → h ≡ heard_at j at → s ≡ register_source h → s ≡ window_source j at
+  pub window_register : (h : Option ℕ) (s : Source) → b ≡ false → h ≡ heard_at j at → s ≡ register_source h → s ≡ window_source j at
   window_register h s t f g = rw (← e, t, ← f) g
 
 -- by the tables: a silent range, and any other address
@@ -80,6 +76,6 @@ module _ (j : Jlp) (a : Active) (at : Console) (s : Source) where
 pub ruleset sources = (source_off, source_outside, source_inside)
 
 -- one law for every source w
-pub by_source : (j : Jlp) (a : Active) (at : Console) (s w : Source) → s ≡ source_of j a at → s ≡ w → (ram : List ℕ) (r : Answer) → r ≡ given_by w ram → r ≡ read_by j a ram at
+pub by_source : (j : Jlp) (a : Active) (at : Console) (s w : Source) → s ≡ source_of j a at → s ≡ w → (ram : List ℕ) (r : Option ℕ) → r ≡ given_by w ram → r ≡ read_by j a ram at
 unfolding read_by
 by_source j a at s w h e ram r g = rw (← h, e, g)

@@ -17,8 +17,6 @@ use Rattle.flash.specs.Flash.{memories}
 use Rattle.jlp.specs.Window.{in_window}
 use Rattle.jlp.specs.Accelerators.{turns_on, takes}
 use Rattle.jlp.specs.Laws.Accelerators.{not_taken}
-use Rattle.cart.specs.declared.Answer.{Answer}
-use Rattle.cart.specs.declared.Answer.TheVariants.{Word}
 use Rattle.cart.specs.declared.Cartridge.{Cartridge}
 use Rattle.cart.specs.declared.Cell.{Cell}
 use Rattle.cart.specs.declared.Taker.{Taker}
@@ -78,7 +76,7 @@ module _ (k : Cell) (ram : List ℕ) (v : ℕ) where
   still_lies : lies k.location (set ram k.location.0 word) ≡ lies k.location ram
   still_lies = rw (length-set ram k.location.0 word)
 
-  kept_word : k.rights.read ≡ true → k.rights.write ≡ true → lies k.location ram ≡ true → fetched k (stored k ram v) ≡ Word word
+  kept_word : k.rights.read ≡ true → k.rights.write ≡ true → lies k.location ram ≡ true → fetched k (stored k ram v) ≡ Some word
   unfolding fetched stored
   kept_word r w l =
       let b : k.location.0 < length ram = omega (arith, ltb-true k.location.0 (lent ram) l) in
@@ -127,25 +125,25 @@ module _ (c : Cartridge) (at : Console) (v : ℕ) where
     read_after ram = rw (not_taken c.jlp at v untaken, tables_stay, t, q)
 
     read_back : (flash ram : List ℕ) → READ (permission c (paragraph at)) ≡ true → WRITE (permission c (paragraph at)) ≡ true → lies cell.location ram ≡ true
-        → read_of (write_of c at v) (write_ram_of c flash ram at v) at ≡ Word (stored_word cell.rights.narrow (get_or ram cell.location.0 0) v)
+        → read_of (write_of c at v) (write_ram_of c flash ram at v) at ≡ Some (stored_word cell.rights.narrow (get_or ram cell.location.0 0) v)
     read_back flash ram r w l = ap (λ (m : List ℕ). read_of (write_of c at v) m at) (word_stored flash ram) ∙ read_after (stored cell ram v) ∙ kept_word cell ram v r w l
 
 -- what RAM 16 gives back, and RAM 8 beside the old high bits; the RAM's place is lent
 module _ (c : Cartridge) (flash ram : List ℕ) (at : Console) (v : ℕ) (there : lies (cell_at (active_of c) at).location ram ≡ true)
     (off : turns_on c.jlp.field at v ≡ false) where
-  abbrev back : Answer
+  abbrev back : Option ℕ
   back = read_of (write_of c at v) (write_ram_of c flash ram at v) at
 
   abbrev old : ℕ
   old = get_or ram (cell_at (active_of c) at).location.0 0
 
   given : Plain c (paragraph at) → READ (permission c (paragraph at)) ≡ true → WRITE (permission c (paragraph at)) ≡ true
-      → back ≡ Word (stored_word (NARROW (permission c (paragraph at))) old v)
+      → back ≡ Some (stored_word (NARROW (permission c (paragraph at))) old v)
   given k r w =
       read_back c at v (silent_at c at false k.loud) (theirs_at c at false k.free) k.unpaged off flash ram r w there
 
-  pub ram_16_keeps : shown_at c (paragraph at) ≡ Ram16 → back ≡ Word v
-  ram_16_keeps e = let h = said c (paragraph at) Ram16 e in given h.0 h.1 h.2 ∙ ap (λ (b : Bool). Word (stored_word b old v)) h.3
+  pub ram_16_keeps : shown_at c (paragraph at) ≡ Ram16 → back ≡ Some v
+  ram_16_keeps e = let h = said c (paragraph at) Ram16 e in given h.0 h.1 h.2 ∙ ap (λ (b : Bool). Some (stored_word b old v)) h.3
 
-  pub ram_8_keeps : shown_at c (paragraph at) ≡ Ram8 → back ≡ Word (old / 256 * 256 + v % 256)
-  ram_8_keeps e = let h = said c (paragraph at) Ram8 e in given h.0 h.1 h.2 ∙ ap (λ (b : Bool). Word (stored_word b old v)) h.3
+  pub ram_8_keeps : shown_at c (paragraph at) ≡ Ram8 → back ≡ Some (old / 256 * 256 + v % 256)
+  ram_8_keeps e = let h = said c (paragraph at) Ram8 e in given h.0 h.1 h.2 ∙ ap (λ (b : Bool). Some (stored_word b old v)) h.3

@@ -14,7 +14,6 @@ use Rattle.jlp.specs.Window.{in_window, on_at}
 use Rattle.jlp.specs.Accelerators.{turns_on, takes}
 use Rattle.jlp.specs.Laws.Window.{between_below}
 use Rattle.jlp.specs.Laws.Accelerators.{turns_on_exactly}
-use Rattle.cart.specs.declared.Answer.TheVariants.{Silence}
 use Rattle.cart.specs.declared.Cartridge.{Cartridge}
 use Rattle.cart.specs.declared.Taker.{Taker}
 use Rattle.cart.specs.declared.Taker.TheVariants.{Ram}
@@ -32,16 +31,16 @@ use Rattle.chart.specs.Laws.Whole.{silent_outside}
 
 -- a read anywhere in a silent paragraph gets silence, whatever the RAM
 module _ (c : Cartridge) (ram : List ℕ) (at : Console) where
-  in_range : silent at ≡ true → read_of c ram at ≡ Silence
+  in_range : silent at ≡ true → read_of c ram at ≡ None
   unfolding read_by
   in_range q = rw (and_false c.jlp.on (in_window at) (silent_outside at q), q)
 
-  unread : (c.jlp.on && in_window at) ≡ false → READ (permission c (paragraph at)) ≡ false → read_of c ram at ≡ Silence
+  unread : (c.jlp.on && in_window at) ≡ false → READ (permission c (paragraph at)) ≡ false → read_of c ram at ≡ None
   unfolding read_by
   unread t r =
       cases (silent at) (λ q. in_range q) (λ q. rw (t, q) (sym (fetch_shut (cell_at (active_of c) at) ram (rw r))))
 
-  pub silent_reads : shown_at c (paragraph at) ≡ Silent → read_of c ram at ≡ Silence
+  pub silent_reads : shown_at c (paragraph at) ≡ Silent → read_of c ram at ≡ None
   silent_reads e =
       ⊎_elim (λ q. in_range (silent_at c at true q)) (λ h. unread (theirs_at c at false h.0.free) h.1) (said c (paragraph at) Silent e)
 

@@ -1,5 +1,5 @@
 -- What one console access does, proved.
-use Rattle.std.specs.Prelude.{ℕ, ◌+◌, ◌*◌, ◌-◌, ◌/◌, ◌%◌, ◌<◌, ◌≤◌, List, Bool, true, false, cond, not, ◌&&◌, ◌||◌, ◌↔◌, ◌⊎◌, ◌≡◌, refl, eqb, ltb, leb, length, Some, None}
+use Rattle.std.specs.Prelude.{ℕ, ◌+◌, ◌*◌, ◌-◌, ◌/◌, ◌%◌, ◌<◌, ◌≤◌, List, Bool, true, false, cond, not, ◌&&◌, ◌||◌, ◌↔◌, ◌⊎◌, ◌≡◌, refl, eqb, ltb, leb, length, Some, None, Option}
 use Rattle.std.specs.Prelude.{get_or, set}
 use Rattle.std.proofs.Common.{inl, inr, sym, ap, ◌∙◌, arith, get_or-set_same}
 use Rattle.std.proofs.Math.Seq.{get_or-set_other}
@@ -13,11 +13,8 @@ use Rattle.switches.specs.Flips.{Active, asks, PFE, acts, first_k, flip_mapping,
 use Rattle.switches.specs.Banks.{half_page_paragraphs, register_at, banked}
 use Rattle.switches.specs.Laws.Flips.{turned_in, turned_out}
 use Rattle.switches.specs.Laws.Banks.{switched_in, switched_out, register_low}
-use Rattle.cart.specs.declared.Answer.{Answer}
-use Rattle.cart.specs.declared.Answer.TheVariants.{Word, Silence}
-use Rattle.flash.specs.declared.Heard.{Heard}
+use Rattle.flash.specs.declared.Command.{Command}
 use Rattle.flash.specs.Flash.{ram_start, ram_end, sector_limit, memories}
-use Rattle.flash.specs.declared.Command.TheVariants as Commands
 use Rattle.flash.specs.Registers.{jf_first, jf_last, jf_wrcmd, jf_rdcmd, jf_ercmd, has_flash, flash_heard, command_of}
 use Rattle.jlp.specs.Window.{between, in_window, in_ram, window_start, window_end, first_at, second_at, crc_at}
 use Rattle.jlp.specs.Accelerators.{register_word, heard_at, turns_on, takes, written_jlp}
@@ -49,10 +46,10 @@ free_test c at free =
 pub have_test : (c : Cartridge) (at : Console) → Accelerated c at → c.jlp.on && in_window at ≡ true
 have_test c at h = and_true c.jlp.on (in_window at) h.0 (between_in window_start window_end at.0 h.1.0 h.1.1)
 
-word_is : (x w : ℕ) → Word x ≡ Word w → x ≡ w
+word_is : (x w : ℕ) → Some x ≡ Some w → x ≡ w
 word_is x w e = cc
 
-no_word : {A : Type 0} (w : ℕ) → Silence ≡ Word w → A
+no_word : {A : Type 0} (w : ℕ) → None ≡ Some w → A
 no_word w e = let z : ◌≡◌ {A = ℕ} 0 1 = cc in absurd (omega arith)
 
 -- by the tables: the tests of a silent range and of a cell that answers
@@ -77,17 +74,17 @@ module _ (c : Cartridge) (ram : List ℕ) (at : Console) (w : ℕ) (free : Accel
   abbrev there : Bool
   there = lies (cell_at (active_of c) at).location ram
 
-  loud : read_of c ram at ≡ Word w → silent at ≡ false
+  loud : read_of c ram at ≡ Some w → silent at ≡ false
   loud e =
       cases (silent at)
-      (λ s. let q : given_by (mapped_source (active_of c) at) ram ≡ Silence = rw s in no_word w (sym q ∙ sym mapped ∙ e)) (λ s. s)
+      (λ s. let q : given_by (mapped_source (active_of c) at) ram ≡ None = rw s in no_word w (sym q ∙ sym mapped ∙ e)) (λ s. s)
 
-  hears_there : read_of c ram at ≡ Word w → Hears c ram at w
+  hears_there : read_of c ram at ≡ Some w → Hears c ram at w
   unfolding silent fetched
   hears_there e =
       let s : low at || one at || three at ≡ false = loud e in
       let q : given_by (mapped_source (active_of c) at) ram ≡ fetched (cell_at (active_of c) at) ram = rw s in
-      let f : fetched (cell_at (active_of c) at) ram ≡ Word w = sym q ∙ sym mapped ∙ e in
+      let f : fetched (cell_at (active_of c) at) ram ≡ Some w = sym q ∙ sym mapped ∙ e in
       cases (readable && there)
       (λ t.
       record {
@@ -100,14 +97,14 @@ module _ (c : Cartridge) (ram : List ℕ) (at : Console) (w : ℕ) (free : Accel
       })
       (λ t. no_word w (rw t at f))
 
-  hears_back : Hears c ram at w → read_of c ram at ≡ Word w
+  hears_back : Hears c ram at w → read_of c ram at ≡ Some w
   unfolding silent fetched
   hears_back h =
       let s : low at || one at || three at ≡ false = rw (le-ltb _ _ h.above, ne_eqb _ _ h.not_1, ne_eqb _ _ h.not_3) in
       let t : readable && there ≡ true = rw (eq-eqb _ _ h.read, lt-ltb _ _ h.lent_there) in
       mapped ∙ rw (s, t, h.holds)
 
-  pub hears : (read_of c ram at ≡ Word w) ↔ Hears c ram at w
+  pub hears : (read_of c ram at ≡ Some w) ↔ Hears c ram at w
   hears = (hears_there, hears_back)
 
 -- by the accelerators
@@ -127,10 +124,10 @@ module _ (c : Cartridge) (ram : List ℕ) (at : Console) (w : ℕ) (have : Accel
   unfolding heard_at
   in_registers i = windowed ∙ rw (i, have.0)
 
-  ram_there : in_ram at ≡ true → read_of c ram at ≡ Word w → HearsRam ram at w
+  ram_there : in_ram at ≡ true → read_of c ram at ≡ Some w → HearsRam ram at w
   unfolding fetched
   ram_there i e =
-      let f : fetched (window_cell at) ram ≡ Word w = sym (from_ram i) ∙ e in
+      let f : fetched (window_cell at) ram ≡ Some w = sym (from_ram i) ∙ e in
       cases (lies (window_cell at).location ram)
       (λ t.
       record {
@@ -141,14 +138,14 @@ module _ (c : Cartridge) (ram : List ℕ) (at : Console) (w : ℕ) (have : Accel
       })
       (λ t. no_word w (rw t at f))
 
-  ram_back : HearsRam ram at w → read_of c ram at ≡ Word w
+  ram_back : HearsRam ram at w → read_of c ram at ≡ Some w
   unfolding fetched
   ram_back h = from_ram (between_in _ _ _ h.from h.to) ∙ rw (lt-ltb _ _ h.lent_there, h.holds)
 
-  abbrev heard : Heard → Answer
+  abbrev heard : Option ℕ → Option ℕ
   heard h = given_by (register_source h) ram
 
-  row_there : heard (flash_heard c.jlp.saves at) ≡ Word w → HearsRow c at w
+  row_there : heard (flash_heard c.jlp.saves at) ≡ Some w → HearsRow c at w
   unfolding flash_heard has_flash
   row_there e =
       let n : ℕ = c.jlp.saves.sectors in
@@ -164,7 +161,7 @@ module _ (c : Cartridge) (ram : List ℕ) (at : Console) (w : ℕ) (have : Accel
       })
       (λ t. no_word w (rw t at e))
 
-  register_there : heard (register_word c.jlp at) ≡ Word w → HearsRegister c at w
+  register_there : heard (register_word c.jlp at) ≡ Some w → HearsRegister c at w
   unfolding register_word
   register_there e =
       cases (eqb at.0 first_at) (λ a. inl (eqb-true _ _ a, sym (word_is _ w (rw a at e))))
@@ -174,14 +171,14 @@ module _ (c : Cartridge) (ram : List ℕ) (at : Console) (w : ℕ) (have : Accel
       cases (eqb at.0 crc_at) (λ d. inr (inr (inl (eqb-true _ _ d, sym (word_is _ w (rw (a, b, d) at e))))))
       (λ d. inr (inr (inr (row_there (rw (a, b, d) at e)))))))
 
-  row_back : HearsRow c at w → read_of c ram at ≡ Word w
+  row_back : HearsRow c at w → read_of c ram at ≡ Some w
   unfolding register_word flash_heard has_flash
   row_back h = by h.row
     where
       n : ℕ
       n = c.jlp.saves.sectors
 
-      by : ((at.0 ≡ 0x8023) × (w ≡ 0)) ⊎ ((at.0 ≡ 0x8024) × (w ≡ 8 * c.jlp.saves.sectors - 1)) → read_of c ram at ≡ Word w
+      by : ((at.0 ≡ 0x8023) × (w ≡ 0)) ⊎ ((at.0 ≡ 0x8024) × (w ≡ 8 * c.jlp.saves.sectors - 1)) → read_of c ram at ≡ Some w
       by (inl r) =
           in_registers (between_below ram_start ram_end at.0 (omega (arith, r.0)))
           ∙ rw (
@@ -206,7 +203,7 @@ module _ (c : Cartridge) (ram : List ℕ) (at : Console) (w : ℕ) (have : Accel
             r.1,
           )
 
-  register_back : HearsRegister c at w → read_of c ram at ≡ Word w
+  register_back : HearsRegister c at w → read_of c ram at ≡ Some w
   unfolding register_word
   register_back (inl r) =
       in_registers (between_above ram_start ram_end at.0 (omega (arith, r.0))) ∙ rw (eq-eqb _ _ r.0, r.1)
@@ -223,13 +220,13 @@ module _ (c : Cartridge) (ram : List ℕ) (at : Console) (w : ℕ) (have : Accel
       )
   register_back (inr (inr (inr h))) = row_back h
 
-  pub hears_on : (read_of c ram at ≡ Word w) ↔ (HearsRam ram at w ⊎ HearsRegister c at w)
+  pub hears_on : (read_of c ram at ≡ Some w) ↔ (HearsRam ram at w ⊎ HearsRegister c at w)
   hears_on = (there_on, back_on)
     where
-      there_on : read_of c ram at ≡ Word w → HearsRam ram at w ⊎ HearsRegister c at w
+      there_on : read_of c ram at ≡ Some w → HearsRam ram at w ⊎ HearsRegister c at w
       there_on e = cases (in_ram at) (λ i. inl (ram_there i e)) (λ i. inr (register_there (sym (in_registers i) ∙ e)))
 
-      back_on : HearsRam ram at w ⊎ HearsRegister c at w → read_of c ram at ≡ Word w
+      back_on : HearsRam ram at w ⊎ HearsRegister c at w → read_of c ram at ≡ Some w
       back_on (inl h) = ram_back h
       back_on (inr h) = register_back h
 
@@ -506,7 +503,7 @@ module _ (w : World) (at : Console) (v : ℕ) where
           beside i d false = refl
 
   -- to a register
-  no_command : (at.0 < 0x802D) ⊎ (0x802F < at.0) → command_of c.jlp.saves at v ≡ Commands.Nothing
+  no_command : (at.0 < 0x802D) ⊎ (0x802F < at.0) → command_of c.jlp.saves at v ≡ None
   unfolding command_of
   no_command d =
       rw (
@@ -520,7 +517,7 @@ module _ (w : World) (at : Console) (v : ℕ) where
       apart (inl l) x h k e = omega arith
       apart (inr l) x h k e = omega arith
 
-      either_way : (b : Bool) → cond (not b) Commands.Nothing Commands.Nothing ≡ Commands.Nothing
+      either_way : (b : Bool) → ◌≡◌ {A = Option Command} (cond (not b) None None) None
       either_way true = refl
       either_way false = refl
 

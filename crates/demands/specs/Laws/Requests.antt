@@ -1,5 +1,5 @@
 -- The values of the requests' records.
-use Rattle.std.specs.Prelude.{ℕ, zero, suc, ◌+◌, ◌*◌, ◌-◌, ◌/◌, ◌%◌, ◌<◌, ◌≤◌, List, [], ◌∷◌, Bool, true, false, cond, not, ◌&&◌, ◌⊎◌, ◌≡◌, refl, eqb, length}
+use Rattle.std.specs.Prelude.{ℕ, zero, suc, ◌+◌, ◌*◌, ◌-◌, ◌/◌, ◌%◌, ◌<◌, ◌≤◌, List, [], ◌∷◌, Bool, true, false, cond, not, ◌&&◌, ◌⊎◌, ◌≡◌, refl, eqb, length, Some, None, Option}
 use Rattle.std.specs.Prelude.{get_or, set, replicate}
 use Rattle.std.proofs.Common.{inl, inr, sym, ap, ◌∙◌, arith}
 use borrow.Author.Tests.{eq-eqb, ne_eqb, eqb-true, eqb-false}
@@ -9,7 +9,8 @@ use Rattle.basics.specs.Laws.Tests.{cases, and_left, and_right, true_is_not_fals
 use Rattle.places.specs.declared.Console.{Console}
 use Rattle.places.specs.Places.{console}
 use Rattle.switches.specs.Banks.{BANKSW}
-use Rattle.flash.specs.declared.Command.TheVariants.{Read, Write, Erase, Nothing}
+use Rattle.flash.specs.declared.Command.{Command}
+use Rattle.flash.specs.declared.Command.TheVariants.{Read, Write, Erase}
 use Rattle.flash.specs.declared.Saves.{Saves}
 use Rattle.flash.specs.Flash.{Memories, acted, written_flash}
 use Rattle.flash.specs.Registers.{command_of, has_flash}
@@ -242,7 +243,7 @@ w206 =
 
 -- the keys of the three commands
 no_key : (s : Saves) (at : Console) (v : ℕ) → ((at.0 ≡ 0x802D) × (v ≡ 0xC0DE) → ⊥) → ((at.0 ≡ 0x802E) × (v ≡ 0xDEC0) → ⊥)
-    → ((at.0 ≡ 0x802F) × (v ≡ 0xBEEF) → ⊥) → command_of s at v ≡ Nothing
+    → ((at.0 ≡ 0x802F) × (v ≡ 0xBEEF) → ⊥) → command_of s at v ≡ None
 unfolding command_of
 no_key s at v a b c =
     rw (neither at.0 0x802D v 0xC0DE a, neither at.0 0x802E v 0xDEC0 b, neither at.0 0x802F v 0xBEEF c) (either_way (has_flash s.sectors))
@@ -252,12 +253,12 @@ no_key s at v a b c =
         cases (eqb x y && eqb v w)
         (λ t. absurd (n (eqb-true _ _ (and_left (eqb x y) (eqb v w) t), eqb-true _ _ (and_right (eqb x y) (eqb v w) t)))) (λ t. t)
 
-    either_way : (b : Bool) → cond (not b) Nothing Nothing ≡ Nothing
+    either_way : (b : Bool) → ◌≡◌ {A = Option Command} (cond (not b) None None) None
     either_way true = refl
     either_way false = refl
 
 row_out : (sectors : ℕ) (m : Memories) (row : ℕ) → (8 * sectors ≤ row) ⊎ (length m.flash < 96 * row + 96)
-    → ((at : Console) → acted sectors m (Read row at) ≡ m) × ((at : Console) → acted sectors m (Write row at) ≡ m) × (acted sectors m (Erase row) ≡ m)
+    → ((at : Console) → acted sectors m (Some (Read row at)) ≡ m) × ((at : Console) → acted sectors m (Some (Write row at)) ≡ m) × (acted sectors m (Some (Erase row)) ≡ m)
 row_out sectors m row (inl h) = Changes.row_past_range sectors m row h
 row_out sectors m row (inr h) = Changes.row_past_flash sectors m row h
 

@@ -1,5 +1,5 @@
 -- The short ways are the cartridge's own: what they hear and leave is what its reads and writes do, whatever else is lent.
-use Rattle.std.specs.Prelude.{ℕ, ◌/◌, ◌%◌, List, ◌≡◌, refl, Bool, true, false, not, ◌&&◌, eqb, None}
+use Rattle.std.specs.Prelude.{ℕ, ◌/◌, ◌%◌, List, ◌≡◌, refl, Bool, true, false, not, ◌&&◌, eqb, Some, None}
 use Rattle.std.proofs.Common.{sym, ap, subst, ◌∙◌, arith}
 use borrow.Author.Tests.{ne_eqb, eqb-false}
 use Rattle.basics.specs.Laws.Tests.{cases, and_left, and_right, and_false, or_false_left, or_false_right, true_is_not_false}
@@ -18,15 +18,18 @@ use Rattle.cart.specs.Cells.{cell_at, window_cell}
 use Rattle.cart.specs.Reads.{silent, heard, read_by}
 use Rattle.cart.specs.Writes.{stored, taker_of, leaves, leaves_ram, leaves_flash, assigned, leaves_readable}
 use Rattle.cart.specs.Laws.Writes.{by_mapping, by_permissions, by_ram, by_flash, by_readable, by_assigned}
-use Rattle.direct.specs.Direct.{read_reach, asks_more, write_reach, asked, hears, is_done, keeps}
+use Rattle.direct.specs.Direct.{read_reach, asks_more, write_reach, hears, is_done, keeps}
 
 -- a read that asks nobody hears what the cartridge's read gets
-pub read_direct : (j : Jlp) (a : Active) (at : Console) (ram : List ℕ) (n : ℕ) → n ≡ hears (read_reach j.on a at) ram → (n ≡ asked → ⊥) → n ≡ heard (read_by j a ram at)
+pub read_direct : (j : Jlp) (a : Active) (at : Console) (ram : List ℕ) (n : ℕ) → Some n ≡ hears (read_reach j.on a at) ram → n ≡ heard (read_by j a ram at)
 unfolding read_by
-read_direct j a at ram n e l =
+read_direct j a at ram n e =
     cases (j.on && in_window at)
-    (λ w. cases (in_ram at) (λ r. e ∙ rw (w, r)) (λ r. absurd (l (e ∙ rw (w, r)))))
-    (λ w. cases (silent at) (λ s. e ∙ rw (w, s)) (λ s. e ∙ rw (w, s)))
+    (λ w. cases (in_ram at) (λ r. one (e ∙ rw (w, r))) (λ r. let z : Some n ≡ None = e ∙ rw (w, r) in let y : ◌≡◌ {A = ℕ} 0 1 = cc in absurd (omega arith)))
+    (λ w. cases (silent at) (λ s. one (e ∙ rw (w, s))) (λ s. one (e ∙ rw (w, s))))
+  where
+    one : Some n ≡ Some (heard (read_by j a ram at)) → n ≡ heard (read_by j a ram at)
+    one p = cc
 
 -- at any other address than those that ask more no register is written, no page asked for, and the accelerators are not turned on
 module _ (at : Console) (m : asks_more at ≡ false) where

@@ -1,16 +1,13 @@
--- `direct::asks_more` meets its contract: each return has decided the tests of `asks_more`.
+-- `direct::asks_more` meets its contract: its tests are those of `asks_more`.
+use Rattle.std.proofs.Common.{rules}
 use Rattle.basics.specs.Laws.Tests.{tests}
 use Rattle.direct.specs.Direct.{asks_more}
 use Rattle.direct.proofs.asks_more.Goals as goal
 
-pub returns-then-a-eq2 : goal.returns-then-a-eq2
-unfolding asks_more
-returns-then-a-eq2 c = search tests
-
 pub returns-then-a-eq4095 : goal.returns-then-a-eq4095
 unfolding asks_more
-returns-then-a-eq4095 c = search tests
+returns-then-a-eq4095 c = search (rules, tests)
 
-pub returns : goal.returns
+pub returns-else-a-eq4095 : goal.returns-else-a-eq4095
 unfolding asks_more
-returns c = search tests
+returns-else-a-eq4095 c = search (rules, tests)

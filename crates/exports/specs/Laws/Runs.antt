@@ -1,5 +1,5 @@
 -- One access more, after a run of them.
-use Rattle.std.specs.Prelude.{ℕ, ◌+◌, List, ◌∷◌, [], Bool, true, false, ◌≡◌, set, get_or}
+use Rattle.std.specs.Prelude.{ℕ, ◌+◌, List, ◌∷◌, [], Bool, true, false, ◌≡◌, set, get_or, Option, Some}
 use Rattle.std.proofs.Math.Path.{refl}
 use Rattle.std.proofs.Common.{sym, ap, subst, ◌∙◌, add-one}
 use native.Mathlib.Omega.{arith}
@@ -9,7 +9,6 @@ use Rattle.places.specs.declared.Console.{Console}
 use Rattle.switches.specs.Flips.{Active, active}
 use Rattle.jlp.specs.declared.Jlp.{Jlp}
 use Rattle.jlp.specs.Accelerators.{written_jlp}
-use Rattle.cart.specs.declared.Answer.{Answer}
 use Rattle.cart.specs.declared.Cartridge.{Cartridge}
 use Rattle.cart.specs.Reads.{heard, read_by}
 use Rattle.cart.specs.Writes.{leaves, leaves_ram, leaves_flash, assigned, leaves_readable}
@@ -20,12 +19,12 @@ use Rattle.cart.specs.Laws.Run.{after_append}
 use Rattle.registers.specs.Words.{words_of, jlp_from}
 use Rattle.registers.specs.Code.Tidy.{Tidy}
 use Rattle.registers.specs.Laws.Words.{from_tidied, written_again}
-use Rattle.direct.specs.Direct.{asked, hears, read_reach, is_done, keeps, write_reach}
+use Rattle.direct.specs.Direct.{hears, read_reach, is_done, keeps, write_reach}
 use Rattle.direct.proofs.Theorems.Direct.{read_direct, Left, stored_left, asked_left}
 use Rattle.exports.specs.Runs.{answered, address, carried, written, writes, assigned_at, numbered}
 
-pub heard_direct : (j : Jlp) (a : Active) (at : Console) (ram : List ℕ) (o : Bool) (n : ℕ) → o ≡ j.on → n ≡ hears (read_reach o a at) ram → (n ≡ asked → ⊥) → n ≡ heard (read_by j a ram at)
-heard_direct j a at ram o n p e l = read_direct j a at ram n (e ∙ ap (λ (x : Bool). hears (read_reach x a at) ram) p) l
+pub heard_direct : (j : Jlp) (a : Active) (at : Console) (ram : List ℕ) (o : Bool) (h : Option ℕ) (n : ℕ) → o ≡ j.on → h ≡ hears (read_reach o a at) ram → h ≡ Some n → n ≡ heard (read_by j a ram at)
+heard_direct j a at ram o h n p e f = read_direct j a at ram n (sym f ∙ e ∙ ap (λ (x : Bool). hears (read_reach x a at) ram) p)
 
 -- words that were made tidy are the accelerators that they were
 pub left_from : (w₀ w₁ : List ℕ) (a : Active) (flips : List ℕ) (at : Console) (v kept : ℕ) (flash ram : List ℕ) (n q : ℕ) (x y u z f : List ℕ) → w₁ ≡ words_of (jlp_from w₀)
@@ -48,7 +47,7 @@ module _ (j : Jlp) (mapping permissions ram at out : List ℕ) where
       rw z at (laid_more 0 (λ n. heard (read_by j (active mapping permissions) ram (address at n))) out i t x e f)
 
   pub answered_one :
-      (t : List ℕ) (i : ℕ) (a : Answer) (x : ℕ)
+      (t : List ℕ) (i : ℕ) (a : Option ℕ) (x : ℕ)
       → t ≡ answered j mapping permissions ram at i out
       → a ≡ read_by j (active mapping permissions) ram (address at i)
       → x ≡ heard a
@@ -57,14 +56,14 @@ module _ (j : Jlp) (mapping permissions ram at out : List ℕ) where
 
   -- by the short way, with the flag that the accelerators are on
   pub answered_direct :
-      (t : List ℕ) (i x n : ℕ) (o : Bool)
+      (t : List ℕ) (i x n : ℕ) (o : Bool) (h : Option ℕ)
       → t ≡ answered j mapping permissions ram at i out
       → o ≡ j.on
-      → n ≡ hears (read_reach o (active mapping permissions) (address at i)) ram
-      → (n ≡ asked → ⊥)
+      → h ≡ hears (read_reach o (active mapping permissions) (address at i)) ram
+      → h ≡ Some n
       → x ≡ n
       → set t i x ≡ answered j mapping permissions ram at (i + 1) out
-  answered_direct t i x n o e p f g h = answered_heard t i x e (h ∙ heard_direct j (active mapping permissions) (address at i) ram o n p f g)
+  answered_direct t i x n o h e p f g k = answered_heard t i x e (k ∙ heard_direct j (active mapping permissions) (address at i) ram o h n p f g)
 
 -- lent tables, the number that goes with them, accelerators, RAM and flash that are a world's
 pub record Lent (w : World) (mapping permissions flips : List ℕ) (readable : ℕ) (j : Jlp) (ram flash : List ℕ) : Type 0 where

@@ -1,19 +1,25 @@
--- `flash::asked` meets its contract: each return has its law.
-use borrow.Author.Rules.{rules}
-use Rattle.flash.proofs.Laws.{asking}
+-- `flash::asked` meets its contract: each return has decided the tests of `command_of`.
+use Rattle.std.proofs.Common.{rules}
+use Rattle.basics.specs.Laws.Tests.{tests}
+use Rattle.flash.specs.Registers.{command_of}
 use Rattle.flash.proofs.asked.Goals as goal
 
 pub returns-then-not-has_flash : goal.returns-then-not-has_flash
-returns-then-not-has_flash c = search (rules, asking)
+unfolding command_of
+returns-then-not-has_flash c = search (rules, tests)
 
-pub returns-then-both : goal.returns-then-both
-returns-then-both c = search (rules, asking)
+pub returns-then-value-eq-JF_WRKEY : goal.returns-then-value-eq-JF_WRKEY
+unfolding command_of
+returns-then-value-eq-JF_WRKEY c = search (rules, tests)
 
-pub returns-then-both-2 : goal.returns-then-both-2
-returns-then-both-2 c = search (rules, asking)
+pub returns-then-value-eq-JF_RDKEY : goal.returns-then-value-eq-JF_RDKEY
+unfolding command_of
+returns-then-value-eq-JF_RDKEY c = search (rules, tests)
 
-pub returns-then-both-3 : goal.returns-then-both-3
-returns-then-both-3 c = search (rules, asking)
+pub returns-then-value-eq-JF_ERKEY : goal.returns-then-value-eq-JF_ERKEY
+unfolding command_of
+returns-then-value-eq-JF_ERKEY c = search (rules, tests)
 
 pub returns : goal.returns
-returns c = search (rules, asking)
+unfolding command_of
+returns c = search (rules, tests)

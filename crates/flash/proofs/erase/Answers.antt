@@ -1,13 +1,16 @@
--- `flash::erase` meets its contract: each return has its law.
-use Rattle.flash.proofs.Laws.{fits, erase_dropped, erase_done}
-use borrow.Author.Rules.{rules}
+-- `flash::erase` meets its contract: a sector that is erased, and one that is not.
+use Rattle.std.proofs.Common.{rules}
+use Rattle.flash.specs.Flash.{erased_flash}
+use Rattle.flash.proofs.Laws.{fits}
 use Rattle.flash.proofs.erase.Goals as goal
-
-pub returns-then-not-sector_lent : goal.returns-then-not-sector_lent
-returns-then-not-sector_lent c = search erase_dropped
 
 pub blank-requires : goal.blank-requires
 blank-requires c = search (rules, fits)
 
-pub returns : goal.returns
-returns c = search erase_done
+pub returns-then-sector_lent : goal.returns-then-sector_lent
+unfolding erased_flash
+returns-then-sector_lent c = search rules
+
+pub returns-else-sector_lent : goal.returns-else-sector_lent
+unfolding erased_flash
+returns-else-sector_lent c = search rules

@@ -1,13 +1,16 @@
--- `flash::read` meets its contract: each return has its law.
-use borrow.Author.Rules.{rules}
-use Rattle.flash.proofs.Laws.{fits, read_dropped, read_done}
+-- `flash::read` meets its contract: a row that is read, and one that is not.
+use Rattle.std.proofs.Common.{rules}
+use Rattle.flash.specs.Flash.{read_ram}
+use Rattle.flash.proofs.Laws.{fits}
 use Rattle.flash.proofs.read.Goals as goal
-
-pub returns-then-not-readable : goal.returns-then-not-readable
-returns-then-not-readable c = search (rules, read_dropped)
 
 pub copy-requires : goal.copy-requires
 copy-requires c = search (rules, fits)
 
-pub returns : goal.returns
-returns c = search (rules, read_done)
+pub returns-then-readable : goal.returns-then-readable
+unfolding read_ram
+returns-then-readable c = search rules
+
+pub returns-else-readable : goal.returns-else-readable
+unfolding read_ram
+returns-else-readable c = search rules

@@ -1,7 +1,13 @@
 -- `flash::readable` meets its contract: its two tests are those of `readable`.
-use borrow.Author.Rules.{rules}
-use Rattle.flash.proofs.Laws.{both_lent}
+use Rattle.std.proofs.Common.{rules}
+use Rattle.basics.specs.Laws.Tests.{tests}
+use Rattle.flash.specs.Flash.{readable}
 use Rattle.flash.proofs.readable.Goals as goal
 
-pub returns : goal.returns
-returns c = search (rules, both_lent)
+pub returns-then-row_lent : goal.returns-then-row_lent
+unfolding readable
+returns-then-row_lent c = search (rules, tests)
+
+pub returns-else-row_lent : goal.returns-else-row_lent
+unfolding readable
+returns-else-row_lent c = search (rules, tests)

@@ -1,7 +1,13 @@
 -- `flash::sector_lent` meets its contract: its two tests are those of `sector_lent`.
-use borrow.Author.Rules.{rules}
-use Rattle.flash.proofs.Laws.{sector_tested}
+use Rattle.std.proofs.Common.{rules}
+use Rattle.basics.specs.Laws.Tests.{tests}
+use Rattle.flash.specs.Flash.{sector_lent}
 use Rattle.flash.proofs.sector_lent.Goals as goal
 
-pub returns : goal.returns
-returns c = search (rules, sector_tested)
+pub returns-then-in_range : goal.returns-then-in_range
+unfolding sector_lent
+returns-then-in_range c = search (rules, tests)
+
+pub returns-else-in_range : goal.returns-else-in_range
+unfolding sector_lent
+returns-else-in_range c = search (rules, tests)

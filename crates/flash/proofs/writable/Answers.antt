@@ -1,13 +1,16 @@
--- `flash::writable` meets its contract: each return has its law.
-use borrow.Author.Rules.{rules}
-use Rattle.flash.proofs.Laws.{fits, not_lent, lent_and_empty}
+-- `flash::writable` meets its contract: its two tests are those of `writable`.
+use Rattle.std.proofs.Common.{rules}
+use Rattle.flash.specs.Flash.{writable}
+use Rattle.flash.proofs.Laws.{fits}
 use Rattle.flash.proofs.writable.Goals as goal
-
-pub returns-then-not-readable : goal.returns-then-not-readable
-returns-then-not-readable c = search (rules, not_lent)
 
 pub is_empty-requires : goal.is_empty-requires
 is_empty-requires c = search (rules, fits)
 
-pub returns : goal.returns
-returns c = search (rules, lent_and_empty)
+pub returns-then-readable : goal.returns-then-readable
+unfolding writable
+returns-then-readable c = search rules
+
+pub returns-else-readable : goal.returns-else-readable
+unfolding writable
+returns-else-readable c = search rules

@@ -1,13 +1,16 @@
--- `flash::write` meets its contract: each return has its law.
-use borrow.Author.Rules.{rules}
-use Rattle.flash.proofs.Laws.{fits, write_dropped, write_done}
+-- `flash::write` meets its contract: a row that is written, and one that is not.
+use Rattle.std.proofs.Common.{rules}
+use Rattle.flash.specs.Flash.{written_flash}
+use Rattle.flash.proofs.Laws.{fits}
 use Rattle.flash.proofs.write.Goals as goal
-
-pub returns-then-not-writable : goal.returns-then-not-writable
-returns-then-not-writable c = search (rules, write_dropped)
 
 pub copy-requires : goal.copy-requires
 copy-requires c = search (rules, fits)
 
-pub returns : goal.returns
-returns c = search (rules, write_done)
+pub returns-then-writable : goal.returns-then-writable
+unfolding written_flash
+returns-then-writable c = search rules
+
+pub returns-else-writable : goal.returns-else-writable
+unfolding written_flash
+returns-else-writable c = search rules

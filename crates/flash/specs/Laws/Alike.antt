@@ -1,5 +1,5 @@
 -- The lent memories answer any list of commands as the plain flash that they show does, with the same rows behind it (02, W-209).
-use Rattle.std.specs.Prelude.{ℕ, ◌+◌, ◌*◌, ◌/◌, ◌<◌, ◌≤◌, ◌≡◌, refl, Bool, true, false, cond, ◌&&◌, length, ltb, leb}
+use Rattle.std.specs.Prelude.{ℕ, ◌+◌, ◌*◌, ◌/◌, ◌<◌, ◌≤◌, ◌≡◌, refl, Bool, true, false, cond, ◌&&◌, length, ltb, leb, Option, Some, None}
 use Rattle.std.proofs.Math.Path.{sym, ap}
 use Rattle.std.proofs.Common.{◌∙◌, arith, ltb-true, leb-true, lt-ltb, le-leb}
 use mathlib.Core.List.{List, [], ◌∷◌}
@@ -11,7 +11,7 @@ use Rattle.basics.specs.Laws.Counts.{all_same}
 use Rattle.basics.specs.Laws.Tests.{same_test}
 use Rattle.places.specs.declared.Console.{Console}
 use Rattle.flash.specs.declared.Command.{Command}
-use Rattle.flash.specs.declared.Command.TheVariants.{Read, Write, Erase, Nothing}
+use Rattle.flash.specs.declared.Command.TheVariants.{Read, Write, Erase}
 use Rattle.flash.specs.Flash.{row_words, sector_rows, sector_words, erased_word, row_place, sector_place, ram_place, row_lent, sector_lent, ram_lent, empty_at, row_word, ram_word, readable, writable, read_ram, written_flash, erased_flash, Memories, acted, acted_all}
 use Rattle.flash.specs.Plain.{blank_row, is_empty, row_of, has_row, has_sector, PlainFlash, plain_flash, plain_readable, plain_writable, plain_read_ram, plain_written_rows, plain_erased_rows, plain_acted, plain_acted_all}
 use Rattle.flash.specs.Shown.{row_at, row_count, flash_rows, shown_flash}
@@ -104,12 +104,12 @@ module _ (sectors : ℕ) (flash ram : List ℕ) (row : ℕ) where
         (λ i l. sym (row_word_lem flash row i l) ∙ ap (λ (t : List ℕ). get_or t i 0) (sym (row_shown (readable_row sectors flash ram row at e)))))
 
 -- a command, and any list of them
-pub alike : (sectors : ℕ) (m : Memories) (c : Command) → shown_flash sectors (acted sectors m c) ≡ plain_acted (shown_flash sectors m) c
-alike sectors m (Read row at) = ap (plain_flash (flash_rows sectors m.flash)) (read_alike sectors m.flash m.ram row at)
-alike sectors m (Write row at) = ap (λ (r : List (List ℕ)). plain_flash r m.ram) (write_alike sectors m.flash m.ram row at)
-alike sectors m (Erase row) = ap (λ (r : List (List ℕ)). plain_flash r m.ram) (erase_alike sectors m.flash m.ram row)
-alike sectors m Nothing = refl
+pub alike : (sectors : ℕ) (m : Memories) (c : Option Command) → shown_flash sectors (acted sectors m c) ≡ plain_acted (shown_flash sectors m) c
+alike sectors m (Some (Read row at)) = ap (plain_flash (flash_rows sectors m.flash)) (read_alike sectors m.flash m.ram row at)
+alike sectors m (Some (Write row at)) = ap (λ (r : List (List ℕ)). plain_flash r m.ram) (write_alike sectors m.flash m.ram row at)
+alike sectors m (Some (Erase row)) = ap (λ (r : List (List ℕ)). plain_flash r m.ram) (erase_alike sectors m.flash m.ram row)
+alike sectors m None = refl
 
-pub alike_all : (sectors : ℕ) (m : Memories) (cs : List Command) → shown_flash sectors (acted_all sectors m cs) ≡ plain_acted_all (shown_flash sectors m) cs
+pub alike_all : (sectors : ℕ) (m : Memories) (cs : List (Option Command)) → shown_flash sectors (acted_all sectors m cs) ≡ plain_acted_all (shown_flash sectors m) cs
 alike_all sectors m [] = refl
 alike_all sectors m (c ∷ cs) = rw (← alike sectors m c) (alike_all sectors (acted sectors m c) cs)

@@ -1,5 +1,5 @@
 -- What each command changes, and that it changes nothing else; a dropped one changes nothing.
-use Rattle.std.specs.Prelude.{ℕ, ◌+◌, ◌*◌, ◌/◌, ◌<◌, ◌≤◌, ◌≡◌, refl, List, [], ◌∷◌, true, ◌⊎◌, length, get_or}
+use Rattle.std.specs.Prelude.{ℕ, ◌+◌, ◌*◌, ◌/◌, ◌<◌, ◌≤◌, ◌≡◌, refl, List, [], ◌∷◌, true, ◌⊎◌, length, get_or, Option, Some, None}
 use Rattle.std.proofs.Common.{◌∙◌, arith}
 use Rattle.std.proofs.Math.Bool.{false}
 use Rattle.std.proofs.Math.Logic.{inl, inr}
@@ -7,22 +7,22 @@ use Rattle.basics.specs.Laws.Lists.{length_laid, laid_in, laid_out}
 use Rattle.basics.specs.Laws.Tests.{cases, compare, and_false, true_is_not_false}
 use Rattle.places.specs.declared.Console.{Console}
 use Rattle.flash.specs.declared.Command.{Command}
-use Rattle.flash.specs.declared.Command.TheVariants.{Read, Write, Erase, Nothing}
+use Rattle.flash.specs.declared.Command.TheVariants.{Read, Write, Erase}
 use Rattle.flash.specs.Flash.{row_words, sector_rows, sector_words, erased_word, row_place, sector_place, ram_place, row_lent, sector_lent, empty_at, row_word, ram_word, readable, writable, erasable, read_ram, written_flash, erased_flash, Memories, command_acts, acted, acted_all}
 use Rattle.flash.specs.Laws.Lent.{row_in, row_past, row_short, sector_in, sector_row, ram_in_lem, readable_ram, writable_row}
 
 -- a command that does not act is dropped: it changes no word of flash or RAM
-pub dropped : (sectors : ℕ) (m : Memories) (c : Command) → command_acts sectors m c ≡ false → acted sectors m c ≡ m
+pub dropped : (sectors : ℕ) (m : Memories) (c : Option Command) → command_acts sectors m c ≡ false → acted sectors m c ≡ m
 unfolding read_ram written_flash erased_flash
-dropped sectors m (Read row at) e = rw e
-dropped sectors m (Write row at) e = rw e
-dropped sectors m (Erase row) e = rw e
-dropped sectors m Nothing e = refl
+dropped sectors m (Some (Read row at)) e = rw e
+dropped sectors m (Some (Write row at)) e = rw e
+dropped sectors m (Some (Erase row)) e = rw e
+dropped sectors m None e = refl
 
 -- every command on a row is dropped, and changes nothing
 abbrev pub DropsRow : ℕ → Memories → ℕ → Type 0
 DropsRow sectors m row =
-    ((at : Console) → acted sectors m (Read row at) ≡ m) × ((at : Console) → acted sectors m (Write row at) ≡ m) × (acted sectors m (Erase row) ≡ m)
+    ((at : Console) → acted sectors m (Some (Read row at)) ≡ m) × ((at : Console) → acted sectors m (Some (Write row at)) ≡ m) × (acted sectors m (Some (Erase row)) ≡ m)
 
 -- a row that is not there drops every command: one out of range, and one that the lent flash does not hold whole
 module _ (sectors : ℕ) (m : Memories) (row : ℕ) where
@@ -34,7 +34,7 @@ module _ (sectors : ℕ) (m : Memories) (row : ℕ) where
   no_row e =
       let no-sector : sector_lent sectors words row ≡ false =
       cases (sector_lent sectors words row) (λ t. true_is_not_false (sector_row sectors words row t) e) (λ t. t) in
-      ((λ at. dropped sectors m (Read row at) (rw e)), (λ at. dropped sectors m (Write row at) (rw e)), dropped sectors m (Erase row) no-sector)
+      ((λ at. dropped sectors m (Some (Read row at)) (rw e)), (λ at. dropped sectors m (Some (Write row at)) (rw e)), dropped sectors m (Some (Erase row)) no-sector)
 
   pub row_past_range : sector_rows * sectors ≤ row → DropsRow sectors m row
   row_past_range h = no_row (row_past sectors words row h)
@@ -43,13 +43,13 @@ module _ (sectors : ℕ) (m : Memories) (row : ℕ) where
   row_past_flash h = no_row (row_short sectors words row h)
 
   -- no command but a write and an erase changes flash, and none but a read changes RAM
-  pub read_flash : (at : Console) → (acted sectors m (Read row at)).flash ≡ m.flash
+  pub read_flash : (at : Console) → (acted sectors m (Some (Read row at))).flash ≡ m.flash
   read_flash at = refl
 
-  pub write_ram : (at : Console) → (acted sectors m (Write row at)).ram ≡ m.ram
+  pub write_ram : (at : Console) → (acted sectors m (Some (Write row at))).ram ≡ m.ram
   write_ram at = refl
 
-  pub erase_ram : (acted sectors m (Erase row)).ram ≡ m.ram
+  pub erase_ram : (acted sectors m (Some (Erase row))).ram ≡ m.ram
   erase_ram = refl
 
 module _ (sectors : ℕ) (flash ram : List ℕ) (row : ℕ) where
@@ -127,22 +127,22 @@ module _ (sectors : ℕ) (flash ram : List ℕ) (row : ℕ) where
     write_full e = and_false (readable sectors flash ram row at) _ e
 
 -- the lent lengths stay
-pub length_flash : (sectors : ℕ) (m : Memories) (c : Command) → length (acted sectors m c).flash ≡ length m.flash
-length_flash sectors m (Read row at) = refl
-length_flash sectors m (Write row at) = length_written sectors m.flash m.ram row at
-length_flash sectors m (Erase row) = length_erased sectors m.flash m.ram row
-length_flash sectors m Nothing = refl
+pub length_flash : (sectors : ℕ) (m : Memories) (c : Option Command) → length (acted sectors m c).flash ≡ length m.flash
+length_flash sectors m (Some (Read row at)) = refl
+length_flash sectors m (Some (Write row at)) = length_written sectors m.flash m.ram row at
+length_flash sectors m (Some (Erase row)) = length_erased sectors m.flash m.ram row
+length_flash sectors m None = refl
 
-pub length_ram : (sectors : ℕ) (m : Memories) (c : Command) → length (acted sectors m c).ram ≡ length m.ram
-length_ram sectors m (Read row at) = length_read sectors m.flash m.ram row at
-length_ram sectors m (Write row at) = refl
-length_ram sectors m (Erase row) = refl
-length_ram sectors m Nothing = refl
+pub length_ram : (sectors : ℕ) (m : Memories) (c : Option Command) → length (acted sectors m c).ram ≡ length m.ram
+length_ram sectors m (Some (Read row at)) = length_read sectors m.flash m.ram row at
+length_ram sectors m (Some (Write row at)) = refl
+length_ram sectors m (Some (Erase row)) = refl
+length_ram sectors m None = refl
 
-pub length_flash_all : (sectors : ℕ) (m : Memories) (cs : List Command) → length (acted_all sectors m cs).flash ≡ length m.flash
+pub length_flash_all : (sectors : ℕ) (m : Memories) (cs : List (Option Command)) → length (acted_all sectors m cs).flash ≡ length m.flash
 length_flash_all sectors m [] = refl
 length_flash_all sectors m (c ∷ cs) = length_flash_all sectors (acted sectors m c) cs ∙ length_flash sectors m c
 
-pub length_ram_all : (sectors : ℕ) (m : Memories) (cs : List Command) → length (acted_all sectors m cs).ram ≡ length m.ram
+pub length_ram_all : (sectors : ℕ) (m : Memories) (cs : List (Option Command)) → length (acted_all sectors m cs).ram ≡ length m.ram
 length_ram_all sectors m [] = refl
 length_ram_all sectors m (c ∷ cs) = length_ram_all sectors (acted sectors m c) cs ∙ length_ram sectors m c

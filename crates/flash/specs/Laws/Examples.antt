@@ -1,38 +1,37 @@
 -- A save by its registers, row by row: the definitions compute.
-use Rattle.std.specs.Prelude.{ℕ, List, ◌++◌, ◌≡◌, refl, true, false, replicate}
+use Rattle.std.specs.Prelude.{ℕ, List, ◌++◌, ◌≡◌, refl, true, false, replicate, Some, None}
 use Rattle.basics.specs.Lists.{laid}
 use Rattle.basics.specs.Counts.{all}
 use Rattle.basics.specs.Tables.{made}
 use Rattle.places.specs.Places.{console}
-use Rattle.flash.specs.declared.Command.TheVariants.{Read, Write, Erase, Nothing}
-use Rattle.flash.specs.declared.Heard.TheVariants.{Word, Silence}
+use Rattle.flash.specs.declared.Command.TheVariants.{Read, Write, Erase}
 use Rattle.flash.specs.declared.Saves.{Saves}
 use Rattle.flash.specs.Flash.{row_place, row_lent, sector_lent, ram_lent, empty_at, erased_flash}
 use Rattle.flash.specs.Registers.{has_flash, fresh_saves, flash_heard, remembered, command_of}
 use Rattle.flash.specs.Plain.{blank_row, changed, plain_erased_rows}
 
 -- one sector has rows 0 to 7, and the largest flash rows 0 to 5,455; without a flash the registers are silent
-pub first_row_lem : flash_heard (fresh_saves 1) (console 0x8023) ≡ Word 0
+pub first_row_lem : flash_heard (fresh_saves 1) (console 0x8023) ≡ Some 0
 unfolding flash_heard has_flash
 first_row_lem = refl
 
-pub last_row : flash_heard (fresh_saves 1) (console 0x8024) ≡ Word 7
+pub last_row : flash_heard (fresh_saves 1) (console 0x8024) ≡ Some 7
 unfolding flash_heard has_flash
 last_row = refl
 
-pub largest : flash_heard (fresh_saves 682) (console 0x8024) ≡ Word 5455
+pub largest : flash_heard (fresh_saves 682) (console 0x8024) ≡ Some 5455
 unfolding flash_heard has_flash
 largest = refl
 
-pub too_large : flash_heard (fresh_saves 683) (console 0x8024) ≡ Silence
+pub too_large : flash_heard (fresh_saves 683) (console 0x8024) ≡ None
 unfolding flash_heard has_flash
 too_large = refl
 
-pub no_size : flash_heard (fresh_saves 0) (console 0x8024) ≡ Silence
+pub no_size : flash_heard (fresh_saves 0) (console 0x8024) ≡ None
 unfolding flash_heard has_flash
 no_size = refl
 
-pub write_only : flash_heard (fresh_saves 1) (console 0x8025) ≡ Silence
+pub write_only : flash_heard (fresh_saves 1) (console 0x8025) ≡ None
 unfolding flash_heard has_flash
 write_only = refl
 
@@ -40,19 +39,19 @@ write_only = refl
 abbrev set_up : Saves
 set_up = remembered (remembered (fresh_saves 1) (console 0x8025) 0x8100) (console 0x8026) 5
 
-pub asks_write : command_of set_up (console 0x802D) 0xC0DE ≡ Write 5 (console 0x8100)
+pub asks_write : command_of set_up (console 0x802D) 0xC0DE ≡ Some (Write 5 (console 0x8100))
 unfolding command_of remembered has_flash
 asks_write = refl
 
-pub asks_read : command_of set_up (console 0x802E) 0xDEC0 ≡ Read 5 (console 0x8100)
+pub asks_read : command_of set_up (console 0x802E) 0xDEC0 ≡ Some (Read 5 (console 0x8100))
 unfolding command_of remembered has_flash
 asks_read = refl
 
-pub asks_erase : command_of set_up (console 0x802F) 0xBEEF ≡ Erase 5
+pub asks_erase : command_of set_up (console 0x802F) 0xBEEF ≡ Some (Erase 5)
 unfolding command_of remembered has_flash
 asks_erase = refl
 
-pub other_key : command_of set_up (console 0x802D) 0xDEC0 ≡ Nothing
+pub other_key : command_of set_up (console 0x802D) 0xDEC0 ≡ None
 unfolding command_of remembered has_flash
 other_key = refl
 

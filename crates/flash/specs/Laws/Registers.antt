@@ -1,13 +1,11 @@
 -- The registers: without a flash they are silent and keep nothing; at other addresses than theirs nothing is heard, kept or asked for; the rows
 -- that they name are those of the flash.
-use Rattle.std.specs.Prelude.{ℕ, ◌*◌, ◌<◌, ◌≤◌, List, ◌≡◌, true, false, length, leb, eqb}
+use Rattle.std.specs.Prelude.{ℕ, ◌*◌, ◌<◌, ◌≤◌, List, ◌≡◌, true, false, length, leb, eqb, None}
 use Rattle.std.proofs.Common.{arith}
 use borrow.Author.Tests.{leb-true, le-leb, lt-ltb, ltb-true, ne_eqb}
 use Rattle.basics.specs.Laws.Tests.{and_left, and_right, same_test, cases}
 use Rattle.places.specs.declared.Console.{Console}
-use Rattle.flash.specs.declared.Command.TheVariants.{Nothing}
 use Rattle.flash.specs.declared.Saves.{Saves}
-use Rattle.flash.specs.declared.Heard.TheVariants.{Silence}
 use Rattle.flash.specs.Flash.{sector_rows, sector_words, sector_limit}
 use Rattle.flash.specs.Registers.{jf_first, jf_last, jf_addr, jf_row, jf_wrcmd, jf_rdcmd, jf_ercmd, has_flash, last_row, flash_heard, remembered, command_of}
 use Rattle.flash.specs.Plain.{has_row}
@@ -31,14 +29,14 @@ module _ (sectors : ℕ) where
       (λ t. let l : row ≤ last_row sectors = leb-true _ _ t in lt-ltb row (length (flash_rows sectors flash)) (omega arith))
 
 -- a read that is neither of the first row nor of the last
-pub others_silent : (s : Saves) (at : Console) → (at.0 ≡ jf_first → ⊥) → (at.0 ≡ jf_last → ⊥) → flash_heard s at ≡ Silence
+pub others_silent : (s : Saves) (at : Console) → (at.0 ≡ jf_first → ⊥) → (at.0 ≡ jf_last → ⊥) → flash_heard s at ≡ None
 unfolding flash_heard
 others_silent s at a b = cases (has_flash s.sectors) (λ e. rw (e, ne_eqb _ _ a, ne_eqb _ _ b)) (λ e. rw e)
 
 module _ (s : Saves) (at : Console) (v : ℕ) where
   -- no flash of this size
   module _ (e : has_flash s.sectors ≡ false) where
-    pub silent : flash_heard s at ≡ Silence
+    pub silent : flash_heard s at ≡ None
     unfolding flash_heard
     silent = rw e
 
@@ -46,12 +44,12 @@ module _ (s : Saves) (at : Console) (v : ℕ) where
     unfolding remembered
     not_kept = rw e
 
-    pub not_asked : command_of s at v ≡ Nothing
+    pub not_asked : command_of s at v ≡ None
     unfolding command_of
     not_asked = rw e
 
   -- a write that is of no command asks for none
-  pub others_ask_nothing : (at.0 ≡ jf_wrcmd → ⊥) → (at.0 ≡ jf_rdcmd → ⊥) → (at.0 ≡ jf_ercmd → ⊥) → command_of s at v ≡ Nothing
+  pub others_ask_nothing : (at.0 ≡ jf_wrcmd → ⊥) → (at.0 ≡ jf_rdcmd → ⊥) → (at.0 ≡ jf_ercmd → ⊥) → command_of s at v ≡ None
   unfolding command_of
   others_ask_nothing a b d = cases (has_flash s.sectors) (λ e. rw (e, ne_eqb _ _ a, ne_eqb _ _ b, ne_eqb _ _ d)) (λ e. rw e)
 

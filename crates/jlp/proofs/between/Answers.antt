@@ -1,12 +1,9 @@
--- `jlp::between` meets its contract: each return has decided the tests of `between`.
+-- `jlp::between` meets its contract: its two tests are those of `between`.
+use Rattle.std.proofs.Common.{rules}
 use Rattle.basics.specs.Laws.Tests.{tests}
 use Rattle.jlp.specs.Window.{between}
 use Rattle.jlp.proofs.between.Goals as goal
 
-pub returns-then-a-low : goal.returns-then-a-low
-unfolding between
-returns-then-a-low c = search tests
-
 pub returns : goal.returns
 unfolding between
-returns c = search tests
+returns c = search (rules, tests)

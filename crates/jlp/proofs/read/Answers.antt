@@ -1,10 +1,12 @@
 -- `jlp::read` meets its contract: the accelerators are off, or a register is asked.
-use borrow.Author.Rules.{rules}
-use Rattle.jlp.proofs.Laws.{read_off, read_on}
+use Rattle.std.proofs.Common.{rules}
+use Rattle.jlp.specs.Accelerators.{heard_at}
 use Rattle.jlp.proofs.read.Goals as goal
 
-pub returns-then-not-j : goal.returns-then-not-j
-returns-then-not-j c = search (rules, read_off)
+pub returns-then-j : goal.returns-then-j
+unfolding heard_at
+returns-then-j c = search rules
 
-pub returns : goal.returns
-returns c = search (rules, read_on)
+pub returns-else-j : goal.returns-else-j
+unfolding heard_at
+returns-else-j c = search rules

@@ -3,11 +3,11 @@ use borrow.Author.Rules.{rules}
 use Rattle.jlp.proofs.Laws.{takes_outside, takes_on, takes_off}
 use Rattle.jlp.proofs.takes.Goals as goal
 
-pub returns-then-not-in_window : goal.returns-then-not-in_window
-returns-then-not-in_window c = search (rules, takes_outside)
-
 pub returns-then-j : goal.returns-then-j
 returns-then-j c = search (rules, takes_on)
 
-pub returns : goal.returns
-returns c = search (rules, takes_off)
+pub returns-else-j : goal.returns-else-j
+returns-else-j c = search (rules, takes_off)
+
+pub returns-else-in_window : goal.returns-else-in_window
+returns-else-in_window c = search (rules, takes_outside)

@@ -1,12 +1,13 @@
--- `jlp::turns_off` meets its contract: each return has decided the tests of `turns_off`.
+-- `jlp::turns_off` meets its contract: its two tests are those of `turns_off`.
+use Rattle.std.proofs.Common.{rules}
 use Rattle.basics.specs.Laws.Tests.{tests}
 use Rattle.jlp.specs.Accelerators.{turns_off}
 use Rattle.jlp.proofs.turns_off.Goals as goal
 
-pub returns-then-at-ne-OFF_AT : goal.returns-then-at-ne-OFF_AT
+pub returns-then-at-eq-OFF_AT : goal.returns-then-at-eq-OFF_AT
 unfolding turns_off
-returns-then-at-ne-OFF_AT c = search tests
+returns-then-at-eq-OFF_AT c = search (rules, tests)
 
-pub returns : goal.returns
+pub returns-else-at-eq-OFF_AT : goal.returns-else-at-eq-OFF_AT
 unfolding turns_off
-returns c = search tests
+returns-else-at-eq-OFF_AT c = search (rules, tests)

@@ -1,5 +1,5 @@
 -- Laws of the accelerators: which writes they take, which of those change them, and what stays (02, W-206 and W-209).
-use Rattle.std.specs.Prelude.{ℕ, ◌≤◌, Bool, ◌&&◌, ◌↔◌, ◌≡◌, eqb}
+use Rattle.std.specs.Prelude.{Option, ℕ, ◌≤◌, Bool, ◌&&◌, ◌↔◌, ◌≡◌, eqb, None}
 use Rattle.std.proofs.Math.Bool.{true, false, cond, not}
 use Rattle.std.proofs.Math.Path.{refl}
 use Rattle.std.proofs.Common.{sym, ap, ◌∙◌, arith}
@@ -7,7 +7,6 @@ use borrow.Author.Tests.{eq-eqb, ne_eqb, eqb-true, eqb-false}
 use Rattle.basics.specs.Laws.Tests.{cases, and_left, and_right, and_true, and_false, or_none, or_right, or_false_left, or_false_right, not-true, cond_true, true_is_not_false}
 use Rattle.places.specs.declared.Console.{Console}
 use Rattle.places.specs.Places.{console}
-use Rattle.flash.specs.declared.Heard.TheVariants.{Silence}
 use Rattle.flash.specs.Flash.{ram_start, ram_end}
 use Rattle.flash.specs.Registers.{jf_first, jf_last, jf_addr, jf_row}
 use Rattle.flash.specs.Laws.Registers.{others_silent, registers_stay}
@@ -152,15 +151,15 @@ off_then_on j some on = ap after first ∙ rw (ne_eqb _ _ some) (ap (with_on j) 
 
 -- reads are silent while off, and but for three registers and the flash's two
 module _ (j : Jlp) (at : Console) where
-  pub off_silent : j.on ≡ false → heard_at j at ≡ Silence
+  pub off_silent : j.on ≡ false → heard_at j at ≡ None
   unfolding heard_at
   off_silent off = rw off
 
   pub other_silent : (at.0 ≡ first_at → ⊥) → (at.0 ≡ second_at → ⊥) → (at.0 ≡ crc_at → ⊥) → (at.0 ≡ jf_first → ⊥) → (at.0 ≡ jf_last → ⊥)
-      → heard_at j at ≡ Silence
+      → heard_at j at ≡ None
   unfolding heard_at register_word
   other_silent a b c d e = rw (ne_eqb _ _ a, ne_eqb _ _ b, ne_eqb _ _ c, others_silent j.saves at d e) (by j.on)
     where
-      by : (b : Bool) → cond b Silence Silence ≡ Silence
+      by : (b : Bool) → ◌≡◌ {A = Option ℕ} (cond b None None) None
       by true = refl
       by false = refl

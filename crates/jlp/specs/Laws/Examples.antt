@@ -1,10 +1,9 @@
 -- Worked cases: the definitions compute.
-use Rattle.std.specs.Prelude.{ℕ, ◌+◌, ◌*◌, Bool, true, false, List, [], ◌∷◌, map, ◌≡◌, get_or}
+use Rattle.std.specs.Prelude.{ℕ, ◌+◌, ◌*◌, Bool, true, false, List, [], ◌∷◌, map, ◌≡◌, get_or, Some, None}
 use Rattle.std.proofs.Math.Path.{refl}
 use Rattle.std.specs.Int.Bits.{bit_xor}
 use Rattle.places.specs.Places.{console, locutus}
 use Rattle.sums.specs.Crc.{crc_bit, crc_bits}
-use Rattle.flash.specs.declared.Heard.TheVariants.{Word, Silence}
 use Rattle.flash.specs.Registers.{has_flash, flash_heard, remembered}
 use Rattle.jlp.specs.declared.Jlp.{Jlp}
 use Rattle.jlp.specs.declared.Results.{Results}
@@ -153,7 +152,7 @@ abbrev pub summed : Jlp
 summed = after_writes (fresh_jlp 3 0) ((0x9F86, 0x1234) ∷ (0x9F87, 0x100) ∷ (0x9FFD, 0xFFFF) ∷ (0x9FFC, 0xFFFE) ∷ [])
 
 pub answers : map (λ a. heard_at summed (console a)) (0x9F8B ∷ 0x9F8E ∷ 0x9F8F ∷ 0x9FFC ∷ 0x9FFD ∷ 0x9FFE ∷ [])
-    ≡ Silence ∷ Word 0x3400 ∷ Word 0x0012 ∷ Silence ∷ Word 0xEFCA ∷ Silence ∷ []
+    ≡ None ∷ Some 0x3400 ∷ Some 0x0012 ∷ None ∷ Some 0xEFCA ∷ None ∷ []
 unfolding written_jlp written_on turns_on turns_off between function_of multiplied product_of crc_after crc_word crc_bits crc_bit heard_at register_word remembered flash_heard has_flash
 answers = refl
 
@@ -161,7 +160,7 @@ answers = refl
 abbrev pub silenced : Jlp
 silenced = after_writes summed ((0x8034, 0x6A7A) ∷ [])
 
-pub off_and_reset : map (λ j. heard_at j (console 0x9FFD)) (silenced ∷ reset_jlp silenced ∷ []) ≡ Silence ∷ Word 0xEFCA ∷ []
+pub off_and_reset : map (λ j. heard_at j (console 0x9FFD)) (silenced ∷ reset_jlp silenced ∷ []) ≡ None ∷ Some 0xEFCA ∷ []
 unfolding written_jlp written_on turns_on turns_off between function_of multiplied product_of crc_after crc_word crc_bits crc_bit heard_at register_word remembered flash_heard has_flash
 off_and_reset = refl
 
@@ -172,7 +171,7 @@ saving = after_writes (fresh_jlp 3 1) ((0x8025, 0x8100) ∷ (0x8026, 5) ∷ [])
 abbrev pub not_saving : Jlp
 not_saving = after_writes saving ((0x8034, 0x6A7A) ∷ (0x8026, 6) ∷ [])
 
-pub rows_heard : map (λ j. heard_at j (console 0x8024)) (saving ∷ not_saving ∷ reset_jlp not_saving ∷ []) ≡ Word 7 ∷ Silence ∷ Word 7 ∷ []
+pub rows_heard : map (λ j. heard_at j (console 0x8024)) (saving ∷ not_saving ∷ reset_jlp not_saving ∷ []) ≡ Some 7 ∷ None ∷ Some 7 ∷ []
 unfolding written_jlp written_on turns_on turns_off between crc_after heard_at register_word remembered flash_heard has_flash
 rows_heard = refl
 

@@ -1,6 +1,6 @@
 -- What a reader will ask of a built cartridge besides demand 3: which word stands where after a load, and what a page shows
 -- that no line names.
-use Rattle.std.specs.Prelude.{ℕ, ◌<◌, ◌*◌, ◌+◌, ◌/◌, ◌≤◌, ◌%◌, suc, List, ◌≡◌, refl, false, true, ◌⊎◌, get_or}
+use Rattle.std.specs.Prelude.{ℕ, ◌<◌, ◌*◌, ◌+◌, ◌/◌, ◌≤◌, ◌%◌, suc, List, ◌≡◌, refl, false, true, ◌⊎◌, get_or, Some, None}
 use Rattle.std.proofs.Common.{ap, ◌∙◌, ⊎_elim, inr, inl}
 use Rattle.std.proofs.Math.Option.{some, Option, none}
 use Rattle.basics.specs.Options.{is_some}
@@ -9,7 +9,6 @@ use Rattle.basics.specs.Laws.Tests.{true_is_not_false}
 use Rattle.places.specs.declared.Console.{Console}
 use Rattle.places.specs.Limits.{chapter_size}
 use Rattle.switches.specs.Flips.{first_k}
-use Rattle.cart.specs.declared.Answer.TheVariants.{Word, Silence}
 use Rattle.lines.specs.declared.Line.{Line}
 use Rattle.lines.specs.declared.Entry.{Entry}
 use Rattle.lines.specs.declared.Entry.TheVariants.{Rom, Paged, Ram}
@@ -44,7 +43,7 @@ module _ {bin : List ℕ} {lines : List Line} (accepted : Accepted bin lines) wh
     pub line : Line
     pub found : line_at lines 0 a.0 ≡ some line
     pub rom : is_ram line.entry ≡ false
-    pub reads : plain_read bin lines c a ≡ Word (written_by bin line.entry a)
+    pub reads : plain_read bin lines c a ≡ Some (written_by bin line.entry a)
 
   rom_word : (e : Entry) (mem : Console → ℕ) (a : Console) → is_ram e ≡ false → word_by bin mem e a ≡ written_by bin e a
   rom_word (Rom lo hi at) mem a h = refl
@@ -62,7 +61,7 @@ module _ {bin : List ℕ} {lines : List Line} (accepted : Accepted bin lines) wh
     unfolding plain_read shown_line
     by_plain = rw (no_page (line_at lines (suc (c.number (a.0 / chapter_size))) a.0) refl)
 
-    pub unnamed_page : (plain_read bin lines c a ≡ Silence) ⊎ (ReadsRom c a)
+    pub unnamed_page : (plain_read bin lines c a ≡ None) ⊎ (ReadsRom c a)
     unnamed_page =
         ⊎_elim
         (λ h.

@@ -1,9 +1,8 @@
 -- Demand 3: a built cartridge plays as its CFG reads, over every list of accesses. By a relation that each access keeps.
-use Rattle.std.specs.Prelude.{ℕ, List, ◌∷◌, [], ◌≡◌, refl, false, get_or}
+use Rattle.std.specs.Prelude.{ℕ, List, ◌∷◌, [], ◌≡◌, refl, false, get_or, Option}
 use Rattle.std.proofs.Common.{ap, ◌∙◌}
 use Rattle.switches.specs.Banks.{BANKSW}
 use Rattle.jlp.specs.declared.Jlp.{Jlp}
-use Rattle.cart.specs.declared.Answer.{Answer}
 use Rattle.cart.specs.Run.{World, Access, step, Read, Write, Reset, said, after, answers}
 use Rattle.cart.proofs.Theorems.Flash.{off_keeps_flash}
 use Rattle.lines.specs.declared.Line.{Line}
@@ -36,7 +35,7 @@ module _ {bin : List ℕ} {lines : List Line} (g : Good lines) where
 
   said_alike : (w : World) (c : Plain) (x : Access) → Tied bin lines w c → said w x ≡ plain_said bin lines c x
   said_alike w c (Read a) t =
-      ap (λ (r : Answer). r ∷ []) (read_alike g w.cartridge w.ram c.number c.ram t.tabled t.held a)
+      ap (λ (r : Option ℕ). r ∷ []) (read_alike g w.cartridge w.ram c.number c.ram t.tabled t.held a)
   said_alike w c (Write a v) t = refl
   said_alike w c Reset t = refl
 

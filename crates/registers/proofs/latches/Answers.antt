@@ -1,10 +1,12 @@
--- `registers::latches` meets its contract: the RAM, and any other address.
-use borrow.Author.Rules.{rules}
-use Rattle.registers.proofs.Laws.{latches_ram, latches_taken}
+-- `registers::latches` meets its contract: its two tests are those of `latches`.
+use Rattle.std.proofs.Common.{rules}
+use Rattle.jlp.specs.Accelerators.{latches}
 use Rattle.registers.proofs.latches.Goals as goal
 
-pub returns-then-in_ram : goal.returns-then-in_ram
-returns-then-in_ram c = search (rules, latches_ram)
+pub returns-then-not-in_ram : goal.returns-then-not-in_ram
+unfolding latches
+returns-then-not-in_ram c = search rules
 
-pub returns : goal.returns
-returns c = search (rules, latches_taken)
+pub returns-else-not-in_ram : goal.returns-else-not-in_ram
+unfolding latches
+returns-else-not-in_ram c = search rules

@@ -1,12 +1,13 @@
--- `registers::takes` meets its contract: outside the window, while on, and the word that turns on.
+-- `registers::takes` meets its contract: outside of the window, while on, and while off.
+use borrow.Author.Rules.{rules}
 use Rattle.registers.proofs.Laws.{taken}
 use Rattle.registers.proofs.takes.Goals as goal
 
-pub returns-then-not-in_window : goal.returns-then-not-in_window
-returns-then-not-in_window c = search taken
-
 pub returns-then-is_on : goal.returns-then-is_on
-returns-then-is_on c = search taken
+returns-then-is_on c = search (rules, taken)
 
-pub returns : goal.returns
-returns c = search taken
+pub returns-else-is_on : goal.returns-else-is_on
+returns-else-is_on c = search (rules, taken)
+
+pub returns-else-in_window : goal.returns-else-in_window
+returns-else-in_window c = search (rules, taken)

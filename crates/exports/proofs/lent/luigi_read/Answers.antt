@@ -4,11 +4,8 @@ use Rattle.registers.specs.Words.{jlp_from}
 use Rattle.exports.specs.Laws.Runs.{heard_direct}
 use Rattle.exports.proofs.lent.luigi_read.Goals as goal
 
-pub returns-then-n-ne-ASKED : goal.returns-then-n-ne-ASKED
-returns-then-n-ne-ASKED c =
+pub returns-in-Some : goal.returns-in-Some
+returns-in-Some c =
     let given = c.args in
-    heard_direct (jlp_from given.accelerators.now) (active given.mapping.now given.permissions.now) _ given.ram.now _ _
-    c.is_on-on.ensures c.hear-n.ensures c.if-n-ne-ASKED.true
-
-pub returns : goal.returns
-returns c = c.read.ensures
+    heard_direct (jlp_from given.accelerators.now) (active given.mapping.now given.permissions.now) _ given.ram.now _ _ _
+    c.is_on-on.ensures c.hear.ensures c.in-Some.is
