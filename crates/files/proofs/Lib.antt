@@ -1,4 +1,4 @@
-pub mod Loops
+pub mod Named
 pub mod Parts
 pub mod Verdicts
 pub mod Same

@@ -11,7 +11,7 @@ use Rattle.std.specs.Prelude.{Some, None}
 use Rattle.basics.specs.Lists.{joined}
 use Rattle.basics.specs.Laws.Wrote.{Wrote, wrote_part, wrote_all}
 use Rattle.files.specs.Names.{hex_of, folder_of, mark, part_of, part_length, part_in}
-use Rattle.files.proofs.Loops.{length_hex}
+use Rattle.files.proofs.Named.{length_hex}
 
 module _ (name : List ℕ) (k : ℕ) (is : k ≡ folder_of name) where
   -- its three pieces

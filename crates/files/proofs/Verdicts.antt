@@ -1,14 +1,21 @@
--- The verdict's ways out, as the code's tests give them.
+-- The verdict's ways out, as the code's tests give them, and whether a file is an input, as the library's search gives it.
 use Prim.Native.Nat.{ℕ}
-use mathlib.Core.Bool.{true, false}
-use mathlib.Core.List.{List}
-use mathlib.Core.Path.{◌≡◌}
+use mathlib.Core.Bool.{Bool, true, false, ◌||◌}
+use mathlib.Core.List.{List, [], ◌∷◌}
+use mathlib.Core.Path.{◌≡◌, refl, ap}
 use borrow.Author.Tests.{eq-eqb, ne_eqb}
+use Rattle.std.specs.List.{list_any}
 use Rattle.std.specs.Prelude.{Result, Ok, Err}
 use Rattle.files.specs.declared.errors.Errno.{Errno}
 use Rattle.files.specs.declared.errors.Why.TheVariants.{Look, Link, Kind, Input}
 use Rattle.files.specs.declared.sight.Seen.{Seen}
-use Rattle.files.specs.Rule.{kind_of, is_input, verdict_of}
+use Rattle.files.specs.Rule.{kind_of, same_file, is_input, verdict_of}
+
+-- whether it is an input, as the library's search says it
+pub input_any : (seen : Seen) (inputs : List Seen) → list_any (same_file seen) inputs ≡ is_input seen inputs
+unfolding is_input
+input_any seen [] = refl
+input_any seen (input ∷ inputs) = ap (λ (b : Bool). same_file seen input || b) (input_any seen inputs)
 
 module _ (told : Result Seen Errno) (inputs : List Seen) where
   module _ (error : Errno) (is : told ≡ Err error) where

@@ -1,7 +1,7 @@
 -- `names::folder` meets its contract: the last `/` is found from the back.
 use Rattle.std.proofs.Common.{arith, rules}
 use Rattle.std.proofs.lemmas.Grind.{common_steps}
-use Rattle.files.proofs.Loops.{IsLastSlash, folder_found}
+use Rattle.files.proofs.Named.{IsLastSlash, folder_found}
 use Rattle.files.proofs.names.folder.Goals as goal
 
 pub returns : goal.returns

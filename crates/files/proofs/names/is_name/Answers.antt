@@ -1,6 +1,6 @@
 -- `names::is_name` meets its contract: it is short enough, and the library's search finds no 0.
 use borrow.Author.Rules.{rules}
-use Rattle.files.proofs.Loops.{too_long, not_too_long}
+use Rattle.files.proofs.Named.{too_long, not_too_long}
 use Rattle.files.proofs.names.is_name.Goals as goal
 
 pub returns-then-name-lt-PATH_MAX : goal.returns-then-name-lt-PATH_MAX

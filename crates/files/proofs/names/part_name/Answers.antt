@@ -2,18 +2,12 @@
 use native.Mathlib.Omega.{arith}
 use lib.ListN.{length-take, length-append, length-drop}
 use borrow.Author.Rules.{rules}
-use Rattle.files.proofs.Loops.{counted}
+use Rattle.files.proofs.Named.{counted}
 use Rattle.files.proofs.Parts.{short_length, short_out, whole_length, whole_out}
 use Rattle.files.proofs.names.part_name.Goals as goal
 
 pub returns-then-out-k : goal.returns-then-out-k
 returns-then-out-k c = record { length = short_length _ _ c.folder-k.ensures.0 _ (omega arith); name = short_out _ _ c.folder-k.ensures.0 _ _ (omega arith); front = search rules }
-
-pub slice_bounds-put_part-end-2 : goal.slice_bounds-put_part-end-2
-slice_bounds-put_part-end-2 c = simp length-take (omega arith)
-
-pub put_part-requires : goal.put_part-requires
-put_part-requires c = (search rules, search rules, simp length-take (omega arith))
 
 pub returns : goal.returns
 returns c =

@@ -5,7 +5,7 @@ use Rattle.std.proofs.lemmas.Iterator.{YieldsList-from_slice}
 use Rattle.std.proofs.lemmas.Iterator.Search.{any_from_yields_List}
 use Rattle.basics.specs.Laws.Tests.{tests}
 use Rattle.files.specs.Rule.{same_file}
-use Rattle.files.proofs.Loops.{input_any}
+use Rattle.files.proofs.Verdicts.{input_any}
 use Rattle.files.proofs.rule.is_input.Goals as goal
 
 pub returns : goal.returns

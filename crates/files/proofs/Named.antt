@@ -1,6 +1,6 @@
--- What the loops over names and inputs keep.
+-- What is known of names: where the folder ends, what is no name, and a tag in hexadecimal digits.
 use Prim.Native.Nat.{ℕ, zero, suc, ◌+◌, ◌*◌, ◌≤◌, ◌<◌, ◌/◌, ◌%◌}
-use mathlib.Core.Bool.{Bool, true, false, cond, not, ◌||◌}
+use mathlib.Core.Bool.{Bool, true, false, cond, not}
 use mathlib.Core.List.{List, [], ◌∷◌, ◌++◌, append_assoc}
 use mathlib.Core.Path.{◌≡◌, refl, sym, ap, ◌∙◌}
 use native.Mathlib.Omega.{arith}
@@ -9,7 +9,7 @@ use lib.Dec.{eqb, ltb}
 use lib.ListN.{length, get_or, take, set, length-set, length-append}
 use lib.Seq.{take_all, take-suc, length-take-le}
 use Rattle.std.proofs.Common.{inl, inr, ◌⊎◌, eq-or-lt_of_le}
-use Rattle.std.specs.List.{IsAnyAnswer, list_any}
+use Rattle.std.specs.List.{IsAnyAnswer}
 use Rattle.std.specs.Option.{MatchOption}
 use Rattle.std.specs.Prelude.{Option, Some, None}
 use borrow.Author.Tests.{eq-eqb, ne_eqb, lt-ltb, le-ltb}
@@ -21,9 +21,7 @@ use Rattle.basics.specs.Laws.Counts.{all_at, all_of}
 use Rattle.basics.specs.Laws.Each.{joined_append}
 use Rattle.basics.specs.Laws.Tests.{cases, true_is_not_false, and_false}
 use Rattle.basics.specs.Laws.Wrote.{Wrote, wrote_none, wrote_set, wrote_all}
-use Rattle.files.specs.declared.sight.Seen.{Seen}
 use Rattle.files.specs.Names.{behind, folder_of, is_name, hex_of}
-use Rattle.files.specs.Rule.{same_file, is_input}
 
 -- the first i bytes of a tag are put, two digits each
 pub record Hexing (tag out₀ out : List ℕ) (i : ℕ) : Type 0 where
@@ -87,12 +85,6 @@ module _ (s : List ℕ) where
   not_too_long false h e =
       let a : all (length s) sound ≡ true = all_of (length s) sound (λ i l. simp (e i 0 (omega arith) l)) in
       simp (lt-ltb _ _ h, a)
-
--- whether it is an input, as the library's search says it
-pub input_any : (seen : Seen) (inputs : List Seen) → list_any (same_file seen) inputs ≡ is_input seen inputs
-unfolding is_input
-input_any seen [] = refl
-input_any seen (input ∷ inputs) = ap (λ (b : Bool). same_file seen input || b) (input_any seen inputs)
 
 -- the last `/` is found, or there is none
 module _ (s : List ℕ) where
