@@ -1,2 +1,3 @@
 -- What functions promise.
+pub mod Bytes
 pub mod Lists

@@ -1,9 +1,10 @@
 // The words of a plan as a BIN has them: big endian, from a RAM.
-ghost use Rattle.std.specs.Prelude.{◌*◌, ◌≤◌, max, ◌≡◌, ◌++◌, [], ◌∷◌, not, eqb, get_or, length};
+ghost use Rattle.std.specs.Prelude.{◌*◌, ◌≤◌, max, ◌≡◌, [], ◌∷◌, not, eqb, get_or, length};
 ghost use Rattle.basics.specs.Lists.{joined, put_front};
 ghost use Rattle.places.specs.Limits.{chapter_size, page_size, slots};
-ghost use Rattle.canon.specs.Bin.{be16, canonical_bin, paged_words, rom_words, words_from};
+ghost use Rattle.canon.specs.Bin.{be16, canonical_bin, words_from};
 ghost use Rattle.canon.specs.Laws.Bin.{bin_size};
+ghost use Rattle.ledger.specs.Code.Bytes.{both_bytes, page_bytes, rom_bytes};
 ghost use Rattle.ledger.specs.Held.{sketched, words_in};
 
 use crate::Sketch;
@@ -52,8 +53,9 @@ fn put_zero(out: &mut [u8])
 impl Sketch {
     // Writes the words of the plain paragraphs of ROM at the front of a buffer, by address. Returns how many bytes they are.
     fn put_roms(&self, out: &mut [u8], ram: &[u16]) -> usize
-        requires { length (joined be16 (rom_words (sketched self.now) (words_in ram.now))) ≤ length out.old }
-        ensures { (result ≡ length (joined be16 (rom_words (sketched self.now) (words_in ram.now)))) × (out.new ≡ put_front (joined be16 (rom_words (sketched self.now) (words_in ram.now))) out.old) }
+        requires { length (rom_bytes self.now ram.now) ≤ length out.old }
+        ensures length { result ≡ length (rom_bytes self.now ram.now) }
+        ensures bytes { out.new ≡ put_front (rom_bytes self.now ram.now) out.old }
     {
         let mut at = 0;
         for p in 0..PARAGRAPHS {
@@ -69,8 +71,9 @@ impl Sketch {
 
     // Writes the words of the pages at the front of a buffer, by chapter and page. Returns how many bytes they are.
     fn put_pages(&self, out: &mut [u8], ram: &[u16]) -> usize
-        requires { length (joined be16 (paged_words (sketched self.now) (words_in ram.now))) ≤ length out.old }
-        ensures { (result ≡ length (joined be16 (paged_words (sketched self.now) (words_in ram.now)))) × (out.new ≡ put_front (joined be16 (paged_words (sketched self.now) (words_in ram.now))) out.old) }
+        requires { length (page_bytes self.now ram.now) ≤ length out.old }
+        ensures length { result ≡ length (page_bytes self.now ram.now) }
+        ensures bytes { out.new ≡ put_front (page_bytes self.now ram.now) out.old }
     {
         let mut at = 0;
         for n in 0..FLIP_ENTRIES {
@@ -88,7 +91,8 @@ impl Sketch {
     // Writes the words of ROM, and those of the pages after them. Returns whether there is a word.
     fn put_both(&self, out: &mut [u8], ram: &[u16]) -> bool
         requires { 2 * max 1 (bin_size (sketched self.now)) ≤ length out.old }
-        ensures { (result ≡ not (eqb (bin_size (sketched self.now)) 0)) × (out.new ≡ put_front (joined be16 (rom_words (sketched self.now) (words_in ram.now) ++ paged_words (sketched self.now) (words_in ram.now))) out.old) }
+        ensures some { result ≡ not (eqb (bin_size (sketched self.now)) 0) }
+        ensures bytes { out.new ≡ put_front (both_bytes self.now ram.now) out.old }
     {
         let a = self.put_roms(out, ram);
         let b = self.put_pages(&mut out[a..], ram);

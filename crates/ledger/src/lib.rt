@@ -112,7 +112,8 @@ impl Sketch {
 
     // Adds the lines of RAM to those of [mapping].
     fn with_rams(&self, names: usize, mapping: Found) -> Found
-        requires { (mapping ≡ list_of (mapping_lines (sketched self.now))) × (mapping.count ≤ most_mapping) × (names ≡ cond (eqb mapping.count 0) 2 3) × (names ≤ 3) }
+        requires lines { (mapping ≡ list_of (mapping_lines (sketched self.now))) × (mapping.count ≤ most_mapping) }
+        requires names { (names ≡ cond (eqb mapping.count 0) 2 3) × (names ≤ 3) }
         ensures { result ≡ list_of (canonical_lines (sketched self.now)) }
     {
         let mut f = mapping;

@@ -12,7 +12,8 @@ use places::{BinWord, Console, Page};
 // The most bytes of a line, its end included, and one more.
 pub const TEXT_SIZE: usize = 32;
 
-// A line: its bytes at the front of a buffer, zeros after them, and their number.
+// A line: its bytes at the front of a buffer, zeros after them, and their number, which stands beside the buffer because the project has no
+// heap.
 #[derive(Clone, Copy)]
 pub struct Text {
     pub bytes: [u8; TEXT_SIZE],

@@ -1,5 +1,5 @@
 -- The lines of a section, one after the other; and the two sections.
-use Prim.Native.Nat.{◌+◌, ◌*◌, ◌-◌, ◌<◌, ◌≤◌, min, suc, ℕ}
+use Prim.Native.Nat.{◌+◌, ◌*◌, ◌-◌, ◌<◌, ◌≤◌, min, ℕ}
 use mathlib.Core.List.{List, [], ◌++◌, ◌∷◌}
 use mathlib.Core.Path.{◌∙◌, ◌≡◌, ap, refl, sym}
 use native.Mathlib.Omega.{arith}
@@ -18,7 +18,7 @@ use Rattle.lines.specs.declared.Entry.TheVariants.{Rom}
 use Rattle.lines.specs.declared.Line.{Line}
 use Rattle.print.specs.Code.Texts.{text_of}
 use Rattle.print.specs.declared.Text.{Text}
-use Rattle.sheet.specs.Code.Sheets.{cfg_lines, entry_bytes, headed, lines_bytes, mapping_name, memattr_name, sections_bytes, sheet_of, sheet_size}
+use Rattle.sheet.specs.Code.Sheets.{both_headed, cfg_lines, entry_bytes, headed, lines_bytes, mapping_name, memattr_name, sheet_of, sheet_size}
 use Rattle.sheet.specs.Laws.Sheets.{cfg_of_front, sections_cfg, text_few, text_front, text_length}
 use Rattle.sheet.specs.declared.Sheet.{Sheet}
 
@@ -122,27 +122,21 @@ module _ (name : List ℕ) (ls : List Line) where
         rw section_is (put_behind name (lines_bytes ls) out₀ out ys 10 k (omega arith) (sym e) ek eo ey)
 
 -- both
-abbrev pub both : List Line → List Line → List ℕ
-both xs ys = headed mapping_name xs ++ headed memattr_name ys
-
 module _ (xs ys : List Line) (a b : ℕ) (ea : a ≡ length (headed mapping_name xs)) (eb : b ≡ length (headed memattr_name ys)) where
-  pub sections_length : a + b ≡ length (both xs ys)
-  sections_length = omega (arith, length-append (headed mapping_name xs) (headed memattr_name ys))
-
   pub sections_put : (out₀ out zs : List ℕ) (k : ℕ) → 20 + 31 * (length xs + length ys) ≤ length out₀ → a ≤ 10 + 31 * length xs → b ≤ 10 + 31 * length ys
       → k ≡ length out - a → out ≡ put_front (headed mapping_name xs) out₀ → zs ≡ put_front (headed memattr_name ys) (take k (drop a out))
-      → put_mid a k out zs ≡ put_front (both xs ys) out₀
+      → put_mid a k out zs ≡ put_front (both_headed xs ys) out₀
   sections_put out₀ out zs k r am bm ek eo ez =
       put_behind (headed mapping_name xs) (headed memattr_name ys) out₀ out zs a k (omega arith) ea ek eo ez
 
 -- the sheet
 pub sheet_is : (mapping m len : ℕ) (ls xs : List Line) (bytes : List ℕ) → xs ≡ take (min (length ls) line_limit) ls → m ≡ min mapping (length xs)
-    → len ≡ length (both (take m xs) (take (length xs - m) (drop m xs))) → bytes ≡ put_front (both (take m xs) (take (length xs - m) (drop m xs))) (replicate sheet_size 0)
+    → len ≡ length (both_headed (take m xs) (take (length xs - m) (drop m xs))) → bytes ≡ put_front (both_headed (take m xs) (take (length xs - m) (drop m xs))) (replicate sheet_size 0)
     → ◌≡◌ {A = Sheet} (record { bytes = bytes; length = len }) (sheet_of (cfg_lines mapping (length ls) ls))
 unfolding sheet_of
 sheet_is mapping m len ls xs bytes ex em el eb =
     let c : ℕ = min (length ls) line_limit in
     let n : length xs ≡ c = ap length ex ∙ length-take-le c ls (omega arith) in
-    let x : both (take m xs) (take (length xs - m) (drop m xs)) ≡ cfg_lines mapping (length ls) ls =
+    let x : both_headed (take m xs) (take (length xs - m) (drop m xs)) ≡ cfg_lines mapping (length ls) ls =
     sections_cfg xs m (length xs - m) ∙ rw (em, n, ex) (cfg_of_front ls c (min mapping c) (omega arith)) in
     rw (el, eb, x)

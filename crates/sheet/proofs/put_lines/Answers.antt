@@ -3,7 +3,7 @@ use mathlib.Core.Path.{◌∙◌, refl}
 use native.Mathlib.Omega.{arith}
 use borrow.Author.Rules.{rules}
 use Rattle.sheet.specs.Laws.Sheets.{text_few}
-use Rattle.sheet.proofs.Loops.{lining_few, lining_fits, lining_length, lining_long, lining_more, lining_none, lining_put, lining_room}
+use Rattle.sheet.proofs.Loops.{lining_few, lining_fits, lining_length, lining_more, lining_none, lining_put, lining_room}
 use Rattle.sheet.proofs.put_lines.Goals as goal
 
 pub loop-l-init : goal.loop-l-init
@@ -22,8 +22,8 @@ pub loop-l-preserved : goal.loop-l-preserved
 loop-l-preserved c =
     lining_more _ _ _ _ _ c.loop-l.invariant c.loop-l-test.true _ c.text_of-text.ensures _ (c.copy_from_slice.ensures.after ∙ c.as_bytes.ensures) _ _ refl refl
 
-pub shape_of-out : goal.shape_of-out
-shape_of-out c = search (rules, lining_long)
+pub returns-clause-length : goal.returns-clause-length
+returns-clause-length c = search (rules, lining_length, lining_few)
 
-pub returns : goal.returns
-returns c = search (rules, lining_length, lining_few, lining_put)
+pub returns-clause-bytes : goal.returns-clause-bytes
+returns-clause-bytes c = search (rules, lining_put)

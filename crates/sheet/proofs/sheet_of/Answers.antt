@@ -7,5 +7,5 @@ use Rattle.sheet.proofs.sheet_of.Goals as goal
 
 pub returns : goal.returns
 returns c =
-    sheet_is c.args.mapping _ _ c.args.lines.now _ _ (ap (λ (k : ℕ). take k c.args.lines.now) c.min.ensures) c.min-m.ensures c.put_sections-length.ensures.0
-    c.put_sections-length.ensures.1
+    sheet_is c.args.mapping _ _ c.args.lines.now _ _ (ap (λ (k : ℕ). take k c.args.lines.now) c.min.ensures) c.min-m.ensures c.put_sections-length.ensures.length
+    c.put_sections-length.ensures.bytes

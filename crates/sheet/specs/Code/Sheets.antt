@@ -46,5 +46,9 @@ mapping_name = line_text (text "[mapping]")
 abbrev pub memattr_name : List ℕ
 memattr_name = line_text (text "[memattr]")
 
+-- both sections
+abbrev pub both_headed : List Line → List Line → List ℕ
+both_headed xs ys = headed mapping_name xs ++ headed memattr_name ys
+
 abbrev pub sections_bytes : List Line → ℕ → ℕ → List ℕ
 sections_bytes ls m n = headed mapping_name (take m (drop 0 ls)) ++ headed memattr_name (take n (drop m ls))

@@ -9,11 +9,17 @@ put_roms-a-requires c = search (rules, roms_fit)
 pub put_pages-b-requires : goal.put_pages-b-requires
 put_pages-b-requires c = search (rules, pages_fit)
 
-pub returns-then-a-ne0 : goal.returns-then-a-ne0
-returns-then-a-ne0 c = search (rules, some_first, both_put)
+pub returns-then-a-ne0-clause-some : goal.returns-then-a-ne0-clause-some
+returns-then-a-ne0-clause-some c = search (rules, some_first)
 
-pub returns-else-a-ne0 : goal.returns-else-a-ne0
-returns-else-a-ne0 c = search (rules, some_second, both_put)
+pub returns-then-a-ne0-clause-bytes : goal.returns-then-a-ne0-clause-bytes
+returns-then-a-ne0-clause-bytes c = search (rules, both_put)
+
+pub returns-else-a-ne0-clause-some : goal.returns-else-a-ne0-clause-some
+returns-else-a-ne0-clause-some c = search (rules, some_second)
+
+pub returns-else-a-ne0-clause-bytes : goal.returns-else-a-ne0-clause-bytes
+returns-else-a-ne0-clause-bytes c = search (rules, both_put)
 
 pub slice_bounds-put_pages-count : goal.slice_bounds-put_pages-count
 slice_bounds-put_pages-count c = search (rules, pages_from)

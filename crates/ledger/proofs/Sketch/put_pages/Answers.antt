@@ -10,8 +10,11 @@ loop-n-init c = search (rules, page_none)
 pub loop-n-preserved : goal.loop-n-preserved
 loop-n-preserved c = elim c.if-self-n.branch [ then-self-n w ↦ search (rules, page_more) | else-self-n w ↦ search (rules, page_off) ]
 
-pub returns : goal.returns
-returns c = search (rules, page_length, page_all)
+pub returns-clause-length : goal.returns-clause-length
+returns-clause-length c = search (rules, page_length)
+
+pub returns-clause-bytes : goal.returns-clause-bytes
+returns-clause-bytes c = search (rules, page_all)
 
 pub slice_bounds-put_words-end : goal.slice_bounds-put_words-end
 slice_bounds-put_words-end c = search (rules, page_room)

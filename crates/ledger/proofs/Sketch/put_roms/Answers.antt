@@ -10,8 +10,11 @@ loop-p-init c = search (rules, rom_none)
 pub loop-p-preserved : goal.loop-p-preserved
 loop-p-preserved c = elim c.if-self-p-eq1.branch [ then-self-p-eq1 w ↦ search (rules, rom_more) | else-self-p-eq1 w ↦ search (rules, rom_off) ]
 
-pub returns : goal.returns
-returns c = search (rules, rom_length, rom_all)
+pub returns-clause-length : goal.returns-clause-length
+returns-clause-length c = search (rules, rom_length)
+
+pub returns-clause-bytes : goal.returns-clause-bytes
+returns-clause-bytes c = search (rules, rom_all)
 
 pub slice_bounds-put_words-end : goal.slice_bounds-put_words-end
 slice_bounds-put_words-end c = search (rules, rom_room)
