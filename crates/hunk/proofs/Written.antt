@@ -4,7 +4,7 @@ use mathlib.Core.List.{List, [], ◌∷◌, ◌++◌, append-nil, append_assoc}
 use mathlib.Core.Path.{◌≡◌, refl, ◌∙◌, ap, ap₂, sym}
 use native.Mathlib.Omega.{arith}
 use lib.ListN.{length, set, take, drop, length-set, length-append, length-drop, length-take}
-use lib.Seq.{drop-drop}
+use lib.Seq.{drop-append_seam, take-append_seam}
 use borrow.Rule.Slice.PartMut.{put_mid}
 use mir.Syntax.{w64}
 use mir.Val.{Fits}
@@ -56,31 +56,20 @@ module _ (f : Form) (out ws : List ℕ) (l : length out ≡ length (data_in f ws
 abbrev blocks_of : List ℕ → List ℕ
 blocks_of ws = joined data_of (cuts_of ws)
 
--- the next cut of the words from i on, up to j
-module _ (ws : List ℕ) (i n j : ℕ) (h : i < length ws) (en : n ≡ min data_words (length ws - i)) (ej : j ≡ i + n) where
-  abbrev cut : List ℕ
-  cut = take (j - i) (drop i ws)
-
-  pub cut_in : j ≤ length ws
-  cut_in = omega arith
-
-  cut_long : length cut ≡ j - i
-  cut_long = length-take (j - i) (drop i ws) ∙ omega (arith, length-drop i ws)
+-- the next cut of the words r, behind which s is left
+module _ (r s cut : List ℕ) (is : r ≡ cut ++ s) (en : length cut ≡ min data_words (length r)) (some : 0 < length r) where
+  pub cut_some : 1 ≤ length cut
+  cut_some = omega arith
 
   piece : Piece cut
-  piece = record { some = omega (arith, cut_long); most = omega (arith, cut_long) }
+  piece = record { some = omega arith; most = omega arith }
 
-  pub cut_some : 1 ≤ length cut
-  cut_some = piece.some
-
-  cut_blocks : blocks_of (drop i ws) ≡ data_of cut ++ blocks_of (drop j ws)
+  cut_blocks : blocks_of r ≡ data_of cut ++ blocks_of s
   unfolding joined
   cut_blocks =
-      let l : length (drop i ws) ≡ length ws - i = length-drop i ws in
-      let t : cut ≡ take data_words (drop i ws) = take_min (j - i) data_words (drop i ws) (omega arith) in
-      let d : drop data_words (drop i ws) ≡ drop j ws =
-      sym (drop_min n data_words (drop i ws) (omega arith)) ∙ drop-drop n i ws ∙ ap (λ (k : ℕ). drop k ws) (sym ej) in
-      ap (joined data_of) (cuts_more (drop i ws) (omega arith)) ∙ ap₂ ◌++◌ (ap data_of (sym t)) (ap blocks_of d)
+      let t : cut ≡ take data_words r = sym (take-append_seam cut s) ∙ ap (take (length cut)) (sym is) ∙ take_min (length cut) data_words r en in
+      let d : s ≡ drop data_words r = sym (drop-append_seam cut s) ∙ ap (drop (length cut)) (sym is) ∙ drop_min (length cut) data_words r en in
+      ap (joined data_of) (cuts_more r some) ∙ ap₂ ◌++◌ (ap data_of (sym t)) (ap blocks_of (sym d))
 
   -- its form, and its bytes
   module _ (f : Form) (ef : f ≡ form_for cut) where
@@ -91,106 +80,93 @@ module _ (ws : List ℕ) (i n j : ℕ) (h : i < length ws) (en : n ≡ min data_
     unfolding data_of
     cut_data = rw ef
 
-    module _ (k : ℕ) (ek : k ≡ size_for f (j - i)) where
-      cut_sized : k ≡ length (data_of cut)
-      cut_sized = ek ∙ ap (size_for f) (sym cut_long) ∙ ap (λ (g : Form). size_for g (length cut)) ef ∙ sym (length_data cut piece)
+    cut_sized : (k : ℕ) → k ≡ size_for f (length cut) → k ≡ length (data_of cut)
+    cut_sized k ek = ek ∙ ap (λ (g : Form). size_for g (length cut)) ef ∙ sym (length_data cut piece)
 
--- the bytes of the data blocks of the words before i are counted
-pub record Sizing (ws : List ℕ) (long i : ℕ) : Type 0 where
-  pub up : i ≤ length ws
-  pub rest : long + length (blocks_of (drop i ws)) ≡ length (blocks_of ws)
-
-pub sizing_all : (ws : List ℕ) (long i : ℕ) → Sizing ws long i → length ws ≤ i → long ≡ length (blocks_of ws)
+-- no words are left
+blocks_none : (r : List ℕ) → length r ≡ 0 → blocks_of r ≡ []
 unfolding joined
-sizing_all ws long i c h =
-    let e : blocks_of (drop i ws) ≡ [] = ap (joined data_of) (cuts_none (drop i ws) (omega (arith, length-drop i ws))) in
-    omega (arith, ap length e, c.rest)
+blocks_none r h = ap (joined data_of) (cuts_none r h)
 
-module _ (ws : List ℕ) (long i n j : ℕ) (c : Sizing ws long i) (h : i < length ws) (en : n ≡ min data_words (length ws - i)) (ej : j ≡ i + n)
-    (f : Form) (ef : f ≡ form_for (take (j - i) (drop i ws))) (k : ℕ) (ek : k ≡ size_for f (j - i)) where
-  counted : long + k + length (blocks_of (drop j ws)) ≡ length (blocks_of ws)
+-- the bytes of the data blocks of the words before r are counted
+pub record Sizing (ws r : List ℕ) (long : ℕ) : Type 0 where
+  pub rest : long + length (blocks_of r) ≡ length (blocks_of ws)
+
+pub sizing_all : (ws r : List ℕ) (long : ℕ) → Sizing ws r long → length r ≡ 0 → long ≡ length (blocks_of ws)
+sizing_all ws r long c h = omega (arith, ap length (blocks_none r h), c.rest)
+
+module _ (ws r : List ℕ) (long : ℕ) (c : Sizing ws r long) (s cut : List ℕ) (is : r ≡ cut ++ s) (en : length cut ≡ min data_words (length r)) (some : 0 < length r)
+    (f : Form) (ef : f ≡ form_for cut) (k : ℕ) (ek : k ≡ size_for f (length cut)) where
+  counted : long + k + length (blocks_of s) ≡ length (blocks_of ws)
   counted =
       omega (
         arith,
         c.rest,
-        cut_sized ws i n j h en ej f ef k ek,
-        ap length (cut_blocks ws i n j h en ej),
-        length-append (data_of (take (j - i) (drop i ws))) (blocks_of (drop j ws)),
+        cut_sized r s cut is en some f ef k ek,
+        ap length (cut_blocks r s cut is en some),
+        length-append (data_of cut) (blocks_of s),
       )
 
   pub sizing_fits : length ws ≤ paragraph_size → Fits w64 (long + k)
   sizing_fits l = omega (arith, counted, cuts_most ws)
 
-  pub sizing_more : Sizing ws (long + k) j
-  sizing_more = record { up = cut_in ws i n j h en ej; rest = counted }
+  pub sizing_more : Sizing ws s (long + k)
+  sizing_more = record { rest = counted }
 
--- the data blocks of the words before i are written
-pub record Writing (ws out₀ out : List ℕ) (p i : ℕ) : Type 0 where
-  pub up : i ≤ length ws
+-- the data blocks of the words before r are written
+pub record Writing (ws r out₀ out : List ℕ) (p : ℕ) : Type 0 where
   pub long : length out₀ ≡ length (blocks_of ws)
   pub x : List ℕ
   pub wrote : Wrote out₀ out x
   pub place : p ≡ length x
-  pub rest : x ++ blocks_of (drop i ws) ≡ blocks_of ws
+  pub rest : x ++ blocks_of r ≡ blocks_of ws
 
-module _ (ws out₀ out : List ℕ) (p i : ℕ) (c : Writing ws out₀ out p i) where
-  pub writing_long : length out ≡ length out₀
+module _ (ws r out₀ out : List ℕ) (p : ℕ) (c : Writing ws r out₀ out p) where
+  writing_long : length out ≡ length out₀
   writing_long = wrote_long out₀ out c.x c.wrote
 
-  pub writing_all : length ws ≤ i → out ≡ blocks_of ws
-  unfolding joined
+  pub writing_all : length r ≡ 0 → out ≡ blocks_of ws
   writing_all h =
-      let e : blocks_of (drop i ws) ≡ [] = ap (joined data_of) (cuts_none (drop i ws) (omega (arith, length-drop i ws))) in
-      let f : c.x ≡ blocks_of ws = sym (append-nil c.x) ∙ ap (◌++◌ c.x) (sym e) ∙ c.rest in
+      let f : c.x ≡ blocks_of ws = sym (append-nil c.x) ∙ ap (◌++◌ c.x) (sym (blocks_none r h)) ∙ c.rest in
       wrote_all out₀ out c.x c.wrote (ap length f ∙ sym c.long) ∙ f
 
-  module _ (n j : ℕ) (h : i < length ws) (en : n ≡ min data_words (length ws - i)) (ej : j ≡ i + n)
-      (f : Form) (ef : f ≡ form_for (take (j - i) (drop i ws))) (k : ℕ) (ek : k ≡ size_for f (j - i)) where
-    next_sized : k ≡ length (data_of (take (j - i) (drop i ws)))
-    next_sized = cut_sized ws i n j h en ej f ef k ek
+  module _ (s cut : List ℕ) (is : r ≡ cut ++ s) (en : length cut ≡ min data_words (length r)) (some : 0 < length r)
+      (f : Form) (ef : f ≡ form_for cut) (k : ℕ) (ek : k ≡ size_for f (length cut)) where
+    next_sized : k ≡ length (data_of cut)
+    next_sized = cut_sized r s cut is en some f ef k ek
 
     next_room : p + k ≤ length out
     next_room =
-        let l : length c.x + length (blocks_of (drop i ws)) ≡ length (blocks_of ws) = sym (length-append c.x (blocks_of (drop i ws))) ∙ ap length c.rest in
+        let l : length c.x + length (blocks_of r) ≡ length (blocks_of ws) = sym (length-append c.x (blocks_of r)) ∙ ap length c.rest in
         omega (
           arith,
           writing_long,
           c.long,
           c.place,
           next_sized,
-          ap length (cut_blocks ws i n j h en ej),
-          length-append (data_of (take (j - i) (drop i ws))) (blocks_of (drop j ws)),
+          ap length (cut_blocks r s cut is en some),
+          length-append (data_of cut) (blocks_of s),
         )
 
-    module _ (e : ℕ) (ee : e ≡ p + k) where
-      pub writing_room : e ≤ length out
-      writing_room = omega (arith, next_room)
+    pub writing_room : p + k ≤ length out
+    writing_room = next_room
 
-      pub writing_more : (ys : List ℕ) → ys ≡ data_in f (take (j - i) (drop i ws)) → Writing ws out₀ (put_mid p (e - p) out ys) e j
-      writing_more ys ey =
-          let y : List ℕ = data_of (take (j - i) (drop i ws)) in
-          record {
-            up = cut_in ws i n j h en ej;
-            long = c.long;
-            x = c.x ++ y;
-            wrote = wrote_part out₀ out c.x p (e - p) ys y c.wrote c.place (omega (arith, next_sized)) (omega (arith, writing_room, writing_long)) (ey ∙ cut_data ws i n j h en ej f ef);
-            place = omega (arith, length-append c.x y, c.place, next_sized);
-            rest = append_assoc c.x y (blocks_of (drop j ws)) ∙ ap (◌++◌ c.x) (sym (cut_blocks ws i n j h en ej)) ∙ c.rest;
-          }
+    -- the part that the next data block is lent
+    pub writing_part : length (take (p + k - p) (drop p out)) ≡ length (data_in f cut)
+    writing_part =
+        length-take (p + k - p) (drop p out)
+        ∙ omega (arith, next_room, next_sized, length-drop p out, ap length (cut_data r s cut is en some f ef))
 
--- the part that the next data block is lent
-pub writing_part : (ws out₀ out : List ℕ) (p i n k : ℕ) (f : Form) → Writing ws out₀ out p i → i < length ws → n ≡ min data_words (length ws - i)
-    → f ≡ form_for (take (i + n - i) (drop i ws)) → k ≡ size_for f (i + n - i)
-    → length (take (p + k - p) (drop p out)) ≡ length (data_in f (take (i + n - i) (drop i ws)))
-writing_part ws out₀ out p i n k f c h en ef ek =
-    length-take (p + k - p) (drop p out)
-    ∙ omega (
-      arith,
-      next_room ws out₀ out p i c n (i + n) h en refl f ef k ek,
-      next_sized ws out₀ out p i c n (i + n) h en refl f ef k ek,
-      length-drop p out,
-      ap length (cut_data ws i n (i + n) h en refl f ef),
-    )
+    pub writing_more : (ys : List ℕ) → ys ≡ data_in f cut → Writing ws s out₀ (put_mid p (p + k - p) out ys) (p + k)
+    writing_more ys ey =
+        let y : List ℕ = data_of cut in
+        record {
+          long = c.long;
+          x = c.x ++ y;
+          wrote = wrote_part out₀ out c.x p (p + k - p) ys y c.wrote c.place (omega (arith, next_sized)) (omega (arith, next_room, writing_long)) (ey ∙ cut_data r s cut is en some f ef);
+          place = omega (arith, length-append c.x y, c.place, next_sized);
+          rest = append_assoc c.x y (blocks_of s) ∙ ap (◌++◌ c.x) (sym (cut_blocks r s cut is en some)) ∙ c.rest;
+        }
 
 -- a whole payload
 pub payload_sized : (n : ℕ) (ws : List ℕ) → n ≡ length (blocks_of ws) → 3 + n ≡ payload_size ws

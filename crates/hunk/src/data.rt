@@ -59,11 +59,8 @@ pub(crate) fn cuts_size(words: &[u16]) -> usize
     ensures { result ≡ length (joined data_of (cuts_of words.now)) }
 {
     let mut long = 0;
-    let mut i = 0;
-    while i < words.len() {
-        let j = i + DATA_WORDS.min(words.len() - i);
-        long = long + size_of(form_for(&words[i..j]), j - i);
-        i = j;
+    for cut in words.chunks(DATA_WORDS) {
+        long += size_of(form_for(cut), cut.len());
     }
     long
 }
@@ -74,13 +71,10 @@ pub(crate) fn write_cuts(out: &mut [u8], words: &[u16])
     ensures { out.new ≡ joined data_of (cuts_of words.now) }
 {
     let mut p = 0;
-    let mut i = 0;
-    while i < words.len() {
-        let j = i + DATA_WORDS.min(words.len() - i);
-        let f = form_for(&words[i..j]);
-        let e = p + size_of(f, j - i);
-        write_data(&mut out[p..e], &words[i..j], f);
+    for cut in words.chunks(DATA_WORDS) {
+        let f = form_for(cut);
+        let e = p + size_of(f, cut.len());
+        write_data(&mut out[p..e], cut, f);
         p = e;
-        i = j;
     }
 }
