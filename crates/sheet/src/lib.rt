@@ -15,6 +15,7 @@ pub const SHEET_SIZE: usize = 4096;
 
 // A written CFG: its bytes at the front of a buffer, zeros after them, and their number, which stands beside the buffer because the project
 // has no heap.
+// It differs from `print::Text` by its size alone, but theorems of specs/ name both types.
 #[derive(Clone, Copy)]
 pub struct Sheet {
     pub bytes: [u8; SHEET_SIZE],
