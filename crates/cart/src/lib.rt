@@ -13,7 +13,7 @@ ghost use Rattle.cart.specs.Cells.{READ, locate, rights_of, cell_at, window_cell
 ghost use Rattle.cart.specs.Readable.{readable_in, readable_of, recounted};
 ghost use Rattle.cart.specs.Reads.{silent, heard, fetched, register_source, window_source, mapped_source, source_of, read_by};
 ghost use Rattle.cart.specs.Writes.{stored_word, stored, flip_taker, mapped_taker, window_taker, taker_of, left_by, assigned_by, readable_by, leaves, leaves_ram, leaves_flash, assigned, leaves_readable};
-ghost use Rattle.cart.specs.Cartridges.{assembled, fresh, with_active, read_of, written_of, write_ram_of, write_flash_of, reset_of};
+ghost use Rattle.cart.specs.Cartridges.{fresh, read_of, written_of, write_ram_of, write_flash_of, reset_of};
 
 use flash::Saves;
 use jlp::Jlp;
@@ -230,8 +230,7 @@ pub fn read_by<'a>(
 pub fn read(c: Cartridge, ram: &[u16], at: Console) -> Option<u16>
     ensures { result ≡ read_of c ram.now at }
 {
-    let j = c.jlp;
-    read_by(&c.mapping, &c.permissions, j, ram, at)
+    read_by(&c.mapping, &c.permissions, c.jlp, ram, at)
 }
 
 // The half-page whose register an address is, where it may be switched.
@@ -465,29 +464,6 @@ pub fn write_by<'a>(
     }
 }
 
-// A cartridge of these tables, that keeps this number of readable paragraphs and these accelerators: every cartridge is made here.
-fn assembled(
-    initial_mapping: [u16; PARAGRAPHS],
-    initial_permissions: [u8; PARAGRAPHS],
-    mapping: [u16; PARAGRAPHS],
-    permissions: [u8; PARAGRAPHS],
-    flips: [u16; FLIP_ENTRIES],
-    readable: u16,
-    j: Jlp,
-) -> Cartridge
-    ensures { result ≡ assembled (active initial_mapping initial_permissions) (active mapping permissions) flips readable j }
-{
-    Cartridge {
-        initial_mapping,
-        initial_permissions,
-        mapping,
-        permissions,
-        flips,
-        readable,
-        jlp: j,
-    }
-}
-
 // A cartridge as loaded with these accelerators: the active tables are the initial ones.
 pub fn fresh(
     j: Jlp,
@@ -497,65 +473,42 @@ pub fn fresh(
 ) -> Cartridge
     ensures { result ≡ fresh j mapping permissions flips }
 {
-    let readable = readable_of(&permissions);
-    assembled(
-        mapping,
-        permissions,
-        mapping,
-        permissions,
-        flips,
-        readable,
-        j,
-    )
-}
-
-// The cartridge with other active tables, this number of readable paragraphs, and these accelerators.
-fn with_active(
-    c: Cartridge,
-    mapping: [u16; PARAGRAPHS],
-    permissions: [u8; PARAGRAPHS],
-    readable: u16,
-    j: Jlp,
-) -> Cartridge
-    ensures { result ≡ with_active c (active mapping permissions) readable j }
-{
-    let initial_mapping = c.initial_mapping;
-    let initial_permissions = c.initial_permissions;
-    let flips = c.flips;
-    assembled(
-        initial_mapping,
-        initial_permissions,
+    Cartridge {
+        initial_mapping: mapping,
+        initial_permissions: permissions,
         mapping,
         permissions,
         flips,
-        readable,
-        j,
-    )
+        readable: readable_of(&permissions),
+        jlp: j,
+    }
 }
 
-pub fn write(c: Cartridge, ram: &mut [u16], flash: &mut [u16], at: Console, value: u16) -> Written
+pub fn write(
+    mut c: Cartridge,
+    ram: &mut [u16],
+    flash: &mut [u16],
+    at: Console,
+    value: u16,
+) -> Written
     ensures { (result ≡ written_of c at value)
         × (ram.new ≡ write_ram_of c flash.old ram.old at value)
         × (flash.new ≡ write_flash_of c flash.old ram.old at value) }
 {
-    let mut m = c.mapping;
-    let mut p = c.permissions;
-    let mut readable = c.readable;
-    let j = c.jlp;
     let assigned = write_by(
-        &mut m,
-        &mut p,
+        &mut c.mapping,
+        &mut c.permissions,
         &c.flips,
-        &mut readable,
-        j,
+        &mut c.readable,
+        c.jlp,
         ram,
         flash,
         at,
         value,
     );
-    let k = jlp::write(j, at, value);
+    c.jlp = jlp::write(c.jlp, at, value);
     Written {
-        cartridge: with_active(c, m, p, readable, k),
+        cartridge: c,
         assigned,
     }
 }
@@ -563,9 +516,11 @@ pub fn write(c: Cartridge, ram: &mut [u16], flash: &mut [u16], at: Console, valu
 pub fn reset(c: Cartridge) -> Cartridge
     ensures { result ≡ reset_of c }
 {
-    let m = c.initial_mapping;
-    let p = c.initial_permissions;
-    let readable = readable_of(&p);
-    let j = c.jlp;
-    with_active(c, m, p, readable, jlp::reset(j))
+    Cartridge {
+        mapping: c.initial_mapping,
+        permissions: c.initial_permissions,
+        readable: readable_of(&c.initial_permissions),
+        jlp: jlp::reset(c.jlp),
+        ..c
+    }
 }

@@ -2,13 +2,11 @@
 // And what each page of a chapter shows.
 #![tactic(auto)]
 
-ghost use Rattle.std.specs.Prelude.{◌/◌, ◌≡◌, ◌&&◌};
+ghost use Rattle.std.specs.Prelude.{◌/◌, ◌≡◌};
 ghost use Rattle.places.specs.Limits.{chapter_paragraphs};
-ghost use Rattle.jlp.specs.Window.{in_window};
 ghost use Rattle.chart.specs.Chart.{start_of, has_pages, is_paged, kind_of, shown_at, page_of, leaf_at};
 
 use cart::Cartridge;
-use jlp::Jlp;
 use places::{
     CHAPTER_PAGES, CHAPTER_PARAGRAPHS, Console, FLIP_ENTRIES, LOCUTUS_PARAGRAPHS, PAGE_PARAGRAPHS,
     PARAGRAPH_SIZE,
@@ -43,27 +41,12 @@ fn start_of(p: u8) -> Console
     Console((p as usize * PARAGRAPH_SIZE) as u16)
 }
 
-// The accelerators' window, while they are on.
-fn is_theirs(j: Jlp, at: Console) -> bool
-    ensures { result ≡ (j.on && in_window at) }
-{
-    if !j.on {
-        return false;
-    }
-    jlp::in_window(at)
-}
-
 // The chapter of paragraph p has a flip entry that acts.
 pub fn has_pages(flips: &[u16; FLIP_ENTRIES], p: u8) -> bool
     ensures { result ≡ has_pages flips.now (p / chapter_paragraphs) }
 {
     let x = p as usize / CHAPTER_PARAGRAPHS;
-    for y in 0..CHAPTER_PAGES {
-        if switches::acts(flips, (CHAPTER_PAGES * x + y) as u8) {
-            return true;
-        }
-    }
-    false
+    (0..CHAPTER_PAGES).any(|y| switches::acts(flips, (CHAPTER_PAGES * x + y) as u8))
 }
 
 // Paragraph p is one that such an entry changes.
@@ -71,10 +54,7 @@ pub fn is_paged(flips: &[u16; FLIP_ENTRIES], p: u8) -> bool
     ensures { result ≡ is_paged flips.now p }
 {
     let i = p as usize;
-    if i % CHAPTER_PARAGRAPHS < switches::first_k(i / CHAPTER_PARAGRAPHS) {
-        return false;
-    }
-    has_pages(flips, p)
+    switches::first_k(i / CHAPTER_PARAGRAPHS) <= i % CHAPTER_PARAGRAPHS && has_pages(flips, p)
 }
 
 // What words with this permission are to the console.
@@ -99,18 +79,16 @@ pub fn shown_at(c: Cartridge, p: u8) -> Shown
     ensures { result ≡ shown_at c p }
 {
     let at = start_of(p);
-    let j = c.jlp;
     if cart::is_silent(at) {
         return Shown::Silent;
     }
-    if is_theirs(j, at) {
+    if c.jlp.on && jlp::in_window(at) {
         return Shown::Accelerators;
     }
     if is_paged(&c.flips, p) {
         return Shown::Paged;
     }
-    let i = p as usize;
-    kind_of(c.permissions[i])
+    kind_of(c.permissions[p as usize])
 }
 
 // The page of the cartridge's RAM that a flip entry names.

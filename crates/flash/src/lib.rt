@@ -102,12 +102,7 @@ fn is_empty(s: &[u16], a: usize) -> bool
     requires { a + row_words ≤ length s.now }
     ensures { result ≡ empty_at s.now a }
 {
-    for i in 0..ROW_WORDS {
-        if s[a + i] != ERASED_WORD {
-            return false;
-        }
-    }
-    true
+    (0..ROW_WORDS).all(|i| s[a + i] == ERASED_WORD)
 }
 
 // 96 words from place a of one memory to place b of another.

@@ -8,7 +8,6 @@ use lib.Bits.{bit_xor, xor_lt}
 use Rattle.std.proofs.Common.{lit<}
 use Rattle.sums.specs.Laws.Crc.{bits_lt}
 use lib.Dec.{eqb, ltb}
-use lib.ListN.{set}
 use borrow.Author.Tests.{eq-eqb, ne_eqb}
 use Rattle.basics.specs.Laws.Tests.{cases, not-true, not-false, true_is_not_false, and_false, or_right, cond_true}
 use Rattle.places.specs.declared.Console.{Console}
@@ -21,7 +20,7 @@ use Rattle.jlp.specs.declared.Results.{Results}
 use Rattle.jlp.specs.Window.{between, in_window, is_operand, operands_start, operands_end}
 use Rattle.jlp.specs.Arith.{word_values, long_values, number_of, word_of, unlike, results, product_of, multiplied, quotient_of, divided}
 use Rattle.jlp.specs.Crc.{jlp_poly, crc_word}
-use Rattle.jlp.specs.Accelerators.{with_on, turns_on, turns_off, takes, function_of, computed, operated, operand_count, crc_after, with_crc_and_saves, written_on, written_jlp}
+use Rattle.jlp.specs.Accelerators.{with_on, turns_on, turns_off, takes, function_of, operated, operand_count, crc_after, with_crc_and_saves, written_on, written_jlp}
 use Rattle.jlp.specs.Laws.Values.{signs}
 use Rattle.jlp.specs.Laws.Window.{between_low, between_high}
 use Rattle.jlp.specs.Laws.Accelerators.{on_in_window, off_takes}
@@ -107,11 +106,6 @@ operand_from a b e t = between_low _ _ _ (sym e ∙ t)
 
 pub operand_below : (a : ℕ) (b : Bool) → b ≡ between operands_start operands_end a → b ≡ true → a - operands_start < operand_count
 operand_below a b e t = omega (arith, between_high _ _ _ (sym e ∙ t))
-
--- an operand that is stored, with its function's results
-pub operate_is : (j : Jlp) (k v : ℕ) (r : Results) → r ≡ computed (k / 2) (set j.operands k v) j.results
-    → record { field = j.field; on = j.on; operands = set j.operands k v; results = r; crc = j.crc; saves = j.saves } ≡ operated j k v
-operate_is j k v r e = rw e
 
 module _ (j : Jlp) (at : Console) where
   -- a write is not in the window, or comes while on, or while off

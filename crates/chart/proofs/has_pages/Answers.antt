@@ -1,19 +1,14 @@
--- `chart::has_pages` meets its contract. The loop's invariant: none of the chapter's first y entries acts.
-use mathlib.Core.Path.{sym}
-use native.Mathlib.Omega.{arith}
-use borrow.Author.Rules.{rules}
-use Rattle.basics.specs.Laws.Counts.{any_none}
-use Rattle.chart.proofs.Laws.{pages_found, pages_next, pages_none}
+-- `chart::has_pages` meets its contract: any of the chapter's entries.
+use Rattle.std.proofs.Common.{rules, arith, refl, ◌+◌, ◌*◌, ◌/◌}
+use Rattle.std.proofs.lemmas.Iterator.{YieldsList-from_range}
+use Rattle.basics.specs.Laws.Ranges.{any_below}
+use Rattle.places.specs.Limits.{chapter_pages, chapter_paragraphs}
+use Rattle.switches.specs.Flips.{acts}
+use Rattle.chart.specs.Chart.{has_pages}
 use Rattle.chart.proofs.has_pages.Goals as goal
 
-pub loop-y-init : goal.loop-y-init
-loop-y-init c = (omega arith, omega arith, sym (any_none _))
-
-pub returns-then-acts : goal.returns-then-acts
-returns-then-acts c = search (rules, pages_found)
-
-pub loop-y-preserved : goal.loop-y-preserved
-loop-y-preserved c = search (rules, pages_next)
-
 pub returns : goal.returns
-returns c = search (rules, pages_none)
+unfolding has_pages
+returns c =
+    any_below (λ y. acts c.args.flips.now (chapter_pages * (c.args.p / chapter_paragraphs) + y)) _ _ _ c.any.ensures.ran (YieldsList-from_range 0 _ 16 refl (omega arith))
+    (λ x b q k. search rules)

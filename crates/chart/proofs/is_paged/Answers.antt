@@ -1,10 +1,13 @@
--- `chart::is_paged` meets its contract: below the paragraphs that a flip changes, and among them.
-use borrow.Author.Rules.{rules}
-use Rattle.chart.proofs.Laws.{paged_below, paged_among}
+-- `chart::is_paged` meets its contract: its two tests are those of `is_paged`.
+use Rattle.std.proofs.Common.{rules}
+use Rattle.basics.specs.Laws.Tests.{tests}
+use Rattle.chart.specs.Chart.{is_paged}
 use Rattle.chart.proofs.is_paged.Goals as goal
 
-pub returns-then-i-first_k : goal.returns-then-i-first_k
-returns-then-i-first_k c = search (rules, paged_below)
+pub returns-then-first_k-i : goal.returns-then-first_k-i
+unfolding is_paged
+returns-then-first_k-i c = search (rules, tests)
 
-pub returns : goal.returns
-returns c = search (rules, paged_among)
+pub returns-else-first_k-i : goal.returns-else-first_k-i
+unfolding is_paged
+returns-else-first_k-i c = search (rules, tests)

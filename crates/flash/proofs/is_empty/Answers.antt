@@ -1,16 +1,11 @@
--- `flash::is_empty` meets its contract. The loop's invariant: the first i words are erased.
-use Rattle.flash.proofs.Laws.{empty_none, empty_more, empty_not, empty_all}
-use borrow.Author.Rules.{rules}
+-- `flash::is_empty` meets its contract: each of the words.
+use Rattle.std.proofs.Common.{rules, arith, refl}
+use Rattle.std.proofs.lemmas.Iterator.{YieldsList-from_range}
+use Rattle.basics.specs.Laws.Ranges.{all_below}
+use Rattle.flash.specs.Flash.{is_erased, empty_at}
 use Rattle.flash.proofs.is_empty.Goals as goal
 
-pub loop-i-init : goal.loop-i-init
-loop-i-init c = search (rules, empty_none)
-
-pub returns-then-s-a : goal.returns-then-s-a
-returns-then-s-a c = search (rules, empty_not)
-
-pub loop-i-preserved : goal.loop-i-preserved
-loop-i-preserved c = search (rules, empty_more)
-
 pub returns : goal.returns
-returns c = search (rules, empty_all)
+unfolding empty_at
+returns c =
+    all_below (is_erased c.args.s.now c.args.a) _ _ _ c.all.ensures.ran (YieldsList-from_range 0 _ 96 refl (omega arith)) (λ x b q k. search rules)
