@@ -14,6 +14,7 @@ use std::io::Read;
 use std::os::fd::AsRawFd;
 
 // What was read of a file: how many bytes stand at the buffer's front, and which file it was. Of a longer one the buffer is full.
+// It is a count, as std's `read` answers, and no slice, so that the caller may fill the buffer again.
 #[derive(Clone, Copy)]
 pub struct Reading {
     pub n: usize,
