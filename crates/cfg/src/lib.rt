@@ -59,6 +59,7 @@ fn store(mut lines: [Line; LINE_LIMIT], at: usize, e: Line) -> [Line; LINE_LIMIT
     lines
 }
 
+#[tactic(auto, unfolding(crate::specs::File::outside_from, crate::specs::File::entries_from, crate::specs::Code::Steps::section_from))]
 fn start() -> Scan
     ensures { result ≡ scan_of [] }
 {

@@ -15,7 +15,6 @@ use Rattle.places.specs.declared.Page.{Page}
 use Rattle.places.specs.Places.{bin_word, console, page}
 use Rattle.text.specs.Spelling.{is}
 use Rattle.lines.specs.declared.Width.{Width}
-use Rattle.lines.specs.declared.Width.TheVariants.{Sixteen, Eight}
 use Rattle.lines.specs.declared.Entry.{Entry}
 use Rattle.lines.specs.declared.Entry.TheVariants.{Rom, Paged}
 use Rattle.grammar.specs.declared.Says.{Says}
@@ -127,28 +126,3 @@ module _ (ws : List (List ℕ)) (n : ℕ) (so : n ≡ length ws) where
     pub more_words : (n ≡ 0 → ⊥) → (n ≡ 1 → ⊥) → (r : Says) → r ≡ entry_line sec ws → r ≡ words_say sec ws
     unfolding words_say
     more_words h k r e = rw (← so, ne_eqb n 0 h, ne_eqb n 1 k) e
-
--- the bits of a RAM word
-module _ (w : List ℕ) (s t : Bool) (p : s ≡ is "16" w) where
-  pub bits_sixteen : s ≡ true → Some Sixteen ≡ option_map width_of (bits w)
-  unfolding bits
-  bits_sixteen e = rw (← p, e)
-
-  pub bits_eight : s ≡ false → t ≡ is "8" w → t ≡ true → Some Eight ≡ option_map width_of (bits w)
-  unfolding bits
-  bits_eight e q f = rw (← p, e, ← q, f)
-
-  pub bits_neither : s ≡ false → t ≡ is "8" w → t ≡ false → None ≡ option_map width_of (bits w)
-  unfolding bits
-  bits_neither e q f = rw (← p, e, ← q, f)
-
--- a choice by two flags
-module _ {A : Type 0} (x y z : A) (b c s t : Bool) (p : s ≡ b) where
-  pub by_first : s ≡ true → x ≡ cond b x (cond c y z)
-  by_first e = rw (← p, e)
-
-  pub by_second : s ≡ false → t ≡ c → t ≡ true → y ≡ cond b x (cond c y z)
-  by_second e q f = rw (← p, e, ← q, f)
-
-  pub by_neither : s ≡ false → t ≡ c → t ≡ false → z ≡ cond b x (cond c y z)
-  by_neither e q f = rw (← p, e, ← q, f)

@@ -180,6 +180,7 @@ fn page_at(line: &[u8], k: usize) -> Option<Page>
     Some(Page(hex(w)? as u8))
 }
 
+#[tactic(auto, unfolding(crate::specs::Grammar::bits))]
 fn width_at(line: &[u8], k: usize) -> Option<Width>
     ensures { result ≡ option_map width_of (bits (word (words_of line.now) k)) }
 {
@@ -228,6 +229,7 @@ fn memattr_line(line: &[u8]) -> Option<Entry>
 }
 
 // A section's name.
+#[tactic(auto, unfolding(crate::specs::Grammar::heading_line))]
 fn heading_line(w: &[u8]) -> Says
     ensures { result ≡ heading_line w.now }
 {

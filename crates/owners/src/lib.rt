@@ -82,6 +82,7 @@ fn claim_pages(owners: &[u32; FLIP_ENTRIES], e: Entry, number: u32) -> [u32; FLI
 }
 
 // The owners after one more line.
+#[tactic(auto, unfolding(crate::specs::Owners::claimed_both))]
 pub fn claim(owners: Owners, l: Line) -> Owners
     ensures { result ≡ claimed_both owners l }
 {

@@ -77,6 +77,5 @@ pub const LOCUTUS_PARAGRAPHS: usize = 2048;
 pub fn lent_words(ram: &[u16]) -> usize
     ensures { (result ≡ lent ram.now) × (result ≤ length ram.now) }
 {
-    let n = ram.len();
-    if n < LENT_LIMIT { n } else { LENT_LIMIT }
+    ram.len().min(LENT_LIMIT)
 }

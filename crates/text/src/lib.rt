@@ -44,7 +44,10 @@ pub fn first_foreign(text: &[u8]) -> usize
 pub fn line_of(text: &[u8], at: usize) -> usize
     ensures { result ≡ line_of text.now at }
 {
-    1 + text[..at.min(text.len())].iter().filter(|b| **b == b'\n').count()
+    1 + text[..at.min(text.len())]
+        .iter()
+        .filter(|b| **b == b'\n')
+        .count()
 }
 
 // Whether a line ends at a byte, with `next` behind it.
@@ -125,6 +128,7 @@ pub fn digit_of(b: u8) -> u32
 }
 
 // The hex digit of a number's lowest four bits, in upper case.
+#[tactic(auto, unfolding(crate::specs::Spelling::upper_digit))]
 pub fn upper_digit(n: u32) -> u8
     ensures { result ≡ upper_digit (n % 16) }
 {

@@ -7,4 +7,3 @@ use Rattle.text.proofs.first_foreign.Given as goal
 
 abbrev pub invariant-loop-i : goal.invariant-loop-i
 invariant-loop-i l = first_foreign l.text ≡ l.i + until foreign (drop l.i l.text)
-

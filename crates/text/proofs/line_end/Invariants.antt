@@ -8,4 +8,3 @@ use Rattle.text.proofs.line_end.Given as goal
 
 abbrev pub invariant-loop-i : goal.invariant-loop-i
 invariant-loop-i l = line_end l.text l.at ≡ l.i + until ends (drop l.i l.text)
-
