@@ -169,6 +169,7 @@ fn judge(st: Scan) -> Result<Lines, Refusal>
     if let Some(line) = st.extra {
         return Err(refuse(24, line as usize));
     }
+    // The check does not cover an array's field that goes straight into a literal.
     let lines = st.lines;
     Ok(Lines {
         count: st.count,

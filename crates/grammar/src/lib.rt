@@ -85,7 +85,7 @@ fn next_word(line: &[u8], at: usize) -> Word
     Word { start, end }
 }
 
-// How many words a line has.
+// How many words a line has. Each word says where the next one starts, so the loop is no count of places.
 fn word_count(line: &[u8]) -> usize
     ensures { result ≡ length (words_of line.now) }
 {
