@@ -4,7 +4,7 @@ ghost use Rattle.jlp.specs.Arith.{word_values, long_values, number_of, word_of, 
 
 use crate::Results;
 
-// A number by its sign and its size.
+// A number by its sign and its size. It is no signed integer, since the promises of `number_of`, `product` and `quotient` name the sign and the size.
 #[derive(Clone, Copy)]
 pub(crate) struct Number {
     negative: bool,

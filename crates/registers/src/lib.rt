@@ -16,7 +16,7 @@ use std::array;
 // As many words hold the accelerators: the JLP field, 1 for on, the operands, the two results, the CRC; the flash's sectors, address and row.
 pub const ACCELERATOR_WORDS: usize = 20;
 
-// The accelerators, laid out.
+// The accelerators, laid out. The words are listed, since a table that is filled in steps is no plainer.
 pub fn words_of(j: Jlp) -> [u16; ACCELERATOR_WORDS]
     ensures { result ≡ words_of j }
 {
