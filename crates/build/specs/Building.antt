@@ -1,9 +1,10 @@
 -- What building answers and what it leaves in the lent buffer (01, How an image is laid out by the builder; Numbers that come back).
-use Rattle.std.specs.Prelude.{ℕ, ◌%◌, List, ◌∷◌, [], ◌++◌, Bool, cond, ◌||◌, replicate, length, drop, eqb, ltb}
+use Rattle.std.specs.Prelude.{ℕ, ◌%◌, List, ◌∷◌, [], ◌++◌, Bool, cond, ◌||◌, replicate, length, drop, eqb, ltb, Result, Ok, Err}
 use Rattle.basics.specs.declared.Refusal.{Refusal}
+use Rattle.basics.specs.declared.Declined.{Declined}
 use Rattle.basics.specs.Bytes.{le32}
 use Rattle.basics.specs.Rows.{Row}
-use Rattle.basics.specs.Refusals.{refuse, no_refusal, first_refusal, passes}
+use Rattle.basics.specs.Refusals.{refuse, no_refusal, first_refusal, passes, outcome_at}
 use Rattle.places.specs.Limits.{locutus_paragraphs, bin_limit, lent_limit}
 use Rattle.sums.specs.Crc.{crc32_of}
 use Rattle.tables.specs.Tables.{Tables, tables}
@@ -15,7 +16,22 @@ use Rattle.lines.specs.Bin.{bin_words}
 use Rattle.cfg.specs.File.{entries_of, refusal_rows as cfgRows}
 use Rattle.rules.specs.Rules.{refusal_rows as ruleRows}
 use Rattle.layout.specs.Layout.{mapping_table, permissions_table, flip_table, covered, paragraph_words, needed}
-use Rattle.build.specs.declared.Building.{Building}
+use Rattle.build.specs.declared.Built.{Built}
+
+-- What a build answers: its refusal; the image's length, also where the buffer is too short for it; and the words of RAM that the
+-- image needs. And how the code says it.
+pub record Building : Type 0 where
+  pub refusal : Refusal
+  pub length : ℕ
+  pub needed : ℕ
+
+abbrev pub outcome_of : Building → Result Built Declined
+outcome_of b = outcome_at b.refusal b.length (record { length = b.length; needed = b.needed })
+
+-- and back
+abbrev pub building_from : Result Built Declined → Building
+building_from (Ok b) = record { refusal = no_refusal; length = b.length; needed = b.needed }
+building_from (Err d) = record { refusal = d.refusal; length = d.length; needed = 0 }
 
 -- the flag bytes: 0x55, 0x05, other flag bytes 0; the UID: CRC32 of the BIN, then of the CFG
 abbrev pub flag_bytes : List ℕ

@@ -2,3 +2,4 @@
 pub mod Image
 pub mod Press
 pub mod Label
+pub mod Outcome

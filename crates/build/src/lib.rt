@@ -2,121 +2,78 @@
 #![tactic(auto)]
 
 ghost use Rattle.std.specs.Prelude.{◌+◌, ◌*◌, ◌≤◌, ◌≡◌, false, ltb, length, take};
-ghost use Rattle.basics.specs.Bytes.{le32};
 ghost use Rattle.basics.specs.Lists.{part};
 ghost use Rattle.places.specs.Limits.{lent_limit, line_limit, page_size};
 ghost use Rattle.label.specs.Label.{wrong_label};
 ghost use Rattle.save.specs.Writing.{writing_of, written_of};
-ghost use Rattle.cfg.specs.File.{entries_of};
 ghost use Rattle.rules.specs.Accepted.{Accepted};
-ghost use Rattle.build.specs.Building.{flag_bytes, uid_of, wrong_bin, building_of, built_of};
-ghost use Rattle.build.specs.Code.Answers.{answered_of, bare, drawnContent, front_size, labelPut, labelledOf, labelledLeft, Read, Answers, Pressed};
+ghost use Rattle.build.specs.Building.{uid_of, wrong_bin, outcome_of, building_of, built_of};
+ghost use Rattle.build.specs.Code.Answers.{drawnContent, front_size, labelPut, labelledOf, labelledLeft, written_as, Pressed};
 
-use basics::{Refusal, either, high, low};
+use basics::{Declined, refuse};
 use blocks::FRAME_SIZE;
-use header::UID_SIZE;
+use header::{FLAGS_SIZE, UID_SIZE};
 use layout::Drawing;
 use lines::Line;
 use places::{BIN_LIMIT, LENT_LIMIT, LINE_LIMIT, PAGE_SIZE};
-use save::Writing;
 
 // The header and the tables block, which stand before a label's block.
 const FRONT_SIZE: usize = header::HEADER_SIZE + (FRAME_SIZE + tables::TABLES_SIZE);
 
-// What building answers: its refusal; the image's length, also where the buffer is too short for it; and the words of RAM that the
-// image needs.
+// The flag bytes of every image that is built.
+const FLAGS: [u8; FLAGS_SIZE] = [0x55, 0x05, 0, 0, 0, 0, 0, 0, 0, 0, 0, 0, 0, 0, 0, 0];
+
+// An image that was built: its length, and the words of RAM that it needs.
 #[derive(Clone, Copy)]
-pub struct Building {
-    pub refusal: Refusal,
+pub struct Built {
     pub length: usize,
     pub needed: u32,
 }
 
 // 21.
+#[tactic(auto, unfolding(crate::specs::Building::wrong_bin))]
 fn is_wrong(bin: &[u8]) -> bool
     ensures { result ≡ wrong_bin bin.now }
 {
-    let n = bin.len();
-    either(n == 0, either(n % 2 == 1, BIN_LIMIT < n))
-}
-
-fn flag_bytes() -> [u8; 16]
-    ensures { result ≡ flag_bytes }
-{
-    let mut flags = [0u8; 16];
-    flags[0] = 0x55;
-    flags[1] = 0x05;
-    flags
-}
-
-// The four bytes of a sum, the lowest first.
-fn bytes_of(x: u32) -> [u8; 4]
-    ensures { result ≡ le32 x }
-{
-    let lower = (x % 65536) as u16;
-    let upper = (x / 65536) as u16;
-    [low(lower), high(lower), low(upper), high(upper)]
+    bin.is_empty() || (bin.len() % 2 == 1 || BIN_LIMIT < bin.len())
 }
 
 // CRC32 of the BIN, then of the CFG.
 fn uid_of(bin: &[u8], cfg: &[u8]) -> [u8; UID_SIZE]
     ensures { result ≡ uid_of bin.now cfg.now }
 {
-    let b = bytes_of(sums::crc32(bin));
-    let c = bytes_of(sums::crc32(cfg));
+    let b = sums::crc32(bin).to_le_bytes();
+    let c = sums::crc32(cfg).to_le_bytes();
     [b[0], b[1], b[2], b[3], c[0], c[1], c[2], c[3]]
 }
 
-// What the writer's answer is for a build of so many pages.
-fn answered(w: Writing, pages: u16) -> Building
-    ensures { result ≡ answered_of w pages }
-{
-    let r = w.refusal;
-    if r.number != 0 {
-        return Building {
-            refusal: r,
-            length: w.length,
-            needed: 0,
-        };
-    }
-    Building {
-        refusal: r,
-        length: w.length,
-        needed: PAGE_SIZE as u32 * pages as u32,
-    }
-}
-
-// A refusal, and zero in all else.
-fn refuse(r: Refusal) -> Building
-    ensures { result ≡ bare r }
-{
-    Building {
-        refusal: r,
-        length: 0,
-        needed: 0,
-    }
-}
-
 // The image of what was drawn, with this UID, by the plain writer from a RAM that has its words.
-fn write_drawing(out: &mut [u8], uid: &[u8; UID_SIZE], d: Drawing, ram: &[u16]) -> Writing
-    ensures { (result ≡ writing_of out.old (drawnContent uid.now d ram.now))
-        × (out.new ≡ written_of out.old (drawnContent uid.now d ram.now)) }
+fn write_drawing(
+    out: &mut [u8],
+    uid: &[u8; UID_SIZE],
+    d: &Drawing,
+    ram: &[u16],
+) -> Result<usize, Declined>
+    ensures { (result ≡ written_as (writing_of out.old (drawnContent uid.now d.now ram.now)))
+        × (out.new ≡ written_of out.old (drawnContent uid.now d.now ram.now)) }
 {
-    let flags = flag_bytes();
-    let mapping = d.mapping;
-    let permissions = d.permissions;
-    let flips = d.flips;
-    let marks = d.marks;
-    save::write(
+    let w = save::write(
         out,
-        &flags,
+        &FLAGS,
         uid,
-        &mapping,
-        &permissions,
-        &flips,
+        &d.mapping,
+        &d.permissions,
+        &d.flips,
         ram,
-        &marks,
-    )
+        &d.marks,
+    );
+    if w.refusal.number != 0 {
+        return Err(Declined {
+            refusal: w.refusal,
+            length: w.length,
+        });
+    }
+    Ok(w.length)
 }
 
 // The bytes at a place that a header and a tables block take.
@@ -125,8 +82,7 @@ fn front_of(out: &[u8], at: usize) -> [u8; FRONT_SIZE]
     ensures { result ≡ part out.now at (at + front_size) }
 {
     let mut front = [0u8; FRONT_SIZE];
-    let e = at + FRONT_SIZE;
-    basics::put_bytes(&mut front, &out[at..e]);
+    front.copy_from_slice(&out[at..at + FRONT_SIZE]);
     front
 }
 
@@ -149,37 +105,43 @@ fn put_label(out: &mut [u8], label: &[u8])
 fn write_labelled(
     out: &mut [u8],
     uid: &[u8; UID_SIZE],
-    d: Drawing,
+    d: &Drawing,
     ram: &[u16],
     label: &[u8],
-) -> Writing
+) -> Result<usize, Declined>
     requires { wrong_label label.now ≡ false }
-    ensures { (result ≡ labelledOf label.now out.old (drawnContent uid.now d ram.now))
-        × (out.new ≡ labelledLeft label.now out.old (drawnContent uid.now d ram.now)) }
+    ensures { (result ≡ written_as (labelledOf label.now out.old (drawnContent uid.now d.now ram.now)))
+        × (out.new ≡ labelledLeft label.now out.old (drawnContent uid.now d.now ram.now)) }
 {
-    if label.len() == 0 {
+    if label.is_empty() {
         return write_drawing(out, uid, d, ram);
     }
     let k = FRAME_SIZE + label.len();
-    let a = basics::least(k, out.len());
-    let w = write_drawing(&mut out[a..], uid, d, ram);
-    let r = w.refusal;
-    let answer = Writing {
-        refusal: r,
-        length: w.length + k,
-    };
-    if r.number != 0 {
-        return answer;
+    let a = k.min(out.len());
+    match write_drawing(&mut out[a..], uid, d, ram) {
+        Ok(n) => {
+            put_label(out, label);
+            Ok(n + k)
+        }
+        Err(e) => Err(Declined {
+            refusal: e.refusal,
+            length: e.length + k,
+        }),
     }
-    put_label(out, label);
-    answer
+}
+
+// The words of RAM that so many pages need.
+fn words_of(pages: u16) -> u32
+    ensures { result ≡ page_size * pages }
+{
+    PAGE_SIZE as u32 * u32::from(pages)
 }
 
 // 20, of so many pages.
 fn is_large(pages: u16) -> bool
     ensures { result ≡ ltb lent_limit (page_size * pages) }
 {
-    LENT_LIMIT < PAGE_SIZE * pages as usize
+    LENT_LIMIT < PAGE_SIZE * usize::from(pages)
 }
 
 // The image of lines that the rules accept: laid out in a RAM of Locutus's size, and written. 20, where they need more; then 12, where
@@ -190,53 +152,36 @@ fn press(
     label: &[u8],
     lines: &[Line],
     out: &mut [u8],
-) -> Building
+) -> Result<Built, Declined>
     requires { Accepted bin.now (take line_limit lines.now) }
     ensures { Pressed bin.now cfg.now label.now (take line_limit lines.now) out.old result out.new }
 {
     let mut ram = [0u16; LENT_LIMIT];
     let d = layout::lay_out(bin, lines, &mut ram);
     if is_large(d.pages) {
-        return refuse(basics::refuse(20, 0));
+        return Err(refuse(20, 0).into());
     }
     if label::is_wrong(label) {
-        return refuse(basics::refuse(12, 0));
+        return Err(refuse(12, 0).into());
     }
-    let uid = uid_of(bin, cfg);
-    let w = write_labelled(out, &uid, d, &ram, label);
-    answered(w, d.pages)
+    let length = write_labelled(out, &uid_of(bin, cfg), &d, &ram, label)?;
+    Ok(Built {
+        length,
+        needed: words_of(d.pages),
+    })
 }
 
-// 25 to 28, then 20, 12 and the image, of the lines of a CFG that was read.
-fn build_lines(bin: &[u8], cfg: &[u8], label: &[u8], lines: &[Line], out: &mut [u8]) -> Building
-    requires { Read bin.now cfg.now lines.now }
-    ensures { Answers bin.now cfg.now label.now out.old result out.new }
-{
-    let words = (bin.len() / 2) as u32;
-    match rules::judge(words, lines) {
-        Ok(()) => press(bin, cfg, label, lines, out),
-        Err(r) => refuse(r),
-    }
-}
-
-// 22 to 24, then the lines, beside a BIN that 21 passes.
-fn build_text(bin: &[u8], cfg: &[u8], label: &[u8], out: &mut [u8]) -> Building
-    requires { wrong_bin bin.now ≡ false }
-    ensures { Answers bin.now cfg.now label.now out.old result out.new }
-{
-    match cfg::read_cfg(cfg) {
-        Ok(l) => build_lines(bin, cfg, label, l.entries(), out),
-        Err(r) => refuse(r),
-    }
-}
-
-// An image from a BIN, a CFG and a label, which may be empty, into the front of a lent buffer.
-pub fn build(bin: &[u8], cfg: &[u8], label: &[u8], out: &mut [u8]) -> Building
-    ensures { (result ≡ building_of bin.now cfg.now label.now out.old)
+// An image from a BIN, a CFG and a label, which may be empty, into the front of a lent buffer: 21 to 28, then 20, 12 and the image.
+pub fn build(bin: &[u8], cfg: &[u8], label: &[u8], out: &mut [u8]) -> Result<Built, Declined>
+    ensures { (result ≡ outcome_of (building_of bin.now cfg.now label.now out.old))
         × (out.new ≡ built_of bin.now cfg.now label.now out.old) }
 {
     if is_wrong(bin) {
-        return refuse(basics::refuse(21, 0));
+        return Err(refuse(21, 0).into());
     }
-    build_text(bin, cfg, label, out)
+    let words = (bin.len() / 2) as u32;
+    let read = cfg::read_cfg(cfg)?;
+    let lines = read.entries();
+    rules::judge(words, lines)?;
+    press(bin, cfg, label, lines, out)
 }

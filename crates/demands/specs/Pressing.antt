@@ -7,7 +7,7 @@ use Rattle.load.specs.declared.Loading.{Loading}
 use Rattle.load.specs.Load.{loading_of, load_ram_of}
 use Rattle.save.specs.declared.Writing.{Writing}
 use Rattle.save.specs.Writing.{Content, writing_of, written_of}
-use Rattle.build.specs.declared.Building.{Building}
+use Rattle.build.specs.Building.{Building}
 use Rattle.build.specs.Building.{building_of, built_of}
 
 -- `load` of the first bytes of a buffer, with f words of flash: its answer, and the RAM that it leaves

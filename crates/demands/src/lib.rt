@@ -5,9 +5,11 @@
 ghost use Rattle.std.specs.Prelude.{◌≡◌, length, take};
 ghost use Rattle.tables.specs.Tables.{tables};
 ghost use Rattle.save.specs.Writing.{content};
+ghost use Rattle.build.specs.Building.{building_of, building_from, outcome_of};
 ghost use Rattle.demands.specs.Pressing.{Loads, Pressed, Made};
 
-use build::Building;
+use basics::Declined;
+use build::Built;
 use header::{FLAGS_SIZE, UID_SIZE};
 use load::Loading;
 use places::{LOCUTUS_PARAGRAPHS, PARAGRAPHS};
@@ -23,10 +25,20 @@ fn load_front(buffer: &[u8], long: usize, ram: &mut [u16], flash: &[u16]) -> Loa
     load::load(buffer, ram, flash)
 }
 
+// The length that a build tells: the image's, also where the buffer is too short for it.
+fn length_of(r: Result<Built, Declined>) -> usize
+    ensures { result ≡ (building_from r).length }
+{
+    match r {
+        Ok(b) => b.length,
+        Err(d) => d.length,
+    }
+}
+
 // What `build` answers, and what `load` answers of the image at its buffer's front.
 #[derive(Clone, Copy)]
 pub struct Title {
-    pub building: Building,
+    pub building: Result<Built, Declined>,
     pub loading: Loading,
 }
 
@@ -38,21 +50,22 @@ pub fn press_and_load(
     ram: &mut [u16],
     flash: &[u16],
 ) -> Title
-    ensures { Pressed (record {
+    ensures answer { result.building ≡ outcome_of (building_of bin.now cfg.now label.now out.old) }
+    ensures pressed { Pressed (record {
       bin = bin.now;
       cfg = cfg.now;
       label = label.now;
       out = out.old;
       ram = ram.old;
       flash = flash.now;
-      building = result.building;
+      building = building_from result.building;
       left = out.new;
       loading = result.loading;
       stored = ram.new;
     }) }
 {
     let building = build::build(bin, cfg, label, out);
-    let loading = load_front(out, building.length, ram, flash);
+    let loading = load_front(out, length_of(building), ram, flash);
     Title { building, loading }
 }
 

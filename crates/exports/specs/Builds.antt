@@ -1,5 +1,5 @@
 -- What building answers, as C lays it out (01, Numbers that come back).
-use Rattle.build.specs.declared.Building.{Building}
+use Rattle.build.specs.Building.{Building}
 use Rattle.exports.specs.declared.Built.{Built}
 
 abbrev pub built_as : Building → Built

@@ -13,13 +13,13 @@ ghost use Rattle.sums.specs.Crc.{dowcrc_of, crc324_of, crc32_of};
 ghost use Rattle.cart.specs.Cartridges.{fresh};
 ghost use Rattle.lending.specs.Lending.{flash_for};
 ghost use Rattle.load.specs.Load.{loading_of, load_ram_of};
-ghost use Rattle.build.specs.Building.{building_of, built_of};
+ghost use Rattle.build.specs.Building.{building_from, building_of, built_of};
 ghost use Rattle.registers.specs.Words.{jlp_from};
 ghost use Rattle.exports.specs.Loads.{fields_of, loaded_of};
 ghost use Rattle.exports.specs.Builds.{built_as};
 ghost use Rattle.exports.specs.Runs.{active_as, answers_in, carried, numbered, numbered_writes, active_after, ram_after, flash_after};
 
-use build::Building;
+use basics::Declined;
 use cart::Cartridge;
 use header::Compat;
 use load::Loading;
@@ -125,14 +125,22 @@ pub struct Built {
     pub length: usize,
 }
 
-fn built_as(b: Building) -> Built
-    ensures { result ≡ built_as b }
+fn built_as(r: Result<build::Built, Declined>) -> Built
+    ensures { result ≡ built_as (building_from r) }
 {
-    Built {
-        number: b.refusal.number,
-        needed: b.needed,
-        place: b.refusal.place,
-        length: b.length,
+    match r {
+        Ok(b) => Built {
+            number: 0,
+            needed: b.needed,
+            place: 0,
+            length: b.length,
+        },
+        Err(d) => Built {
+            number: d.refusal.number,
+            needed: 0,
+            place: d.refusal.place,
+            length: d.length,
+        },
     }
 }
 

@@ -5,7 +5,6 @@
 
 use basics::Refusal;
 use blocks::PAYLOAD_LIMIT;
-use build::Building;
 use files::{Argument, Failure, Seen, Stopped};
 use places::{BIN_LIMIT, CFG_LIMIT, IMAGE_LIMIT};
 use std::fmt;
@@ -101,14 +100,10 @@ fn press(
     inputs: &[Seen],
 ) -> Result<Built, Unbuilt> {
     let mut out: [u8; IMAGE_LIMIT] = files::room(0);
-    let Building {
-        refusal,
-        length,
-        needed,
-    } = build::build(bin, cfg, label, &mut out);
-    if refusal.number != 0 {
-        return Err(refused(refusal, bin, cfg));
-    }
+    let build::Built { length, needed } = match build::build(bin, cfg, label, &mut out) {
+        Ok(built) => built,
+        Err(declined) => return Err(refused(declined.refusal, bin, cfg)),
+    };
     // The image lies in the buffer: build would have refused with 29.
     let image = &out[..length.min(IMAGE_LIMIT)];
     files::write_argument(rt, OUT, image, inputs)?;

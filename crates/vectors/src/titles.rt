@@ -1,7 +1,7 @@
 // A case of each family on titles: a BIN, a CFG and a label built, and a built image played beside the plain cartridge.
 use crate::loads::{readable_ends, run_title};
-use basics::{both, least};
-use build::Building;
+use basics::{Declined, both, least};
+use build::Built;
 use cases::digest::digest;
 use cases::fill::{take_buffer, take_bytes};
 use cases::record::{ends, front, get32, has8, has32};
@@ -57,7 +57,7 @@ fn build_in(
     l: usize,
     out: &mut [u8],
     n: usize,
-) -> Building {
+) -> Result<Built, Declined> {
     let k = least(n, out.len());
     build::build(
         front(bin, t.bin),
@@ -67,12 +67,20 @@ fn build_in(
     )
 }
 
-fn same_building(rec: &[u8], at: usize, b: Building, whole: usize) -> bool {
-    let r = b.refusal;
+fn same_building(
+    rec: &[u8],
+    at: usize,
+    answer: Result<Built, Declined>,
+    whole: usize,
+) -> bool {
+    let (r, n, words) = match answer {
+        Ok(b) => (basics::no_refusal(), b.length, b.needed),
+        Err(d) => (d.refusal, d.length, 0),
+    };
     let number = has8(rec, at, 0, r.number as usize);
     let place = has32(rec, at, 1, r.place);
-    let length = has32(rec, at, 5, b.length);
-    let needed = has32(rec, at, 9, b.needed as usize);
+    let length = has32(rec, at, 5, n);
+    let needed = has32(rec, at, 9, words as usize);
     let bytes = has32(rec, at, 13, whole);
     both(
         both(number, place),
@@ -106,21 +114,21 @@ pub fn build_agrees(
     built_agrees(rec, ieee, bin, &mut cfg, &mut label, out)
 }
 
-// A title built: whether it was, the image's length, and the place of the record's next field.
+// A title built: the image's length where it was, and the place of the record's next field.
 #[derive(Clone, Copy)]
 struct Pressed {
-    good: bool,
-    length: usize,
+    length: Option<usize>,
     next: usize,
 }
 
 fn press(rec: &[u8], bin: &mut [u8], cfg: &mut [u8], image: &mut [u8]) -> Pressed {
     let t = take_title(rec, bin, cfg);
-    let b = build_in(bin, cfg, t, cfg, 0, image, image.len());
-    let r = b.refusal;
+    let length = match build_in(bin, cfg, t, cfg, 0, image, image.len()) {
+        Ok(b) => Some(b.length),
+        Err(_) => None,
+    };
     Pressed {
-        good: r.number == 0,
-        length: b.length,
+        length,
         next: t.next,
     }
 }
@@ -135,10 +143,13 @@ pub fn bus_agrees(
 ) -> bool {
     let mut cfg = [0u8; CFG_ROOM];
     let x = press(rec, bin, &mut cfg, image);
-    let r = run_title(rec, x.next, image, x.length, ram);
+    let Some(n) = x.length else {
+        return false;
+    };
+    let r = run_title(rec, x.next, image, n, ram);
     let stored = same_words(get32(rec, r.next), ieee, ram, r.ram, image);
     both(
-        both(x.good, r.good),
+        r.good,
         both(stored, readable_ends(rec, r.next, 4, r.cartridge)),
     )
 }

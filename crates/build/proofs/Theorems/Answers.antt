@@ -1,5 +1,5 @@
 -- Each way out of a build: 21, the CFG's refusals, the rules', and the image pressed.
-use Rattle.std.specs.Prelude.{Result, Ok, Err, ℕ, ◌<◌, zero, suc, ◌≤◌, ◌%◌, List, [], ◌∷◌, ◌++◌, ◌≡◌, Bool, cond, length, take, eqb}
+use Rattle.std.specs.Prelude.{Result, Ok, Err, ℕ, ◌<◌, zero, suc, ◌≤◌, ◌%◌, List, [], ◌∷◌, ◌++◌, ◌≡◌, Bool, cond, ◌||◌, length, take, drop, eqb}
 use Rattle.std.proofs.Common.{◌∙◌, ap, sym, arith, take_all}
 use Rattle.std.proofs.Math.Bool.{true, false}
 use Rattle.std.proofs.Math.Dec.{ltb}
@@ -8,8 +8,10 @@ use Rattle.basics.specs.declared.Refusal.{Refusal}
 use Rattle.basics.specs.Rows.{Row, Silent, first_of}
 use Rattle.basics.specs.Laws.Rows.{first_append}
 use Rattle.basics.specs.Tables.{made}
-use Rattle.basics.specs.Refusals.{refuse, no_refusal, first_refusal, passed}
-use Rattle.basics.specs.Laws.Outcomes.{err_is, err_some, ok_none, ok_value}
+use Rattle.basics.specs.declared.Declined.{Declined}
+use Rattle.basics.specs.Refusals.{refuse, no_refusal, first_refusal, passed, declined}
+use Rattle.layout.specs.Layout.{needed}
+use Rattle.basics.specs.Laws.Outcomes.{outcome_at_err, err_is, err_some, ok_none, ok_value}
 use Rattle.basics.specs.Laws.Refusals.{refused_front, silent_behind, accepted_exactly}
 use Rattle.basics.specs.Laws.Tests.{cases, or_false_right}
 use Rattle.places.specs.Limits.{bin_limit, line_limit, chapters}
@@ -23,9 +25,10 @@ use Rattle.rules.specs.Rules.{line_rows, out_of_range, not_allowed, share_rows, 
 use Rattle.rules.specs.Laws.Refusals.{each_refuses as rules-refuse, exactly as rules-exactly}
 use Rattle.rules.specs.Accepted.{Accepted}
 use Rattle.label.specs.Label.{wrong_label}
-use Rattle.build.specs.declared.Building.{Building}
+use Rattle.build.specs.declared.Built.{Built}
+use Rattle.build.specs.Building.{Building, outcome_of}
 use Rattle.build.specs.Building.{image_on, pressed_image, building_of, built_of, room_rows, refusal_of, refused, wrong_bin, too_large, too_short}
-use Rattle.build.specs.Code.Answers.{bare, Read, Answers, Pressed}
+use Rattle.build.specs.Code.Answers.{bare, short, whole, Read, Answers, Pressed}
 
 -- the numbers of the CFG's refusals, and of the rules'
 below_by : (m : ℕ) (b : Bool) (x y : Refusal) → x.number < m → y.number < m → (cond b x y).number < m
@@ -62,6 +65,10 @@ rules-below words ls =
     (rw (first_append (share_rows [] ls) (chapter_rows ls) no_refusal)
     (shares-below [] ls _ (chapters-below (breaks_plain ls) 0 chapters no_refusal (omega arith)))))
 
+-- what building ensures
+abbrev pub Told : List ℕ → List ℕ → List ℕ → List ℕ → Result Built Declined → List ℕ → Type 0
+Told bin cfg label out r after = (r ≡ outcome_of (building_of bin cfg label out)) × (after ≡ built_of bin cfg label out)
+
 module _ (bin cfg label out : List ℕ) where
   refuses : (r : Refusal) → refusal_of bin cfg label out ≡ r → (r.number ≡ 0 → ⊥) → Answers bin cfg label out (refused bin cfg label r) out
   unfolding building_of built_of
@@ -71,10 +78,14 @@ module _ (bin cfg label out : List ℕ) where
   refuses-bare : (r : Refusal) → refusal_of bin cfg label out ≡ r → (r.number ≡ 0 → ⊥) → (r.number ≡ 29 → ⊥) → Answers bin cfg label out (bare r) out
   refuses-bare r e h k = let a : Answers bin cfg label out (refused bin cfg label r) out = refuses r e h in rw (ne_eqb r.number 29 k) at a
 
+  -- as the code says it: a refusal
+  told : (r : Refusal) → (r.number ≡ 0 → ⊥) → Answers bin cfg label out (bare r) out → (d : Declined) → d ≡ declined r 0 → Told bin cfg label out (Err d) out
+  told r n a d e = (rw e (sym (outcome_at_err r 0 _ n) ∙ ap outcome_of a.answer), a.leaves)
+
   -- 21
-  pub refused-bin : (b : Bool) → b ≡ wrong_bin bin → b ≡ true → (r : Refusal) → r ≡ refuse 21 0 → (q : Building) → q ≡ bare r → Answers bin cfg label out q out
+  pub refused-bin : (b : Bool) → b ≡ wrong_bin bin → b ≡ true → (d : Declined) → d ≡ declined (refuse 21 0) 0 → Told bin cfg label out (Err d) out
   unfolding refusal_of
-  refused-bin b e h r er q eq = rw (eq, er) (refuses-bare (refuse 21 0) (rw (← e, h)) (λ z. omega arith) (λ z. omega arith))
+  refused-bin b e h d ed = told (refuse 21 0) (λ z. omega arith) (refuses-bare (refuse 21 0) (rw (← e, h)) (λ z. omega arith) (λ z. omega arith)) d ed
 
   abbrev behind : List (Row Refusal)
   behind = ruleRows (bin_words bin) (entries_of cfg) ++ room_rows bin cfg label out
@@ -85,11 +96,11 @@ module _ (bin cfg label out : List ℕ) where
     parts = rw fine
 
     -- 22 to 24
-    pub refused-cfg : (x : Result Lines Refusal) → x ≡ lines_or (reading_of cfg) → (r : Refusal) → x ≡ Err r → (q : Building) → q ≡ bare r → Answers bin cfg label out q out
-    refused-cfg x e r h q eq =
+    pub refused-cfg : (x : Result Lines Refusal) → x ≡ lines_or (reading_of cfg) → (r : Refusal) → x ≡ Err r → (d : Declined) → d ≡ declined r 0 → Told bin cfg label out (Err d) out
+    refused-cfg x e r h d ed =
         let s : cfgRefusal cfg ≡ r = sym (refusal_is cfg) ∙ err_is (reading_of cfg).refusal _ r (sym e ∙ h) in
         let n : (cfgRefusal cfg).number ≡ 0 → ⊥ = rw (refusal_is cfg) at (err_some (reading_of cfg).refusal _ r (sym e ∙ h)) in
-        rw (eq, ← s) (refuses-bare (cfgRefusal cfg) (parts ∙ refused_front (cfgRows cfg) behind n) n (λ z. omega (arith, cfg-below cfg)))
+        told (cfgRefusal cfg) n (refuses-bare (cfgRefusal cfg) (parts ∙ refused_front (cfgRows cfg) behind n) n (λ z. omega (arith, cfg-below cfg))) d (rw (← s) at ed)
 
   module _ (lines : List Line) (given : Read bin cfg lines) where
     pub lines_are : lines ≡ entries_of cfg
@@ -106,13 +117,13 @@ module _ (bin cfg label out : List ℕ) where
       judged = sym (ej ∙ rw (ew, lines_are))
 
       -- 25 to 28
-      pub refused-lines : (r : Refusal) → j ≡ Err r → (q : Building) → q ≡ bare r → Answers bin cfg label out q out
+      pub refused-lines : (r : Refusal) → j ≡ Err r → (d : Declined) → d ≡ declined r 0 → Told bin cfg label out (Err d) out
       unfolding ruleRefusal
-      refused-lines r h q eq =
+      refused-lines r h d ed =
           let n : rule.number ≡ 0 → ⊥ = err_some rule tt r (judged ∙ h) in
-          rw (eq, ← err_is rule tt r (judged ∙ h))
+          told rule n
           (refuses-bare rule (behind-cfg ∙ refused_front (ruleRows (bin_words bin) (entries_of cfg)) _ n) n
-          (λ z. omega (arith, rules-below (bin_words bin) (entries_of cfg))))
+          (λ z. omega (arith, rules-below (bin_words bin) (entries_of cfg)))) d (rw (← err_is rule tt r (judged ∙ h)) at ed)
 
       module _ (u : Unit {0}) (h : j ≡ Ok u) where
         silent : Silent (ruleRows (bin_words bin) (entries_of cfg))
@@ -140,38 +151,49 @@ module _ (bin cfg label out : List ℕ) where
             ≡ cond (too_large (entries_of cfg)) (refuse 20 0) (cond (wrong_label label) (refuse 12 0) (cond (too_short bin cfg label out) (refuse 29 0) no_refusal))
         left = behind-cfg ∙ silent_behind (ruleRows (bin_words bin) (entries_of cfg)) _ silent
 
+        -- what pressing answers and leaves where the lines are the entries
+        abbrev answer : Building
+        answer = cond (too_large lines) (bare (refuse 20 0))
+            (cond (wrong_label label) (bare (refuse 12 0))
+            (cond (ltb (length out) (length (image_on bin cfg label lines))) (short (length (image_on bin cfg label lines))) (whole (length (image_on bin cfg label lines)) (needed lines))))
+
+        abbrev leaves : List ℕ
+        leaves = cond (too_large lines || (wrong_label label || ltb (length out) (length (image_on bin cfg label lines)))) out
+            (image_on bin cfg label lines ++ drop (length (image_on bin cfg label lines)) out)
+
         -- 20
-        large : (q : Building) (after : List ℕ) → Pressed bin cfg label lines out q after → too_large (entries_of cfg) ≡ true → Answers bin cfg label out q after
-        large q after p t =
+        large : too_large (entries_of cfg) ≡ true → Answers bin cfg label out answer leaves
+        large t =
             let u : too_large lines ≡ true = rw lines_are t in
-            rw (p.answer, p.leaves, u) (refuses-bare (refuse 20 0) (left ∙ rw t) (λ z. omega arith) (λ z. omega arith))
+            rw u (refuses-bare (refuse 20 0) (left ∙ rw t) (λ z. omega arith) (λ z. omega arith))
 
         -- 12
-        wrong : (q : Building) (after : List ℕ) → Pressed bin cfg label lines out q after → too_large (entries_of cfg) ≡ false → wrong_label label ≡ true → Answers bin cfg label out q after
-        wrong q after p f t =
+        wrong : too_large (entries_of cfg) ≡ false → wrong_label label ≡ true → Answers bin cfg label out answer leaves
+        wrong f t =
             let g : too_large lines ≡ false = rw lines_are f in
-            rw (p.answer, p.leaves, g, t) (refuses-bare (refuse 12 0) (left ∙ rw (f, t)) (λ z. omega arith) (λ z. omega arith))
+            rw (g, t) (refuses-bare (refuse 12 0) (left ∙ rw (f, t)) (λ z. omega arith) (λ z. omega arith))
 
         -- 29, and the image
-        fitting : (q : Building) (after : List ℕ) → Pressed bin cfg label lines out q after → too_large (entries_of cfg) ≡ false → wrong_label label ≡ false → Answers bin cfg label out q after
+        fitting : too_large (entries_of cfg) ≡ false → wrong_label label ≡ false → Answers bin cfg label out answer leaves
         unfolding building_of built_of too_short pressed_image
-        fitting q after p f o =
+        fitting f o =
             let g : too_large lines ≡ false = rw lines_are f in
             cases (too_short bin cfg label out)
             (λ t.
             let v : refusal_of bin cfg label out ≡ refuse 29 0 = left ∙ rw (f, o, t) in
             let u : ltb (length out) (length (image_on bin cfg label lines)) ≡ true = rw image_is t in
-            record { answer = p.answer ∙ rw (g, o, u, image_is, v); leaves = p.leaves ∙ rw (g, o, u, v) })
+            record { answer = rw (g, o, u, image_is, v); leaves = rw (g, o, u, v) })
             (λ t.
             let v : refusal_of bin cfg label out ≡ no_refusal = left ∙ rw (f, o, t) in
             let u : ltb (length out) (length (image_on bin cfg label lines)) ≡ false = rw image_is t in
-            record { answer = p.answer ∙ rw (g, o, u, image_is, lines_are, v); leaves = p.leaves ∙ rw (g, o, u, image_is, v) })
+            record { answer = rw (g, o, u, image_is, lines_are, v); leaves = rw (g, o, u, image_is, v) })
 
-        pub pressed : (q : Building) (after : List ℕ) → Pressed bin cfg label (take line_limit lines) out q after → Answers bin cfg label out q after
-        pressed q after k =
-            let p : Pressed bin cfg label lines out q after = rw as_many at k in
-            cases (too_large (entries_of cfg)) (large q after p)
-            (λ f. cases (wrong_label label) (wrong q after p f) (fitting q after p f))
+        pub pressed : (r : Result Built Declined) (after : List ℕ) → Pressed bin cfg label (take line_limit lines) out r after → Told bin cfg label out r after
+        pressed r after k =
+            let p : Pressed bin cfg label lines out r after = rw as_many at k in
+            let a : Answers bin cfg label out answer leaves =
+            cases (too_large (entries_of cfg)) large (λ f. cases (wrong_label label) (wrong f) (fitting f)) in
+            (p.answer ∙ ap outcome_of a.answer, p.leaves ∙ a.leaves)
 
 -- a BIN that 21 passes
 pub bin_small : (bin : List ℕ) → wrong_bin bin ≡ false → length bin ≤ bin_limit

@@ -1,28 +1,36 @@
 -- `build::press` meets its contract: 20, 12, or the writer's image of what the layout lays with the label's block, which is the build's.
-use borrow.Author.Rules.{rules}
 use Prim.Native.Nat.{ℕ}
-use mathlib.Core.Path.{sym, ◌∙◌}
+use mathlib.Core.Path.{sym, ap, ◌∙◌}
+use borrow.Author.Tests.{ltb-true, ltb-false}
 use Rattle.std.proofs.lemmas.List.{length-replicate}
+use Rattle.std.proofs.lemmas.Result.{err_from_is_err_and}
+use Rattle.basics.specs.Refusals.{declined}
 use Rattle.places.specs.Limits.{lent_limit}
-use Rattle.build.specs.Laws.Press.{pressed_large, pressed_wrong, label_passes, pressed_fitting}
+use Rattle.build.specs.Laws.Press.{pressed_large, pressed_wrong, label_passes, pressed_fitting, answered_ok, answered_err}
 use Rattle.build.proofs.press.Goals as goal
 
 pub returns-then-is_large : goal.returns-then-is_large
 returns-then-is_large c =
-    pressed_large _ _ _ _ _ _ c.lay_out-d.ensures.0 _ c.is_large.ensures c.if-is_large.true _ c.refuse.ensures _ c.refuse-then-is_large.ensures
+    pressed_large _ _ _ _ _ _ c.lay_out-d.ensures.0 (ltb-true _ _ (sym c.is_large.ensures ∙ c.if-is_large.true)) _ (c.into.ensures ∙ ap (λ r. declined r 0) c.refuse.ensures)
 
 pub returns-then-is_wrong : goal.returns-then-is_wrong
 returns-then-is_wrong c =
-    pressed_wrong _ _ _ _ _ _ c.lay_out-d.ensures.0 _ c.is_large.ensures c.if-is_large.false
-    _ c.is_wrong.ensures c.if-is_wrong.true _ c.refuse-then-is_wrong.ensures _ c.refuse-then-is_wrong-2.ensures
+    pressed_wrong _ _ _ _ _ _ c.lay_out-d.ensures.0 (ltb-false _ _ (sym c.is_large.ensures ∙ c.if-is_large.false))
+    _ c.is_wrong.ensures c.if-is_wrong.true _ (c.into-then-is_wrong.ensures ∙ ap (λ r. declined r 0) c.refuse-then-is_wrong.ensures)
 
-pub write_labelled-w-requires : goal.write_labelled-w-requires
-write_labelled-w-requires c = search (rules, label_passes)
+pub write_labelled-requires : goal.write_labelled-requires
+write_labelled-requires c = label_passes _ _ c.is_wrong.ensures c.if-is_wrong.false
 
 pub returns : goal.returns
 returns c =
-    pressed_fitting _ _ _ _ _ c.requires _ _ c.lay_out-d.ensures _ c.is_large.ensures c.if-is_large.false _
-    c.is_wrong.ensures c.if-is_wrong.false _ c.uid_of-uid.ensures _ _ c.write_labelled-w.ensures _ c.answered.ensures
+    pressed_fitting _ _ _ _ _ c.requires _ _ c.lay_out-d.ensures (ltb-false _ _ (sym c.is_large.ensures ∙ c.if-is_large.false))
+    _ c.is_wrong.ensures c.if-is_wrong.false _ c.uid_of.ensures _ c.write_labelled.ensures.1 _ (answered_ok _ _ _ _ c.in_ok-length.ensures.0 c.words_of.ensures)
+
+pub returns-in_err-length : goal.returns-in_err-length
+returns-in_err-length c =
+    let p = err_from_is_err_and c.from_residual.result c.from_residual.ensures.1 in
+    pressed_fitting _ _ _ _ _ c.requires _ _ c.lay_out-d.ensures (ltb-false _ _ (sym c.is_large.ensures ∙ c.if-is_large.false))
+    _ c.is_wrong.ensures c.if-is_wrong.false _ c.uid_of.ensures _ c.write_labelled.ensures.1 _ (rw (p.1, p.2) (answered_err _ _ _ c.in_err-length.ensures.0))
 
 pub slice_bounds-lay_out-end : goal.slice_bounds-lay_out-end
 slice_bounds-lay_out-end c = sym (length-replicate {A = ℕ} lent_limit 0)

@@ -3,8 +3,7 @@ use Rattle.build.specs.Laws.Label.{put_nothing, put_labelled}
 use Rattle.build.proofs.put_label.Goals as goal
 
 pub returns-then-out-e : goal.returns-then-out-e
-returns-then-out-e c =
-    put_nothing c.args.label.now c.args.out.now c.if-out-e.true
+returns-then-out-e c = put_nothing c.args.label.now c.args.out.now c.if-out-e.true
 
 pub returns : goal.returns
 returns c =

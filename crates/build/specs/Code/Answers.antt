@@ -1,7 +1,8 @@
 -- What the steps of a build are given and answer.
-use Rattle.std.specs.Prelude.{ℕ, ◌+◌, ◌*◌, ◌≤◌, min, cond, false, ◌||◌, List, ◌++◌, ◌≡◌, length, take, drop, ltb, eqb}
+use Rattle.std.specs.Prelude.{ℕ, ◌+◌, ◌*◌, ◌≤◌, min, cond, false, ◌||◌, List, ◌++◌, ◌≡◌, length, take, drop, ltb, eqb, Result}
 use Rattle.basics.specs.declared.Refusal.{Refusal}
-use Rattle.basics.specs.Refusals.{refuse, no_refusal, passes}
+use Rattle.basics.specs.declared.Declined.{Declined}
+use Rattle.basics.specs.Refusals.{refuse, no_refusal, passes, outcome_at}
 use Rattle.places.specs.Limits.{page_size, bin_limit}
 use Rattle.header.specs.Header.{header_size}
 use Rattle.tables.specs.Tables.{tables, tables_size}
@@ -13,7 +14,8 @@ use Rattle.lines.specs.declared.Line.{Line}
 use Rattle.cfg.specs.File.{reading_of, entries_of}
 use Rattle.layout.specs.declared.Drawing.{Drawing}
 use Rattle.layout.specs.Layout.{needed}
-use Rattle.build.specs.declared.Building.{Building}
+use Rattle.build.specs.declared.Built.{Built}
+use Rattle.build.specs.Building.{Building, outcome_of}
 use Rattle.build.specs.Building.{image_on, flag_bytes, wrong_bin, too_large, building_of, built_of}
 
 -- a refusal, and zero in all else; 29 with the length needed; and an image with the words that it needs
@@ -29,6 +31,10 @@ whole n words = record { refusal = no_refusal; length = n; needed = words }
 abbrev pub answered_of : Writing → ℕ → Building
 answered_of w pages =
     record { refusal = w.refusal; length = w.length; needed = cond (passes w.refusal) (page_size * pages) 0 }
+
+-- a writer's answer, as the code says it
+abbrev pub written_as : Writing → Result ℕ Declined
+written_as w = outcome_at w.refusal w.length w.length
 
 -- what the writer is given of a drawing, with this UID and a RAM that has its words
 abbrev pub drawnContent : List ℕ → Drawing → List ℕ → Content
@@ -72,9 +78,9 @@ pub record Answers (bin cfg label out : List ℕ) (r : Building) (after : List �
   pub leaves : after ≡ built_of bin cfg label out
 
 -- what pressing lines that the rules accept answers, and what it leaves
-pub record Pressed (bin cfg label : List ℕ) (lines : List Line) (out : List ℕ) (r : Building) (after : List ℕ) : Type 0 where
-  pub answer : r ≡ cond (too_large lines) (bare (refuse 20 0))
+pub record Pressed (bin cfg label : List ℕ) (lines : List Line) (out : List ℕ) (r : Result Built Declined) (after : List ℕ) : Type 0 where
+  pub answer : r ≡ outcome_of (cond (too_large lines) (bare (refuse 20 0))
       (cond (wrong_label label) (bare (refuse 12 0))
-      (cond (ltb (length out) (length (image_on bin cfg label lines))) (short (length (image_on bin cfg label lines))) (whole (length (image_on bin cfg label lines)) (needed lines))))
+      (cond (ltb (length out) (length (image_on bin cfg label lines))) (short (length (image_on bin cfg label lines))) (whole (length (image_on bin cfg label lines)) (needed lines)))))
   pub leaves : after ≡ cond (too_large lines || (wrong_label label || ltb (length out) (length (image_on bin cfg label lines)))) out
       (image_on bin cfg label lines ++ drop (length (image_on bin cfg label lines)) out)

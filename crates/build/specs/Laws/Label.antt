@@ -1,12 +1,14 @@
 -- A label's block put behind the tables, as the code comes to it: the front moved, the block in its part, and the writer's answer.
-use Rattle.std.specs.Prelude.{ℕ, ◌+◌, ◌-◌, ◌≤◌, ◌<◌, min, ◌≡◌, refl, List, [], ◌++◌, Bool, true, false, cond, ◌||◌, length, take, drop, ltb}
+use Rattle.std.specs.Prelude.{ℕ, ◌+◌, ◌-◌, ◌≤◌, ◌<◌, min, ◌≡◌, refl, List, [], ◌++◌, Bool, true, false, cond, ◌||◌, length, take, drop, ltb, Ok, Err}
 use Rattle.std.proofs.Common.{sym, ◌∙◌, append-nil, arith, length-drop, length-append, drop_of_length-le, take-append-drop, Fits}
 use Rattle.std.proofs.Math.Path.{ap}
 use Rattle.std.specs.Int.{w64}
 use borrow.Author.Tests.{le-ltb, lt-ltb, eq-eqb, ne_eqb, ltb-false}
 use borrow.Rule.Slice.PartMut.{put_mid}
 use Rattle.basics.specs.Lists.{part, put_front}
-use Rattle.basics.specs.Refusals.{refuse, no_refusal}
+use Rattle.basics.specs.declared.Declined.{Declined}
+use Rattle.basics.specs.Refusals.{refuse, no_refusal, declined}
+use Rattle.basics.specs.Laws.Outcomes.{outcome_at_ok, outcome_at_err, ok_at_value, ok_at_none, err_at_is, err_at_some}
 use Rattle.basics.specs.Counts.{any, lowest}
 use Rattle.basics.specs.Laws.Lists.{length_part, part_rest}
 use Rattle.basics.specs.Laws.Wrote.{Wrote, wrote_none, wrote_long, wrote_part}
@@ -19,7 +21,7 @@ use Rattle.label.specs.Label as Label
 use Rattle.label.specs.Laws.Label.{label_fits, written_all}
 use Rattle.save.specs.declared.Writing.{Writing}
 use Rattle.save.specs.Writing.{Content, past_lent, image_by, refusal_of, answer_for, writing_of, written_of}
-use Rattle.build.specs.Code.Answers.{front_size, labelPut, roomOf, labelledOf, labelledLeft}
+use Rattle.build.specs.Code.Answers.{front_size, labelPut, roomOf, labelledOf, labelledLeft, written_as}
 
 -- too little is there for a front
 pub put_nothing : (label out : List ℕ) → length out < frame_size + length label + front_size → out ≡ labelPut label out
@@ -98,6 +100,23 @@ module _ (label out : List ℕ) (c : Content) (some : length label ≡ 0 → ⊥
 
   pub length_fits : Label.wrong_label label ≡ false → Fits w64 (w.length + (frame_size + length label))
   length_fits right = let s : w.length ≤ image_limit = rw writes (writing_small (drop (roomOf label out) out) c) in omega (arith, s, label_fits label right)
+
+  -- as the code says it
+  pub labelled_ok : (n : ℕ) → Ok n ≡ written_as w → Ok (n + (frame_size + length label)) ≡ written_as (labelledOf label out c)
+  labelled_ok n o =
+      let l : w.length ≡ n = ok_at_value w.refusal w.length w.length n (sym o) in
+      rw (← l, ← labelled_answer) (sym (outcome_at_ok w.refusal _ _ (ok_at_none w.refusal w.length w.length n (sym o))))
+
+  pub ok_fits : (n : ℕ) → Ok n ≡ written_as w → Label.wrong_label label ≡ false → Fits w64 (n + (frame_size + length label))
+  ok_fits n o right = rw (← ok_at_value w.refusal w.length w.length n (sym o)) (length_fits right)
+
+  pub labelled_err : (e : Declined) → Err e ≡ written_as w → Err (record { refusal = e.refusal; length = e.length + (frame_size + length label) }) ≡ written_as (labelledOf label out c)
+  labelled_err e o =
+      let d : declined w.refusal w.length ≡ e = err_at_is w.refusal w.length w.length e (sym o) in
+      rw (← d, ← labelled_answer) (sym (outcome_at_err w.refusal _ _ (err_at_some w.refusal w.length w.length e (sym o))))
+
+  pub err_fits : (e : Declined) → Err e ≡ written_as w → Label.wrong_label label ≡ false → Fits w64 (e.length + (frame_size + length label))
+  err_fits e o right = rw (← err_at_is w.refusal w.length w.length e (sym o)) (length_fits right)
 
   whole : put_mid a (length out - a) out ys ≡ take (roomOf label out) out ++ written_of (drop (roomOf label out) out) c
   whole =

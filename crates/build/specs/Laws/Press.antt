@@ -2,7 +2,7 @@
 -- never come back.
 use Prim.Native.Nat.{ℕ, ◌≤◌, ◌*◌, min, ◌/◌, ◌<◌, ◌+◌, ◌-◌, ◌%◌}
 use mathlib.Core.List.{List, [], ◌∷◌, ◌++◌, append_assoc, append-nil}
-use Rattle.std.specs.Prelude.{◌≡◌, refl, Bool, true, cond, replicate, ltb, eqb}
+use Rattle.std.specs.Prelude.{◌≡◌, refl, Bool, true, cond, replicate, ltb, eqb, Result, Ok, Err}
 use Rattle.std.proofs.Math.Path.{ap}
 use Rattle.std.proofs.Common.{◌∙◌, sym, length-drop, take_at, drop_at}
 use Rattle.std.proofs.Math.Bool.{false}
@@ -11,8 +11,9 @@ use Rattle.std.proofs.Math.ListN.{length, get_or, take, drop, length-append}
 use Rattle.std.proofs.lemmas.List.{length-replicate}
 use Rattle.std.proofs.Math.Seq.{drop-drop, length-take-le}
 use borrow.Author.Tests.{le-ltb, lt-ltb, ltb-true, ltb-false}
-use Rattle.basics.specs.declared.Refusal.{Refusal}
-use Rattle.basics.specs.Refusals.{refuse, no_refusal, passes}
+use Rattle.basics.specs.declared.Declined.{Declined}
+use Rattle.basics.specs.Refusals.{refuse, no_refusal, passes, outcome_at, declined}
+use Rattle.basics.specs.Laws.Outcomes.{outcome_at_ok, outcome_at_err, ok_at_value, ok_at_none, err_at_is, err_at_some}
 use Rattle.basics.specs.Tables.{table}
 use Rattle.basics.specs.Counts.{any}
 use Rattle.basics.specs.Laws.Lists.{length_laid, laid_in}
@@ -39,9 +40,10 @@ use Rattle.layout.specs.declared.Drawing.{Drawing}
 use Rattle.layout.specs.Drawing.{ram_of, word_at, drawing_of}
 use Rattle.layout.specs.Layout.{flip_table, covered, needed, pages, paragraph_words, written_of as word_of, line_held, paragraph_held}
 use Rattle.layout.specs.Laws.Uses.{covered_below, covered_inside}
-use Rattle.build.specs.declared.Building.{Building}
+use Rattle.build.specs.declared.Built.{Built}
+use Rattle.build.specs.Building.{outcome_of}
 use Rattle.build.specs.Building.{hunks_for, flag_bytes, uid_of, tables_for, image_on, too_large}
-use Rattle.build.specs.Code.Answers.{bare, answered_of, short, whole, drawnContent, front_size, labelPut, roomOf, labelledOf, labelledLeft, Pressed}
+use Rattle.build.specs.Code.Answers.{answered_of, written_as, short, whole, drawnContent, front_size, labelPut, roomOf, labelledOf, labelledLeft, Pressed}
 use Rattle.build.specs.Laws.Image.{sized, supported, plain_limit, length_labelled, length_one}
 
 -- a block put between the front and the rest of what stands behind room for it
@@ -255,55 +257,70 @@ module _ (bin : List ℕ) (lines : List Line) (accepted : Accepted bin lines) (f
     by_label label out = cases (eqb (length label) 0) (λ e. rw e (unlabelled label out e)) (λ e. labelled label out e)
 
     pressed_as :
-        (label out : List ℕ) → wrong_label label ≡ false → (d : Drawing) → d ≡ drawing_of lines → (uid : List ℕ) → uid ≡ uid_of bin cfg → (w : Writing) (after : List ℕ) (r : Building)
-        → (w ≡ labelledOf label out (drawnContent uid d ram)) × (after ≡ labelledLeft label out (drawnContent uid d ram)) → r ≡ answered_of w d.pages
+        (label out : List ℕ) → wrong_label label ≡ false → (d : Drawing) → d ≡ drawing_of lines → (uid : List ℕ) → uid ≡ uid_of bin cfg → (w : Writing) (after : List ℕ) (r : Result Built Declined)
+        → (w ≡ labelledOf label out (drawnContent uid d ram)) × (after ≡ labelledLeft label out (drawnContent uid d ram)) → r ≡ outcome_of (answered_of w d.pages)
         → Pressed bin cfg label lines out r after
     unfolding drawing_of
     pressed_as label out right d ed uid eu w after r ew er =
         let n : ℕ = length (image_on bin cfg label lines) in
         let a : w ≡ labelledOf label out given = rw (ed, eu) at ew.0 in
         let b : after ≡ labelledLeft label out given = rw (ed, eu) at ew.1 in
-        let c : r ≡ answered_of w (pages lines) = rw ed at er in
+        let c : r ≡ outcome_of (answered_of w (pages lines)) = rw ed at er in
         let l : Labelled label out (labelledOf label out given) (labelledLeft label out given) = by_label label out in
         record {
-          answer = c ∙ ap (λ (x : Writing). answered_of x (pages lines)) (a ∙ l.answer) ∙ answer lines n (ltb (length out) n) ∙ rw (fits, right);
+          answer = c ∙ ap outcome_of (ap (λ (x : Writing). answered_of x (pages lines)) (a ∙ l.answer) ∙ answer lines n (ltb (length out) n) ∙ rw (fits, right));
           leaves = b ∙ l.leaves ∙ rw (fits, right);
         }
 
 -- 20, as the code asks it of a drawing's pages
-pub drawn_large : (lines : List Line) (d : Drawing) → d ≡ drawing_of lines → (b : Bool) → b ≡ ltb lent_limit (page_size * d.pages) → too_large lines ≡ b
+drawn_large : (lines : List Line) (d : Drawing) → d ≡ drawing_of lines → too_large lines ≡ ltb lent_limit (page_size * d.pages)
 unfolding too_large drawing_of
-drawn_large lines d e b eb = sym (eb ∙ ap (λ (x : Drawing). ltb lent_limit (page_size * x.pages)) e)
+drawn_large lines d e = rw e
 
 pub pressed_large :
-    (bin cfg label out : List ℕ) (lines : List Line) (d : Drawing) → d ≡ drawing_of lines → (b : Bool) → b ≡ ltb lent_limit (page_size * d.pages) → b ≡ true
-    → (a : Refusal) → a ≡ refuse 20 0 → (r : Building) → r ≡ bare a → Pressed bin cfg label lines out r out
-pressed_large bin cfg label out lines d ed b eb h a ea r er =
-    let t : too_large lines ≡ true = drawn_large lines d ed b eb ∙ h in
-    record { answer = er ∙ rw (ea, t); leaves = rw t }
+    (bin cfg label out : List ℕ) (lines : List Line) (d : Drawing) → d ≡ drawing_of lines → lent_limit < page_size * d.pages
+    → (r : Declined) → r ≡ declined (refuse 20 0) 0 → Pressed bin cfg label lines out (Err r) out
+pressed_large bin cfg label out lines d ed h r er =
+    let t : too_large lines ≡ true = drawn_large lines d ed ∙ lt-ltb _ _ h in
+    record { answer = ap Err er ∙ rw t; leaves = rw t }
 
 -- 12, behind it
 pub pressed_wrong :
-    (bin cfg label out : List ℕ) (lines : List Line) (d : Drawing) → d ≡ drawing_of lines → (b : Bool) → b ≡ ltb lent_limit (page_size * d.pages) → b ≡ false
-    → (w : Bool) → w ≡ wrong_label label → w ≡ true → (a : Refusal) → a ≡ refuse 12 0 → (r : Building) → r ≡ bare a → Pressed bin cfg label lines out r out
-pressed_wrong bin cfg label out lines d ed b eb h w ew t a ea r er =
-    let f : too_large lines ≡ false = drawn_large lines d ed b eb ∙ h in
+    (bin cfg label out : List ℕ) (lines : List Line) (d : Drawing) → d ≡ drawing_of lines → page_size * d.pages ≤ lent_limit
+    → (w : Bool) → w ≡ wrong_label label → w ≡ true → (r : Declined) → r ≡ declined (refuse 12 0) 0 → Pressed bin cfg label lines out (Err r) out
+pressed_wrong bin cfg label out lines d ed h w ew t r er =
+    let f : too_large lines ≡ false = drawn_large lines d ed ∙ le-ltb _ _ h in
     let v : wrong_label label ≡ true = sym ew ∙ t in
-    record { answer = er ∙ rw (ea, f, v); leaves = rw (f, v) }
+    record { answer = ap Err er ∙ rw (f, v); leaves = rw (f, v) }
 
 -- what 12 leaves
 pub label_passes : (label : List ℕ) (w : Bool) → w ≡ wrong_label label → w ≡ false → wrong_label label ≡ false
 label_passes label w e f = sym e ∙ f
 
+-- the writer's answer with the words that are needed
+answered_by : (w : Writing) (pages : ℕ) → outcome_of (answered_of w pages) ≡ outcome_at w.refusal w.length (record { length = w.length; needed = page_size * pages })
+answered_by w pages = cases (passes w.refusal) (λ e. rw e) (λ e. rw e)
+
+pub answered_ok : (w : Writing) (pages n needed : ℕ) → Ok n ≡ written_as w → needed ≡ page_size * pages → Ok (record { length = n; needed = needed }) ≡ outcome_of (answered_of w pages)
+answered_ok w pages n needed o e =
+    let l : w.length ≡ n = ok_at_value w.refusal w.length w.length n (sym o) in
+    rw (← l, e) (sym (answered_by w pages ∙ outcome_at_ok w.refusal w.length _ (ok_at_none w.refusal w.length w.length n (sym o))))
+
+pub answered_err : (w : Writing) (pages : ℕ) (d : Declined) → Err d ≡ written_as w → Err d ≡ outcome_of (answered_of w pages)
+answered_err w pages d o =
+    let n : w.refusal.number ≡ 0 → ⊥ = err_at_some w.refusal w.length w.length d (sym o) in
+    sym (answered_by w pages ∙ outcome_at_err w.refusal w.length _ n ∙ ap Err (err_at_is w.refusal w.length w.length d (sym o)))
+
 -- as the code comes to the image
 pub pressed_fitting :
     (bin cfg label out : List ℕ) (lines : List Line) → Accepted bin lines → (ram : List ℕ) (d : Drawing)
-    → (d ≡ drawing_of lines) × (ram ≡ ram_of bin lines (replicate lent_limit 0)) → (b : Bool) → b ≡ ltb lent_limit (page_size * d.pages) → b ≡ false
-    → (o : Bool) → o ≡ wrong_label label → o ≡ false → (uid : List ℕ) → uid ≡ uid_of bin cfg → (w : Writing) (after : List ℕ)
-    → (w ≡ labelledOf label out (drawnContent uid d ram)) × (after ≡ labelledLeft label out (drawnContent uid d ram)) → (r : Building) → r ≡ answered_of w d.pages
+    → (d ≡ drawing_of lines) × (ram ≡ ram_of bin lines (replicate lent_limit 0)) → page_size * d.pages ≤ lent_limit
+    → (o : Bool) → o ≡ wrong_label label → o ≡ false → (uid : List ℕ) → uid ≡ uid_of bin cfg → (after : List ℕ)
+    → after ≡ labelledLeft label out (drawnContent uid d ram) → (r : Result Built Declined) → r ≡ outcome_of (answered_of (labelledOf label out (drawnContent uid d ram)) d.pages)
     → Pressed bin cfg label lines out r after
-pressed_fitting bin cfg label out lines accepted ram d ed b eb h o eo f uid eu w after ew r er =
-    pressed_as bin lines accepted (drawn_large lines d ed.0 b eb ∙ h) (replicate lent_limit 0) ram (length-replicate {A = ℕ} lent_limit 0) ed.1 cfg label out (label_passes label o eo f) d ed.0 uid eu w after r ew er
+pressed_fitting bin cfg label out lines accepted ram d ed h o eo f uid eu after ea r er =
+    pressed_as bin lines accepted (drawn_large lines d ed.0 ∙ le-ltb _ _ h) (replicate lent_limit 0) ram (length-replicate {A = ℕ} lent_limit 0) ed.1 cfg label out (label_passes label o eo f) d ed.0 uid eu
+    _ after r (refl, ea) er
 
 -- the writer given a drawing and the flag bytes
 pub drawn_written :
@@ -312,3 +329,10 @@ pub drawn_written :
     × (after ≡ written_of out (content flags uid (tables d.mapping d.permissions d.flips) ram d.marks))
     → (w ≡ writing_of out (drawnContent uid d ram)) × (after ≡ written_of out (drawnContent uid d ram))
 drawn_written out after uid flags ram d w e q = rw e at q
+
+-- the writer's answer, as the code says it
+pub written_err : (w v : Writing) → w ≡ v → (w.refusal.number ≡ 0 → ⊥) → Err (record { refusal = w.refusal; length = w.length }) ≡ written_as v
+written_err w v e n = rw (← e) (sym (outcome_at_err w.refusal w.length w.length n))
+
+pub written_ok : (w v : Writing) → w ≡ v → w.refusal.number ≡ 0 → Ok w.length ≡ written_as v
+written_ok w v e z = rw (← e) (sym (outcome_at_ok w.refusal w.length w.length z))

@@ -23,7 +23,7 @@ use Rattle.rules.specs.Rules.{refusal_rows as ruleRows}
 use Rattle.rules.specs.Laws.Refusals as Rules
 use Rattle.layout.specs.Layout.{needed}
 use Rattle.label.specs.Label.{wrong_label}
-use Rattle.build.specs.declared.Building.{Building}
+use Rattle.build.specs.Building.{Building}
 use Rattle.build.specs.Building.{wrong_bin, too_large, too_short, pressed_image, room_rows, refusal_rows, refusal_of, built, tables_for}
 use Rattle.build.specs.Laws.Image.{within_limit}
 use Rattle.build.proofs.Theorems.Refusals as Build

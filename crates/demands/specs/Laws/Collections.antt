@@ -26,7 +26,7 @@ use Rattle.rules.specs.Chapters.{paged, uses, under, bare}
 use Rattle.rules.specs.Rules.{refusal_rows as ruleRows, refusal_of as ruledBy, touches_silent, plain_shape, shares, breaks_plain, page_shape}
 use Rattle.rules.specs.Laws.Refusals as Rules
 use Rattle.layout.specs.Layout.{needed, pages, used}
-use Rattle.build.specs.declared.Building.{Building}
+use Rattle.build.specs.Building.{Building}
 use Rattle.build.specs.Building.{wrong_bin, too_large, room_rows, refusal_of, building_of, built}
 use Rattle.demands.specs.Pressing.{Pressing}
 use Rattle.demands.specs.Bench.{Case}

@@ -23,7 +23,7 @@ use Rattle.cfg.specs.File.{entries_of}
 use Rattle.rules.specs.Accepted.{Accepted}
 use Rattle.layout.specs.Layout.{needed, covered, paragraph_words}
 use Rattle.layout.specs.Laws.Uses.{covered_inside}
-use Rattle.build.specs.declared.Building.{Building}
+use Rattle.build.specs.Building.{Building}
 use Rattle.build.specs.Building.{builds, flag_bytes, tables_for, pressed_image, uid_of, building_of, refused, refusal_of, built, built_of}
 use Rattle.build.proofs.Theorems.Refusals.{lines_accepted, words_fit, label_right}
 use Rattle.build.specs.Laws.Image.{sized, within_limit, supported, lie}

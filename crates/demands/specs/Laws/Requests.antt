@@ -42,7 +42,7 @@ use Rattle.cfg.specs.File.{entries_of}
 use Rattle.rules.specs.Accepted.{Accepted}
 use Rattle.rules.specs.Laws.Rules.{good}
 use Rattle.layout.specs.Layout.{cartridge_of}
-use Rattle.build.specs.declared.Building.{Building}
+use Rattle.build.specs.Building.{Building}
 use Rattle.build.specs.Building.{builds, building_of, refused, refusal_of}
 use Rattle.build.proofs.Theorems.Refusals.{lines_accepted}
 use Rattle.plays.specs.Laws.Tabled.{tabled_start}

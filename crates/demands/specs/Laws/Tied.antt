@@ -4,7 +4,7 @@ use Rattle.std.proofs.Common.{◌∙◌, sym, ap, take_all}
 use Rattle.places.specs.Limits.{lent}
 use Rattle.load.specs.declared.Loading.{Loading}
 use Rattle.load.specs.Load.{loading_of, load_ram_of}
-use Rattle.build.specs.declared.Building.{Building}
+use Rattle.build.specs.Building.{Building}
 use Rattle.demands.specs.Pressing.{Loads, Pressed}
 
 pub loads_whole :
