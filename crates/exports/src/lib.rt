@@ -77,6 +77,7 @@ fn compat_of(c: Compat) -> [u8; 5]
 }
 
 // The arrays go through variables, here and in `active_as` and `state_of`: tried straight from field to field, which the check does not cover.
+// This and the other conversions into C's structs are functions and no `From`: each has one caller, which `into` would make no plainer.
 fn answered(l: Loading) -> Loaded
     ensures { result ≡ loaded_of l }
 {
