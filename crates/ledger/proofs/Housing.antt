@@ -1,34 +1,72 @@
 -- The Locutus pages of a plan's chapters, counted.
 use Prim.Native.Nat.{◌%◌, ◌*◌, ◌+◌, ◌/◌, ◌<◌, ◌≤◌, ℕ}
 use mathlib.Core.List.{List}
-use mathlib.Core.Path.{◌≡◌, refl}
-use mathlib.Core.Bool.{Bool, cond, false, not}
+use mathlib.Core.Path.{◌∙◌, ◌≡◌, ap, refl, sym}
+use mathlib.Core.Bool.{Bool, ◌&&◌, cond, false, not, true}
+use mir.Val.{bool_byte}
 use native.Mathlib.Omega.{arith}
 use native.Mathlib.Numerals.{add-one}
 use lib.Dec.{eqb}
 use lib.ListN.{get_or}
 use borrow.Author.Tests.{eq-eqb, ne_eqb}
 use Rattle.basics.specs.Counts.{any, count}
-use Rattle.basics.specs.Laws.Counts.{count_most}
+use Rattle.basics.specs.Laws.Counts.{any_miss, any_missed, any_of, count_last}
 use Rattle.places.specs.Limits.{chapter_pages, chapter_paragraphs, chapters, layers, page_paragraphs, paragraph_size}
 use Rattle.switches.specs.Flips.{first_k}
-use Rattle.plan.specs.Image.{base, holds_ram, page_at, size}
+use Rattle.plan.specs.Image.{base, holds_ram, page_at, ram_covered_of, size}
 use Rattle.plan.specs.Plan.{has_plain}
 use Rattle.plan.specs.Valid.{is_ram_kind}
-use Rattle.canon.specs.Bin.{page_place}
+use Rattle.canon.specs.Bin.{page_place, plain_place}
 use Rattle.ledger.specs.Held.{plan_in}
 
 -- plain paragraphs among the first k
 abbrev pub plain : List ℕ → ℕ → ℕ → Bool
 plain ks x i = not (eqb (get_or ks (chapter_paragraphs * x + i) 0) 0)
 
-pub plains_all : (ks : List ℕ) (ps : List Bool) (x : ℕ) (r : Bool) → r ≡ any chapter_paragraphs (plain ks x) → r ≡ has_plain (plan_in ks ps x)
-unfolding has_plain
-plains_all ks ps x r e = e
+module _ (ks : List ℕ) (ps : List Bool) (x k : ℕ) where
+  pub plains_one : k < chapter_paragraphs → (get_or ks (chapter_paragraphs * x + k) 0 ≡ 0 → ⊥) → true ≡ has_plain (plan_in ks ps x)
+  unfolding has_plain
+  plains_one h n = sym (any_of chapter_paragraphs (plain ks x) k h (rw (ne_eqb (get_or ks (chapter_paragraphs * x + k) 0) 0 n)))
 
--- pages below page y
-pub below_all : (ks : List ℕ) (ps : List Bool) (x y n : ℕ) → n ≡ count (plan_in ks ps x).page y → (n ≡ count (plan_in ks ps x).page y) × (n ≤ y)
-below_all ks ps x y n e = (e, omega (arith, e, count_most (plan_in ks ps x).page y))
+  pub plains_miss : any k (plain ks x) ≡ false → get_or ks (chapter_paragraphs * x + k) 0 ≡ 0 → any (k + 1) (plain ks x) ≡ false
+  plains_miss c e = any_miss (plain ks x) k c (rw e)
+
+  pub plains_none : any k (plain ks x) ≡ false → k ≤ chapter_paragraphs → chapter_paragraphs ≤ k → false ≡ has_plain (plan_in ks ps x)
+  unfolding has_plain
+  plains_none c u h = any_missed (plain ks x) chapter_paragraphs k u h c
+
+-- a flag as a number
+byte_is : (b : Bool) → (bool_byte b ≡ cond b 1 0) × (bool_byte b ≤ 1)
+byte_is true = (refl, omega arith)
+byte_is false = (refl, omega arith)
+
+-- pages among the first i
+pub record Below (ks : List ℕ) (ps : List Bool) (x y n i : ℕ) : Type 0 where
+  pub up : i ≤ y
+  pub most : y ≤ chapter_pages
+  pub few : n ≤ i
+  pub is : n ≡ count (plan_in ks ps x).page i
+
+module _ (ks : List ℕ) (ps : List Bool) (x y : ℕ) where
+  pub below_none : y ≤ chapter_pages → Below ks ps x y 0 0
+  unfolding count
+  below_none h = record { up = omega arith; most = h; few = omega arith; is = refl }
+
+  module _ (n i : ℕ) (c : Below ks ps x y n i) where
+    pub below_more : (v : ℕ) → i < y → v ≡ bool_byte (get_or ps (chapter_pages * x + i) false) → Below ks ps x y (n + v) (i + 1)
+    below_more v h e =
+        record {
+          up = omega arith;
+          most = c.most;
+          few = omega (arith, c.few, e, (byte_is (get_or ps (chapter_pages * x + i) false)).1);
+          is = rw add-one (rw (e, (byte_is (get_or ps (chapter_pages * x + i) false)).0, c.is) (sym (count_last (plan_in ks ps x).page i)));
+        }
+
+    pub below_all : y ≤ i → n ≡ count (plan_in ks ps x).page y
+    below_all h = let z : i ≡ y = omega (arith, c.up) in c.is ∙ ap (count (plan_in ks ps x).page) z
+
+    pub below_few : n ≤ y
+    below_few = omega (arith, c.up, c.few)
 
 -- a chapter
 pub size_is : (ks : List ℕ) (ps : List Bool) (x a n : ℕ) (b : Bool) → b ≡ has_plain (plan_in ks ps x) → a ≡ cond b 1 0 → n ≡ count (plan_in ks ps x).page chapter_pages
@@ -66,11 +104,19 @@ module _ (ks : List ℕ) (ps : List Bool) (p : ℕ) where
   abbrev pub ram_in : ℕ → Bool
   ram_in x = holds_ram (plan_in ks ps x) (base (plan_in ks ps) x) p
 
-  module _ (x b : ℕ) (eb : b ≡ base (plan_in ks ps) x) where
-    pub ram_in_place : (k : Bool) → p / chapter_paragraphs ≡ b → k ≡ is_ram_kind (get_or ks (16 * x + p % 16) 0) → k ≡ ram_in x
+  module _ (x : ℕ) (k : Bool) (ek : k ≡ is_ram_kind (get_or ks (16 * x + p % 16) 0)) where
+    pub ram_by_place : k ≡ true → (b : ℕ) → b ≡ base (plan_in ks ps) x → eqb (p / chapter_paragraphs) b ≡ ram_in x
     unfolding holds_ram
-    ram_in_place k h ek = rw (← eb, eq-eqb (p / chapter_paragraphs) b h) ek
+    ram_by_place h b eb = rw (← eb, ← ek, h) (sym (and_same (eqb (p / chapter_paragraphs) b)))
+      where
+        and_same : (a : Bool) → (a && true) ≡ a
+        and_same true = refl
+        and_same false = refl
 
-    pub ram_elsewhere : (p / chapter_paragraphs ≡ b → ⊥) → false ≡ ram_in x
+    pub ram_other : k ≡ false → false ≡ ram_in x
     unfolding holds_ram
-    ram_elsewhere h = rw (← eb, ne_eqb (p / chapter_paragraphs) b h)
+    ram_other h = rw (← ek, h) (sym (none (eqb (p / chapter_paragraphs) (base (plan_in ks ps) x))))
+      where
+        none : (a : Bool) → (a && false) ≡ false
+        none true = refl
+        none false = refl

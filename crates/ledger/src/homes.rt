@@ -19,7 +19,13 @@ impl Sketch {
         requires { x < chapters }
         ensures { result ≡ has_plain (sketched self.now x) }
     {
-        (0..CHAPTER_PARAGRAPHS).any(|k| self.kinds[CHAPTER_PARAGRAPHS * x + k] != 0)
+        // A chain here, and one in `pages_below`, made an image's way back to its BIN several times slower.
+        for k in 0..CHAPTER_PARAGRAPHS {
+            if self.kinds[CHAPTER_PARAGRAPHS * x + k] != 0 {
+                return true;
+            }
+        }
+        false
     }
 
     // Returns how many pages chapter x has below page y.
@@ -27,9 +33,11 @@ impl Sketch {
         requires { (x < chapters) × (y ≤ chapter_pages) }
         ensures { (result ≡ count (sketched self.now x).page y) × (result ≤ y) }
     {
-        (0..y)
-            .filter(|&i| self.pages[CHAPTER_PAGES * x + i])
-            .count()
+        let mut n = 0;
+        for i in 0..y {
+            n += usize::from(self.pages[CHAPTER_PAGES * x + i]);
+        }
+        n
     }
 
     // Returns the Locutus pages of chapter x.
@@ -78,9 +86,9 @@ impl Sketch {
         requires { x < chapters }
         ensures { result ≡ holds_ram (sketched self.now x) (base (sketched self.now) x) p }
     {
-        let b = self.base_of(x);
-        let n = self.kinds[CHAPTER_PARAGRAPHS * x + p % CHAPTER_PARAGRAPHS];
-        p / CHAPTER_PARAGRAPHS == b && is_ram_kind(n)
+        // The kind comes first, as it is found much faster.
+        is_ram_kind(self.kinds[CHAPTER_PARAGRAPHS * x + p % CHAPTER_PARAGRAPHS])
+            && p / CHAPTER_PARAGRAPHS == self.base_of(x)
     }
 
     // Whether Locutus paragraph p holds RAM of some chapter.
