@@ -1,3 +1,4 @@
 -- Theorems over the definitions.
 pub mod Shown
 pub mod Texts
+pub mod Ends

@@ -1,6 +1,6 @@
 -- Every number that a line names fits its type: a BIN offset has five hex digits at most, an address four, a page one.
 use Rattle.std.specs.Prelude.{Option, Some, None, ℕ, ◌≤◌, ◌-◌, ◌+◌, ◌<◌, ◌*◌, ◌^◌, suc, ◌≡◌, refl, Bool, true, cond, false, ◌&&◌, List, [], ◌∷◌, leb, eqb, length}
-use Rattle.std.proofs.Common.{◌∙◌, ap, subst, arith, pow-suc, mul_assoc, lit≤, lit<, leb-true, eqb-true}
+use Rattle.std.proofs.Common.{sym, ◌∙◌, ap, subst, arith, pow-suc, mul_assoc, lit≤, lit<, leb-true, eqb-true}
 use Rattle.std.proofs.Math.Nat.{pow-le-pow_right}
 use Rattle.std.proofs.lemmas.Bool.{eqb-false}
 use Rattle.basics.specs.Laws.Tests.{and_right, and_left}
@@ -72,6 +72,12 @@ digit_below w n e = go (eqb (length w) 1) refl e
 after_below : (m : ℕ) (t : Bool) (x : Option ℕ) → Below m x → Below m (after t x)
 after_below m true x h n e = h n e
 after_below m false x h n e = not_is e
+
+pub after_fits : (w : List ℕ) (t : Bool) (x y : Option ℕ) → y ≡ after t x → x ≡ address w → Below 65536 y
+after_fits w t x y f e n q = after_below 65536 t (address w) (dollar_below 4 w) n (ap (after t) (sym e) ∙ sym f ∙ q)
+
+pub digit_fits : (w : List ℕ) (t : Bool) (x y : Option ℕ) → y ≡ after t x → x ≡ one_digit w → Below 256 y
+digit_fits w t x y f e n q = let l : n < 16 = after_below 16 t (one_digit w) (digit_below w) n (ap (after t) (sym e) ∙ sym f ∙ q) in omega arith
 
 -- what an entry names: BIN offsets below 2^20, addresses below 2^16, a page below 16
 abbrev pub Fitting : Entry → Type 0

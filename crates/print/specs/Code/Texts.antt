@@ -3,6 +3,8 @@ use Rattle.std.specs.Prelude.{◌%◌, ◌+◌, ◌-◌, ℕ, List, ◌++◌, dr
 use Rattle.places.specs.Places.{page}
 use Rattle.lines.specs.declared.Entry.{Entry}
 use Rattle.lines.specs.declared.Entry.TheVariants.{Paged, Ram, Rom}
+use Rattle.text.specs.Bytes.{text}
+use Rattle.grammar.specs.Print.{four_digits}
 use Rattle.print.specs.Cfg.{entry_line}
 use Rattle.print.specs.declared.Text.{Text}
 
@@ -11,6 +13,10 @@ filled x = x ++ replicate (32 - length x) 0
 
 abbrev pub padded : List ℕ → Text
 padded x = record { bytes = filled x; length = length x }
+
+-- `$lo - $hi = RAM `, before the width
+abbrev pub ram_front : ℕ → ℕ → List ℕ
+ram_front lo hi = four_digits lo ++ (text " - " ++ (four_digits hi ++ text " = RAM "))
 
 -- more bytes at its end
 abbrev pub pushed : Text → List ℕ → Text
