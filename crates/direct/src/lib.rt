@@ -42,10 +42,7 @@ pub fn hear<'a>(
     if cart::is_silent(at) {
         return Some(cart::SILENCE);
     }
-    Some(cart::heard(cart::fetch(
-        cart::cell_at(mapping, permissions, at),
-        ram,
-    )))
+    Some(cart::heard(cart::fetch(cart::cell_at(mapping, permissions, at), ram)))
 }
 
 // Whether a write there can be more than a store: a bankswitch register, the address of a chapter's page requests, and the one that turns the

@@ -193,12 +193,5 @@ pub extern "C" fn luigi_run(
         × (flash.new ≡ (left (world (cartridge_from state) flash.old ram.old) list.now limit (length out.old)).flash)
         × (out.new ≡ answers_in (world (cartridge_from state) flash.old ram.old) list.now limit out.old) }
 {
-    ran_as(accesses::run(
-        list,
-        limit,
-        cartridge_from(state),
-        ram,
-        flash,
-        out,
-    ))
+    ran_as(accesses::run(list, limit, cartridge_from(state), ram, flash, out))
 }

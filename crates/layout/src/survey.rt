@@ -9,9 +9,7 @@ use crate::cells::{cells_of, line_of};
 use crate::found::Survey;
 use crate::pages::{Numbered, number};
 use lines::{Line, kind_of};
-use places::{
-    CELLS, CHAPTER_PAGES, CHAPTER_PARAGRAPHS, CHAPTERS, LAYERS, PARAGRAPHS, SLOTS,
-};
+use places::{CELLS, CHAPTER_PAGES, CHAPTER_PARAGRAPHS, CHAPTERS, LAYERS, PARAGRAPHS, SLOTS};
 use std::array;
 
 // Whether layer t of chapter x is in use.

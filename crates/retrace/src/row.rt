@@ -130,6 +130,8 @@ pub(crate) fn size_of(
     ensures { (result ≡ size (chapter_of permissions.now flips.now s x)) × (result ≤ layers) }
 {
     let plain = (0..CHAPTER_PARAGRAPHS).any(|k| kind_of(permissions, s, x, k) != 0);
-    let pages = (0..CHAPTER_PAGES).filter(|&y| page_of(flips, s, x, y)).count();
+    let pages = (0..CHAPTER_PAGES)
+        .filter(|&y| page_of(flips, s, x, y))
+        .count();
     usize::from(plain) + pages
 }

@@ -67,12 +67,7 @@ fn build_in(
     )
 }
 
-fn same_building(
-    rec: &[u8],
-    at: usize,
-    answer: Result<Built, Declined>,
-    whole: usize,
-) -> bool {
+fn same_building(rec: &[u8], at: usize, answer: Result<Built, Declined>, whole: usize) -> bool {
     let (r, n, words) = match answer {
         Ok(b) => (basics::no_refusal(), b.length, b.needed),
         Err(d) => (d.refusal, d.length, 0),

@@ -227,7 +227,10 @@ fn same_day(rec: &[u8], at: usize, d: ReleaseDate) -> bool {
     let year = get16(rec, at) == d.year as usize;
     both(
         year,
-        both(has8(rec, at, 2, given(d.month)), has8(rec, at, 3, given(d.day))),
+        both(
+            has8(rec, at, 2, given(d.month)),
+            has8(rec, at, 3, given(d.day)),
+        ),
     )
 }
 

@@ -16,8 +16,8 @@ module _ {F A : Type 0} (g : Mut F (ℕ × Unit {0}) A) (n : ℕ) (h : ℕ → A
       let called : Called g f (i, tt) t.1 t.0 = subst (λ (p : F). Called g p (i, tt) t.1 t.0) e t.3 in
       let one = same i t.1 t.0 (omega arith) called in
       cases (eqb i j)
-        (λ p. subst (λ (m : ℕ). get_or ys m d ≡ h m) (eqb-true i j p) (t.2.1 d ∙ one.0))
-        (λ p. entries k (i + 1) t.0 ys one.1 (omega arith) t.4 j d (let d : i ≡ j → ⊥ = eqb-false i j p in omega arith) hi)
+      (λ p. subst (λ (m : ℕ). get_or ys m d ≡ h m) (eqb-true i j p) (t.2.1 d ∙ one.0))
+      (λ p. entries k (i + 1) t.0 ys one.1 (omega arith) t.4 j d (let d : i ≡ j → ⊥ = eqb-false i j p in omega arith) hi)
 
   pub table_from_fn : (A) → (ys : List A) → IsFromFnResult g f ys n → ys ≡ table n h
   table_from_fn d ys r = table_of d n h ys r.long (λ i l. entries n 0 f ys refl (omega arith) r.each i d (omega arith) l)

@@ -25,12 +25,14 @@ overflow_add-result-in-Err c =
 
 pub returns-in-Ok : goal.returns-in-Ok
 returns-in-Ok c =
-    let n : length c.args.label.now ≡ 0 → ⊥ = eqb-false _ _ (sym c.is_empty.ensures ∙ c.if-is_empty.false) in
-    (labelled_ok c.args.label.now c.args.out.now _ n _ c.min-a.ensures _ _ (refl, c.write_drawing-2.ensures.1) _ c.in-Ok.ensures.0,
-    labelled_put c.args.label.now c.args.out.now _ n _ c.min-a.ensures _ _ (refl, c.write_drawing-2.ensures.1) (ok_at_none _ _ _ _ (sym c.in-Ok.ensures.0)) _ c.put_label.ensures)
+    let n : length c.args.label.now ≡ 0 → ⊥ = eqb-false _ _ (sym c.is_empty.ensures ∙ c.if-is_empty.false) in (
+      labelled_ok c.args.label.now c.args.out.now _ n _ c.min-a.ensures _ _ (refl, c.write_drawing-2.ensures.1) _ c.in-Ok.ensures.0,
+      labelled_put c.args.label.now c.args.out.now _ n _ c.min-a.ensures _ _ (refl, c.write_drawing-2.ensures.1) (ok_at_none _ _ _ _ (sym c.in-Ok.ensures.0)) _ c.put_label.ensures,
+    )
 
 pub returns-in-Err : goal.returns-in-Err
 returns-in-Err c =
-    let n : length c.args.label.now ≡ 0 → ⊥ = eqb-false _ _ (sym c.is_empty.ensures ∙ c.if-is_empty.false) in
-    (labelled_err c.args.label.now c.args.out.now _ n _ c.min-a.ensures _ _ (refl, c.write_drawing-2.ensures.1) _ c.in-Err.ensures.0,
-    labelled_kept c.args.label.now c.args.out.now _ n _ c.min-a.ensures _ _ (refl, c.write_drawing-2.ensures.1) (err_at_some _ _ _ _ (sym c.in-Err.ensures.0)))
+    let n : length c.args.label.now ≡ 0 → ⊥ = eqb-false _ _ (sym c.is_empty.ensures ∙ c.if-is_empty.false) in (
+      labelled_err c.args.label.now c.args.out.now _ n _ c.min-a.ensures _ _ (refl, c.write_drawing-2.ensures.1) _ c.in-Err.ensures.0,
+      labelled_kept c.args.label.now c.args.out.now _ n _ c.min-a.ensures _ _ (refl, c.write_drawing-2.ensures.1) (err_at_some _ _ _ _ (sym c.in-Err.ensures.0)),
+    )

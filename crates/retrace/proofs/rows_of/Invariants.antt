@@ -4,4 +4,3 @@ use Rattle.retrace.proofs.rows_of.Given as goal
 
 abbrev pub invariant-loop-x : goal.invariant-loop-x
 invariant-loop-x l = Rows l.permissions l.flips l.marks l.rows l.b l.x
-

@@ -15,12 +15,12 @@ loop-p-preserved c =
     let inv = c.loop-p.invariant in
     let below = c.loop-p-test.true in
     elim c.if-numbers-i-eq0.branch [
-      then-numbers-i-eq0+then-holds w ↦ claiming_takes _ _ _ _ _ _ inv _ _ below w.if-numbers-i-eq0.true w.holds.ensures w.if-holds.true w.numbers-is
-    | else-numbers-i-eq0 w ↦
-        elim w.else-numbers-i-eq0.branch [
-          else-numbers-i-eq0-via-then-numbers-i-eq0+else-holds v ↦ claiming_past _ _ _ _ _ _ inv _ _ below v.holds.ensures v.if-holds.false w.numbers-is
-        | else-numbers-i-eq0-via-else-numbers-i-eq0 v ↦ claiming_owned _ _ _ _ _ _ inv _ below v.if-numbers-i-eq0.false w.numbers-is
-        ]
+      | then-numbers-i-eq0+then-holds w ↦ claiming_takes _ _ _ _ _ _ inv _ _ below w.if-numbers-i-eq0.true w.holds.ensures w.if-holds.true w.numbers-is
+      | else-numbers-i-eq0 w ↦
+          elim w.else-numbers-i-eq0.branch [
+            | else-numbers-i-eq0-via-then-numbers-i-eq0+else-holds v ↦ claiming_past _ _ _ _ _ _ inv _ _ below v.holds.ensures v.if-holds.false w.numbers-is
+            | else-numbers-i-eq0-via-else-numbers-i-eq0 v ↦ claiming_owned _ _ _ _ _ _ inv _ below v.if-numbers-i-eq0.false w.numbers-is
+          ]
     ]
 
 pub returns : goal.returns

@@ -12,8 +12,8 @@ loop-s-preserved c =
     let inv = c.loop-s.invariant in
     let below = c.loop-s-test.true in
     elim c.if-used-s.branch [
-      then-used-s w ↦ rw (w.slot-is, w.n-is, w.from.ensures) (numbering_used _ _ _ _ _ inv below w.if-used-s.true)
-    | else-used-s w ↦ rw (w.slot-is, w.n-is) (numbering_free _ _ _ _ _ inv below w.if-used-s.false)
+      | then-used-s w ↦ rw (w.slot-is, w.n-is, w.from.ensures) (numbering_used _ _ _ _ _ inv below w.if-used-s.true)
+      | else-used-s w ↦ rw (w.slot-is, w.n-is) (numbering_free _ _ _ _ _ inv below w.if-used-s.false)
     ]
 
 pub returns : goal.returns

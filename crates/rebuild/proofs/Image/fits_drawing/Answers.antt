@@ -17,18 +17,21 @@ returns-then-eq-3 c =
     let l = leb (page_size * d.pages) lent_limit in
     let ev : c.if-from-le-LENT_LIMIT.value ≡ (l && agree paragraphs d.mapping i.mapping.now) =
     elim c.if-from-le-LENT_LIMIT.branch [
-      then-from-le-LENT_LIMIT w ↦ joined_yes _ _ _ _ (le-leb _ _ (omega arith)) w.value-is (w.eq.ensures ∙ same_agree 256 _ _ (search rules) (search rules))
-    | else-from-le-LENT_LIMIT w ↦
-        joined_no _ _ _ (lt-leb (page_size * d.pages) lent_limit (omega arith))
-        (w.value-is ∙ lt-leb (page_size * c.from.result) lent_limit (omega arith)) ] in
+      | then-from-le-LENT_LIMIT w ↦ joined_yes _ _ _ _ (le-leb _ _ (omega arith)) w.value-is (w.eq.ensures ∙ same_agree 256 _ _ (search rules) (search rules))
+      | else-from-le-LENT_LIMIT w ↦
+          joined_no _ _ _ (lt-leb (page_size * d.pages) lent_limit (omega arith))
+          (w.value-is ∙ lt-leb (page_size * c.from.result) lent_limit (omega arith))
+    ] in
     let ew : c.if-eq.value ≡ (c.if-from-le-LENT_LIMIT.value && agree paragraphs d.permissions i.permissions.now) =
     elim c.if-eq.branch [
-      then-eq w ↦ joined_yes _ _ _ _ w.if-eq.true w.value-is (w.eq-then-eq.ensures ∙ same_agree 256 _ _ (search rules) (search rules))
-    | else-eq w ↦ joined_no _ _ _ w.if-eq.false (w.value-is ∙ w.if-eq.false) ] in
+      | then-eq w ↦ joined_yes _ _ _ _ w.if-eq.true w.value-is (w.eq-then-eq.ensures ∙ same_agree 256 _ _ (search rules) (search rules))
+      | else-eq w ↦ joined_no _ _ _ w.if-eq.false (w.value-is ∙ w.if-eq.false)
+    ] in
     let ex : c.if-eq-2.value ≡ (c.if-eq.value && agree flip_entries d.flips i.flips.now) =
     elim c.if-eq-2.branch [
-      then-eq-2 w ↦ joined_yes _ _ _ _ w.if-eq-2.true w.value-is (w.eq-then-eq-2.ensures ∙ same_agree 256 _ _ (search rules) (search rules))
-    | else-eq-2 w ↦ joined_no _ _ _ w.if-eq-2.false (w.value-is ∙ w.if-eq-2.false) ] in
+      | then-eq-2 w ↦ joined_yes _ _ _ _ w.if-eq-2.true w.value-is (w.eq-then-eq-2.ensures ∙ same_agree 256 _ _ (search rules) (search rules))
+      | else-eq-2 w ↦ joined_no _ _ _ w.if-eq-2.false (w.value-is ∙ w.if-eq-2.false)
+    ] in
     drawn_yes _ _ _ _ _ _ _ _ ev ew ex _ c.if-eq-3.true c.names_fit.ensures
 
 pub returns-else-eq-3 : goal.returns-else-eq-3
@@ -39,16 +42,19 @@ returns-else-eq-3 c =
     let l = leb (page_size * d.pages) lent_limit in
     let ev : c.if-from-le-LENT_LIMIT.value ≡ (l && agree paragraphs d.mapping i.mapping.now) =
     elim c.if-from-le-LENT_LIMIT.branch [
-      then-from-le-LENT_LIMIT w ↦ joined_yes _ _ _ _ (le-leb _ _ (omega arith)) w.value-is (w.eq.ensures ∙ same_agree 256 _ _ (search rules) (search rules))
-    | else-from-le-LENT_LIMIT w ↦
-        joined_no _ _ _ (lt-leb (page_size * d.pages) lent_limit (omega arith))
-        (w.value-is ∙ lt-leb (page_size * c.from.result) lent_limit (omega arith)) ] in
+      | then-from-le-LENT_LIMIT w ↦ joined_yes _ _ _ _ (le-leb _ _ (omega arith)) w.value-is (w.eq.ensures ∙ same_agree 256 _ _ (search rules) (search rules))
+      | else-from-le-LENT_LIMIT w ↦
+          joined_no _ _ _ (lt-leb (page_size * d.pages) lent_limit (omega arith))
+          (w.value-is ∙ lt-leb (page_size * c.from.result) lent_limit (omega arith))
+    ] in
     let ew : c.if-eq.value ≡ (c.if-from-le-LENT_LIMIT.value && agree paragraphs d.permissions i.permissions.now) =
     elim c.if-eq.branch [
-      then-eq w ↦ joined_yes _ _ _ _ w.if-eq.true w.value-is (w.eq-then-eq.ensures ∙ same_agree 256 _ _ (search rules) (search rules))
-    | else-eq w ↦ joined_no _ _ _ w.if-eq.false (w.value-is ∙ w.if-eq.false) ] in
+      | then-eq w ↦ joined_yes _ _ _ _ w.if-eq.true w.value-is (w.eq-then-eq.ensures ∙ same_agree 256 _ _ (search rules) (search rules))
+      | else-eq w ↦ joined_no _ _ _ w.if-eq.false (w.value-is ∙ w.if-eq.false)
+    ] in
     let ex : c.if-eq-2.value ≡ (c.if-eq.value && agree flip_entries d.flips i.flips.now) =
     elim c.if-eq-2.branch [
-      then-eq-2 w ↦ joined_yes _ _ _ _ w.if-eq-2.true w.value-is (w.eq-then-eq-2.ensures ∙ same_agree 256 _ _ (search rules) (search rules))
-    | else-eq-2 w ↦ joined_no _ _ _ w.if-eq-2.false (w.value-is ∙ w.if-eq-2.false) ] in
+      | then-eq-2 w ↦ joined_yes _ _ _ _ w.if-eq-2.true w.value-is (w.eq-then-eq-2.ensures ∙ same_agree 256 _ _ (search rules) (search rules))
+      | else-eq-2 w ↦ joined_no _ _ _ w.if-eq-2.false (w.value-is ∙ w.if-eq-2.false)
+    ] in
     drawn_no _ _ _ _ _ _ _ _ ev ew ex c.if-eq-3.false

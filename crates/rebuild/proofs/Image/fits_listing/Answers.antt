@@ -25,11 +25,12 @@ returns-then-fits_drawing c =
     let eq : c.contains.result ≡ few = grind (arith, nat_tests) in
     let ev : c.if-contains.value ≡ (few && drawn) =
     elim c.if-contains.branch [
-      then-contains w ↦
-        joined_yes _ _ _ _ (sym eq ∙ w.if-contains.true) w.value-is
-        (w.fits_drawing.ensures
-        ∙ rw (w.draw.ensures, few_lines l.count l.lines (leb-true _ _ (and_right (leb 1 l.count) (leb l.count line_limit) (sym eq ∙ w.if-contains.true)))))
-    | else-contains w ↦ joined_no _ _ _ (sym eq ∙ w.if-contains.false) (w.value-is ∙ w.if-contains.false) ] in
+      | then-contains w ↦
+          joined_yes _ _ _ _ (sym eq ∙ w.if-contains.true) w.value-is
+          (w.fits_drawing.ensures
+          ∙ rw (w.draw.ensures, few_lines l.count l.lines (leb-true _ _ (and_right (leb 1 l.count) (leb l.count line_limit) (sym eq ∙ w.if-contains.true)))))
+      | else-contains w ↦ joined_no _ _ _ (sym eq ∙ w.if-contains.false) (w.value-is ∙ w.if-contains.false)
+    ] in
     listed_yes _ _ _ _ ev _ c.if-fits_drawing.true c.ram_fits.ensures
 
 pub returns-else-fits_drawing : goal.returns-else-fits_drawing
@@ -42,9 +43,10 @@ returns-else-fits_drawing c =
     let eq : c.contains.result ≡ few = grind (arith, nat_tests) in
     let ev : c.if-contains.value ≡ (few && drawn) =
     elim c.if-contains.branch [
-      then-contains w ↦
-        joined_yes _ _ _ _ (sym eq ∙ w.if-contains.true) w.value-is
-        (w.fits_drawing.ensures
-        ∙ rw (w.draw.ensures, few_lines l.count l.lines (leb-true _ _ (and_right (leb 1 l.count) (leb l.count line_limit) (sym eq ∙ w.if-contains.true)))))
-    | else-contains w ↦ joined_no _ _ _ (sym eq ∙ w.if-contains.false) (w.value-is ∙ w.if-contains.false) ] in
+      | then-contains w ↦
+          joined_yes _ _ _ _ (sym eq ∙ w.if-contains.true) w.value-is
+          (w.fits_drawing.ensures
+          ∙ rw (w.draw.ensures, few_lines l.count l.lines (leb-true _ _ (and_right (leb 1 l.count) (leb l.count line_limit) (sym eq ∙ w.if-contains.true)))))
+      | else-contains w ↦ joined_no _ _ _ (sym eq ∙ w.if-contains.false) (w.value-is ∙ w.if-contains.false)
+    ] in
     listed_no few drawn (ram_fits (sketched c.args.s.now) (words_in i.zeros.now)) _ ev c.if-fits_drawing.false
