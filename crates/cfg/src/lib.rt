@@ -12,7 +12,8 @@ use lines::{Entry, Line};
 use places::{BinWord, CFG_LIMIT, Console, LINE_LIMIT};
 use text::Reader;
 
-// The entries of a CFG, at the front of as many places as it may have.
+// The entries of a CFG, at the front of as many places as it may have. Their number stands beside the array, here and in `Scan`, because the
+// project has no heap.
 #[derive(Clone, Copy)]
 pub struct Lines {
     pub count: usize,

@@ -1,5 +1,6 @@
 // The proved crates as a C program calls them: a slice is a pointer and a length, a struct is laid out as C's. Here the sums, load and build, and runs of reads
 // and writes; in the rooms one access at a time, all of a cartridge in one struct, the writer, and what else the desk does. include/luigi.h declares them all.
+// Tables that act together are parameters of their own wherever C lends each by a pointer of its own.
 #![tactic(auto)]
 
 mod desk;

@@ -8,3 +8,4 @@ pub mod Examples
 pub mod Cells
 pub mod Survey
 pub mod Draw
+pub mod Bounds
