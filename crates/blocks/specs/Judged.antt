@@ -1,13 +1,12 @@
 -- What is asked of one block, where it stands at p of an image and its payload has this checksum: 7, 6 or 12, 8, 9, in that order (01, Load
 -- order; 02, W-204).
-use Rattle.std.specs.Prelude.{ℕ, ◌+◌, List, [], ◌∷◌, Bool, cond, not, ◌&&◌, ◌||◌, length, eqb}
+use Rattle.std.specs.Prelude.{ℕ, ◌+◌, List, [], ◌∷◌, Bool, cond, not, Result, ◌&&◌, ◌||◌, length, eqb}
 use Rattle.basics.specs.declared.Refusal.{Refusal}
 use Rattle.basics.specs.Rows.{Row}
-use Rattle.basics.specs.Refusals.{refuse, first_refusal, passes}
+use Rattle.basics.specs.Refusals.{refuse, first_refusal, passes, outcome}
 use Rattle.hunk.specs.Hunk.{check_hunk, broken, break_of, words_of}
 use Rattle.tables.specs.Tables.{tables_size}
 use Rattle.metadata.specs.Records.{is_cut}
-use Rattle.blocks.specs.declared.Judged.{Judged}
 use Rattle.blocks.specs.Blocks.{frame_size, type_of, size_said, sum_said, payload_in, encrypted_type, is_tables, is_hunk, is_metadata}
 
 -- 7: block type 0x00
@@ -45,9 +44,17 @@ judge_rows m earlier p sum x =
     ∷ []
 
 -- the refusal, and where there is none the number of words that the block stores
+pub record Judged : Type 0 where
+  pub refusal : Refusal
+  pub words : ℕ
+
 unfoldable pub judged_of : ℕ → Bool → ℕ → ℕ → List ℕ → Judged
 judged_of m earlier p sum x =
     record {
       refusal = first_refusal (judge_rows m earlier p sum x);
       words = cond (passes (first_refusal (judge_rows m earlier p sum x)) && is_hunk x) (length (words_of (payload_in x))) 0;
     }
+
+-- what the code answers of it
+abbrev pub verdict : Judged → Result ℕ Refusal
+verdict j = outcome j.refusal j.words

@@ -5,10 +5,10 @@ ghost use Rattle.std.specs.Prelude.{◌+◌, ◌*◌, ◌≤◌, ◌≡◌, fals
 ghost use Rattle.basics.specs.Lists.{part};
 ghost use Rattle.places.specs.Limits.{lent_limit, line_limit, page_size};
 ghost use Rattle.label.specs.Label.{wrong_label};
-ghost use Rattle.save.specs.Writing.{writing_of, written_of};
+ghost use Rattle.save.specs.Writing.{save_answer, writing_of, written_of};
 ghost use Rattle.rules.specs.Accepted.{Accepted};
 ghost use Rattle.build.specs.Building.{uid_of, wrong_bin, outcome_of, building_of, built_of};
-ghost use Rattle.build.specs.Code.Answers.{drawnContent, front_size, labelPut, labelledOf, labelledLeft, written_as, Pressed};
+ghost use Rattle.build.specs.Code.Answers.{drawnContent, front_size, labelPut, labelledOf, labelledLeft, Pressed};
 
 use basics::{Declined, refuse};
 use blocks::FRAME_SIZE;
@@ -54,10 +54,10 @@ fn write_drawing(
     d: &Drawing,
     ram: &[u16],
 ) -> Result<usize, Declined>
-    ensures { (result ≡ written_as (writing_of out.old (drawnContent uid.now d.now ram.now)))
+    ensures { (result ≡ save_answer (writing_of out.old (drawnContent uid.now d.now ram.now)))
         × (out.new ≡ written_of out.old (drawnContent uid.now d.now ram.now)) }
 {
-    let w = save::write(
+    save::write(
         out,
         &FLAGS,
         uid,
@@ -66,14 +66,7 @@ fn write_drawing(
         &d.flips,
         ram,
         &d.marks,
-    );
-    if w.refusal.number != 0 {
-        return Err(Declined {
-            refusal: w.refusal,
-            length: w.length,
-        });
-    }
-    Ok(w.length)
+    )
 }
 
 // The bytes at a place that a header and a tables block take.
@@ -98,7 +91,8 @@ fn put_label(out: &mut [u8], label: &[u8])
     }
     let front = front_of(out, k);
     basics::put_bytes(&mut out[0..FRONT_SIZE], &front);
-    label::write(&mut out[FRONT_SIZE..e], label);
+    // A label that passes refusal 12 fits this part of just its size, so nothing is declined.
+    let _ = label::write(&mut out[FRONT_SIZE..e], label);
 }
 
 // The same with a label's block behind the tables; none is put for an empty label.
@@ -110,7 +104,7 @@ fn write_labelled(
     label: &[u8],
 ) -> Result<usize, Declined>
     requires { wrong_label label.now ≡ false }
-    ensures { (result ≡ written_as (labelledOf label.now out.old (drawnContent uid.now d.now ram.now)))
+    ensures { (result ≡ save_answer (labelledOf label.now out.old (drawnContent uid.now d.now ram.now)))
         × (out.new ≡ labelledLeft label.now out.old (drawnContent uid.now d.now ram.now)) }
 {
     if label.is_empty() {

@@ -92,14 +92,11 @@ fn play(
     let image = files::read_argument(rt, IMAGE, file)?;
     let f = lending::flash_words(&file[..image.n], flash.len());
     let flash = &mut flash[..f];
-    let loading = load::load(&file[..image.n], ram, flash);
-    if loading.refusal.number != 0 {
-        return Err(Failure::Refused(loading.refusal));
-    }
+    let loaded = load::load(&file[..image.n], ram, flash)?;
     let list = read_list(rt, file)?;
     let limit = given_limit(rt)?;
     let list = &file[..list.n];
-    let ran = accesses::run(list, limit, loading.cartridge, ram, flash, answers);
+    let ran = accesses::run(list, limit, loaded.cartridge, ram, flash, answers);
     if ran.refusal.number != 0 {
         return Err(Failure::Refused(ran.refusal));
     }

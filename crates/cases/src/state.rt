@@ -1,10 +1,43 @@
 // A record's image loaded, and what a record says of a cartridge and its stores at the end.
 use crate::digest::{digest_tables, digest_words};
 use crate::record::{after, ends, front, front_words, get16, get32, has8};
-use basics::{both, least};
+use basics::{Refusal, both, least};
 use cart::Cartridge;
-use load::Loading;
+use header::Compat;
+use load::Loaded;
 use sums::TABLE_ENTRIES;
+
+// A load as a record says it: its refusal, and zero in all else of a refused one.
+#[derive(Clone, Copy)]
+pub struct Loading {
+    pub refusal: Refusal,
+    pub cartridge: Cartridge,
+    pub compat: Compat,
+    pub blocks: usize,
+    pub words: usize,
+}
+
+fn loading_of(answer: Result<Loaded, Refusal>) -> Loading {
+    match answer {
+        Ok(l) => {
+            let cartridge = l.cartridge;
+            Loading {
+                refusal: basics::no_refusal(),
+                cartridge,
+                compat: l.compat,
+                blocks: l.blocks,
+                words: l.words,
+            }
+        }
+        Err(refusal) => Loading {
+            refusal,
+            cartridge: tables::no_cartridge(),
+            compat: header::no_compat(),
+            blocks: 0,
+            words: 0,
+        },
+    }
+}
 
 // A load from the first bytes of an image into the first words of a RAM, with the first k words of a flash.
 pub fn load_in(
@@ -16,7 +49,7 @@ pub fn load_in(
     k: usize,
 ) -> Loading {
     let w = least(words, ram.len());
-    load::load(front(image, n), &mut ram[0..w], front_words(flash, k))
+    loading_of(load::load(front(image, n), &mut ram[0..w], front_words(flash, k)))
 }
 
 // The active tables.

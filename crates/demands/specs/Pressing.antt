@@ -3,9 +3,9 @@
 use Rattle.std.specs.Prelude.{ℕ, List, ◌≡◌, length, take}
 use Rattle.places.specs.Limits.{lent}
 use Rattle.cart.specs.Run.{World}
-use Rattle.load.specs.declared.Loading.{Loading}
+use Rattle.load.specs.Load.{Loading}
 use Rattle.load.specs.Load.{loading_of, load_ram_of}
-use Rattle.save.specs.declared.Writing.{Writing}
+use Rattle.save.specs.Writing.{Writing}
 use Rattle.save.specs.Writing.{Content, writing_of, written_of}
 use Rattle.build.specs.Building.{Building}
 use Rattle.build.specs.Building.{building_of, built_of}

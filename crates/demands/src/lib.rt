@@ -4,20 +4,20 @@
 
 ghost use Rattle.std.specs.Prelude.{◌≡◌, length, take};
 ghost use Rattle.tables.specs.Tables.{tables};
-ghost use Rattle.save.specs.Writing.{content};
+ghost use Rattle.load.specs.Load.{load_answer, loading_from};
+ghost use Rattle.save.specs.Writing.{content, save_answer, saving_from};
 ghost use Rattle.build.specs.Building.{building_of, building_from, outcome_of};
 ghost use Rattle.demands.specs.Pressing.{Loads, Pressed, Made};
 
-use basics::Declined;
+use basics::{Declined, Refusal};
 use build::Built;
 use header::{FLAGS_SIZE, UID_SIZE};
-use load::Loading;
+use load::Loaded;
 use places::{LOCUTUS_PARAGRAPHS, PARAGRAPHS};
-use save::Writing;
 
 // The load of a buffer's first bytes, as many as are asked for and are there.
-fn load_front(buffer: &[u8], long: usize, ram: &mut [u16], flash: &[u16]) -> Loading
-    ensures { Loads (take long buffer.now) ram.old (length flash.now) result ram.new }
+fn load_front(buffer: &[u8], long: usize, ram: &mut [u16], flash: &[u16]) -> Result<Loaded, Refusal>
+    ensures { Loads (take long buffer.now) ram.old (length flash.now) (loading_from result) ram.new × (result ≡ load_answer (loading_from result)) }
 {
     if long < buffer.len() {
         return load::load(&buffer[..long], ram, flash);
@@ -35,11 +35,21 @@ fn length_of(r: Result<Built, Declined>) -> usize
     }
 }
 
+// The same of a writing.
+fn length_written(r: Result<usize, Declined>) -> usize
+    ensures { result ≡ (saving_from r).length }
+{
+    match r {
+        Ok(length) => length,
+        Err(d) => d.length,
+    }
+}
+
 // What `build` answers, and what `load` answers of the image at its buffer's front.
 #[derive(Clone, Copy)]
 pub struct Title {
     pub building: Result<Built, Declined>,
-    pub loading: Loading,
+    pub loading: Result<Loaded, Refusal>,
 }
 
 pub fn press_and_load(
@@ -60,9 +70,9 @@ pub fn press_and_load(
       flash = flash.now;
       building = building_from result.building;
       left = out.new;
-      loading = result.loading;
+      loading = loading_from result.loading;
       stored = ram.new;
-    }) }
+    }) × (result.loading ≡ load_answer (loading_from result.loading)) }
 {
     let building = build::build(bin, cfg, label, out);
     let loading = load_front(out, length_of(building), ram, flash);
@@ -72,8 +82,8 @@ pub fn press_and_load(
 // What `write` answers, and what `load` answers of the image at its buffer's front.
 #[derive(Clone, Copy)]
 pub struct Copy {
-    pub writing: Writing,
-    pub loading: Loading,
+    pub writing: Result<usize, Declined>,
+    pub loading: Result<Loaded, Refusal>,
 }
 
 pub fn write_and_load<'a>(
@@ -93,13 +103,15 @@ pub fn write_and_load<'a>(
       out = out.old;
       ram = ram.old;
       flash = flash.now;
-      writing = result.writing;
+      writing = saving_from result.writing;
       left = out.new;
-      loading = result.loading;
+      loading = loading_from result.loading;
       stored = ram.new;
-    }) }
+    })
+        × (result.writing ≡ save_answer (saving_from result.writing))
+        × (result.loading ≡ load_answer (loading_from result.loading)) }
 {
     let writing = save::write(out, flags, uid, mapping, permissions, flips, from, marks);
-    let loading = load_front(out, writing.length, ram, flash);
+    let loading = load_front(out, length_written(writing), ram, flash);
     Copy { writing, loading }
 }

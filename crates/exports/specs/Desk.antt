@@ -3,9 +3,7 @@ use Rattle.std.specs.Prelude.{ℕ, Option, Some, None, Result, Ok, Err}
 use Rattle.basics.specs.declared.Refusal.{Refusal}
 use Rattle.lookup.specs.declared.Place.{Place}
 use Rattle.lookup.specs.declared.Place.TheVariants.{Label, Image}
-use Rattle.recovery.specs.declared.Stopped.{Stopped}
-use Rattle.recovery.specs.declared.Stopped.TheVariants.{Nowhere, At}
-use Rattle.recovery.specs.declared.Salvaging.{Salvaging}
+use Rattle.recovery.specs.Salvage.{Stopped, Nowhere, At, Salvaging}
 use Rattle.unbuild.specs.declared.Unbuilding.{Unbuilding}
 use Rattle.exports.specs.declared.desk.FoundText.{FoundText}
 use Rattle.exports.specs.declared.desk.Salvaged.{Salvaged}

@@ -2,7 +2,7 @@
 use Rattle.std.specs.Prelude.{ℕ, Bool, not, List, eqb, get_or}
 use Rattle.basics.specs.Tables.{table}
 use Rattle.places.specs.Limits.{locutus_paragraphs}
-use Rattle.save.specs.declared.Writing.{Writing}
+use Rattle.save.specs.Writing.{Writing}
 use Rattle.exports.specs.declared.writer.WrittenImage.{WrittenImage}
 
 -- a mark for every byte but 0

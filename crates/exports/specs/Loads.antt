@@ -2,7 +2,7 @@
 use Rattle.std.specs.Prelude.{ℕ, List, ◌∷◌, []}
 use Rattle.header.specs.declared.Compat.{Compat}
 use Rattle.header.specs.Flags.{number_of}
-use Rattle.load.specs.declared.Loading.{Loading}
+use Rattle.load.specs.Load.{Loading}
 use Rattle.exports.specs.declared.Loaded.{Loaded}
 use Rattle.registers.specs.Words.{words_of}
 

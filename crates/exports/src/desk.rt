@@ -1,14 +1,13 @@
 // What else the desk does with an image: a text by its tag, what is sound of a damaged one, and back to BIN and CFG.
 ghost use Rattle.std.specs.Prelude.{◌≡◌, length};
 ghost use Rattle.lookup.specs.Lookup.{find_of};
-ghost use Rattle.recovery.specs.Salvage.{salvaging_of, written_of, drops_in, listed_in};
+ghost use Rattle.recovery.specs.Salvage.{salvaging_from, salvaging_of, written_of, drops_in, listed_in};
 ghost use Rattle.unbuild.specs.Unbuild.{unbuilding_of, bin_after, cfg_after};
 ghost use Rattle.exports.specs.Desk.{text_in, found_as, salvaged_at, salvaged_as, unbuilt_as};
 
-use basics::Refusal;
+use basics::{Declined, Refusal};
 use lookup::Place;
 use metadata::Span;
-use recovery::{Salvaging, Stopped};
 use unbuild::Unbuilding;
 
 // Where a text stands: bytes `from` up to `to` of no file, 0, of the label, 1, or of the image, 2.
@@ -72,13 +71,13 @@ pub struct Salvaged {
     pub stop: usize,
 }
 
-fn salvaged_at(s: Salvaging, stopped: u32, stop: usize) -> Salvaged
-    ensures { result ≡ salvaged_at s stopped stop }
+fn salvaged_at(s: recovery::Salvaged, stopped: u32, stop: usize) -> Salvaged
+    ensures { result ≡ salvaged_at (salvaging_from (Ok s)) stopped stop }
 {
     Salvaged {
-        number: s.refusal.number,
+        number: 0,
         stopped,
-        place: s.refusal.place,
+        place: 0,
         length: s.length,
         kept: s.kept,
         dropped: s.dropped,
@@ -86,12 +85,23 @@ fn salvaged_at(s: Salvaging, stopped: u32, stop: usize) -> Salvaged
     }
 }
 
-fn salvaged_as(s: Salvaging) -> Salvaged
-    ensures { result ≡ salvaged_as s }
+fn salvaged_as(answer: Result<recovery::Salvaged, Declined>) -> Salvaged
+    ensures { result ≡ salvaged_as (salvaging_from answer) }
 {
-    match s.stopped {
-        Stopped::Nowhere => salvaged_at(s, 0, 0),
-        Stopped::At(p) => salvaged_at(s, 1, p),
+    match answer {
+        Err(d) => Salvaged {
+            number: d.refusal.number,
+            stopped: 0,
+            place: d.refusal.place,
+            length: d.length,
+            kept: 0,
+            dropped: 0,
+            stop: 0,
+        },
+        Ok(s) => match s.stopped {
+            None => salvaged_at(s, 0, 0),
+            Some(p) => salvaged_at(s, 1, p),
+        },
     }
 }
 

@@ -13,17 +13,16 @@ ghost use Rattle.places.specs.Limits.{lent};
 ghost use Rattle.sums.specs.Crc.{dowcrc_of, crc324_of, crc32_of};
 ghost use Rattle.cart.specs.Cartridges.{fresh};
 ghost use Rattle.lending.specs.Lending.{flash_for};
-ghost use Rattle.load.specs.Load.{loading_of, load_ram_of};
+ghost use Rattle.load.specs.Load.{loading_from, loading_of, load_ram_of};
 ghost use Rattle.build.specs.Building.{building_from, building_of, built_of};
 ghost use Rattle.registers.specs.Words.{jlp_from};
 ghost use Rattle.exports.specs.Loads.{fields_of, loaded_of};
 ghost use Rattle.exports.specs.Builds.{built_as};
 ghost use Rattle.exports.specs.Runs.{active_as, answers_in, carried, numbered, numbered_writes, active_after, ram_after, flash_after};
 
-use basics::Declined;
+use basics::{Declined, Refusal};
 use cart::Cartridge;
 use header::Compat;
-use load::Loading;
 use places::{Console, FLIP_ENTRIES, PARAGRAPHS};
 use registers::{ACCELERATOR_WORDS, jlp_from, words_of};
 
@@ -79,16 +78,17 @@ fn compat_of(c: Compat) -> [u8; 5]
 
 // The arrays go through variables, here and in `active_as` and `state_of`: tried straight from field to field, which the check does not cover.
 // This and the other conversions into C's structs are functions and no `From`: each has one caller, which `into` would make no plainer.
-fn answered(l: Loading) -> Loaded
-    ensures { result ≡ loaded_of l }
+fn laid(r: Refusal, l: load::Loaded) -> Loaded
+    ensures { result ≡ loaded_of (record { refusal = r; cartridge = l.cartridge; compat = l.compat; blocks = l.blocks; words = l.words }) }
 {
-    let mapping = l.cartridge.mapping;
-    let permissions = l.cartridge.permissions;
-    let flips = l.cartridge.flips;
-    let accelerators = words_of(l.cartridge.jlp);
+    let cartridge = l.cartridge;
+    let mapping = cartridge.mapping;
+    let permissions = cartridge.permissions;
+    let flips = cartridge.flips;
+    let accelerators = words_of(cartridge.jlp);
     Loaded {
-        number: l.refusal.number,
-        place: l.refusal.place,
+        number: r.number,
+        place: r.place,
         blocks: l.blocks,
         words: l.words,
         compat: compat_of(l.compat),
@@ -97,6 +97,24 @@ fn answered(l: Loading) -> Loaded
         flips,
         readable: l.cartridge.readable,
         accelerators,
+    }
+}
+
+// A refused load has its refusal, zero in all else, and nothing said of the TutorVision.
+fn answered(answer: Result<load::Loaded, Refusal>) -> Loaded
+    ensures { result ≡ loaded_of (loading_from answer) }
+{
+    match answer {
+        Ok(l) => laid(basics::no_refusal(), l),
+        Err(r) => {
+            let none = load::Loaded {
+                cartridge: tables::no_cartridge(),
+                compat: header::no_compat(),
+                blocks: 0,
+                words: 0,
+            };
+            laid(r, none)
+        }
     }
 }
 

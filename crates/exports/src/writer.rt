@@ -1,12 +1,12 @@
 // The plain writer: an image from flag bytes, UID, tables, a RAM, and a byte for each Locutus paragraph.
 ghost use Rattle.std.specs.Prelude.{◌<◌, ◌≡◌};
 ghost use Rattle.tables.specs.Tables.{tables};
-ghost use Rattle.save.specs.Writing.{content, writing_of, written_of};
+ghost use Rattle.save.specs.Writing.{content, saving_from, writing_of, written_of};
 ghost use Rattle.exports.specs.Images.{marks_from, image_as};
 
+use basics::Declined;
 use header::{FLAGS_SIZE, UID_SIZE};
 use places::{LOCUTUS_PARAGRAPHS, PARAGRAPHS};
-use save::Writing;
 use std::array;
 
 // What the writer answers: its refusal, and the image's length.
@@ -18,13 +18,20 @@ pub struct WrittenImage {
     pub length: usize,
 }
 
-fn image_as(w: Writing) -> WrittenImage
-    ensures { result ≡ image_as w }
+fn image_as(answer: Result<usize, Declined>) -> WrittenImage
+    ensures { result ≡ image_as (saving_from answer) }
 {
-    WrittenImage {
-        number: w.refusal.number,
-        place: w.refusal.place,
-        length: w.length,
+    match answer {
+        Ok(length) => WrittenImage {
+            number: 0,
+            place: 0,
+            length,
+        },
+        Err(d) => WrittenImage {
+            number: d.refusal.number,
+            place: d.refusal.place,
+            length: d.length,
+        },
     }
 }
 

@@ -3,6 +3,7 @@
 
 ghost use Rattle.std.specs.Prelude.{◌≤◌, ◌≡◌, length};
 ghost use Rattle.basics.specs.Lists.{put_front};
+ghost use Rattle.basics.specs.Refusals.{passed};
 ghost use Rattle.header.specs.Header.{header_size, flags_size, uid_size, header_of, flags_of, wrong_length, wrong_magic, wrong_version, wrong_header_sum, header_refusal};
 ghost use Rattle.header.specs.Flags.{jlp_field, flash_size, setting_of, stated_at, number_of, compat_of, no_compat};
 
@@ -173,22 +174,22 @@ fn wrong_sum(s: &[u8]) -> bool
 
 // Checks an image's header: refusals 1 to 4, in their order.
 #[tactic(auto, unfolding(crate::specs::Header::header_rows))]
-pub fn check(s: &[u8]) -> Refusal
-    ensures { result ≡ header_refusal s.now }
+pub fn check(s: &[u8]) -> Result<(), Refusal>
+    ensures { result ≡ passed (header_refusal s.now) }
 {
     if wrong_length(s) {
-        return basics::refuse(1, 0);
+        return Err(basics::refuse(1, 0));
     }
     if wrong_magic(s) {
-        return basics::refuse(2, 0);
+        return Err(basics::refuse(2, 0));
     }
     if wrong_version(s) {
-        return basics::refuse(3, 0);
+        return Err(basics::refuse(3, 0));
     }
     if wrong_sum(s) {
-        return basics::refuse(4, 0);
+        return Err(basics::refuse(4, 0));
     }
-    basics::no_refusal()
+    Ok(())
 }
 
 // Returns the number of bytes in the header of these flags and this UID.

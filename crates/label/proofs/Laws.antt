@@ -7,16 +7,17 @@ use native.Mathlib.Omega.{arith}
 use lib.ListN.{length}
 use borrow.Author.Tests.{lt-ltb, le-ltb}
 use borrow.Rule.Slice.PartMut.{put_mid}
+use Rattle.std.specs.Prelude.{Ok, Err}
 use Rattle.basics.specs.declared.Refusal.{Refusal}
 use Rattle.basics.specs.Lists.{part, put_front}
-use Rattle.basics.specs.Refusals.{refuse, no_refusal}
+use Rattle.basics.specs.Refusals.{refuse, no_refusal, declined}
 use Rattle.basics.specs.Laws.Wrote.{Wrote, wrote_none, wrote_part}
 use Rattle.basics.specs.Laws.Puts.{put_wrote}
 use Rattle.sums.specs.Crc.{crc324_of}
 use Rattle.blocks.specs.Blocks.{frame_size, payload_limit, metadata_type, put_frame}
 use Rattle.blocks.specs.Laws.Payloads.{placed, framed_placed}
 use Rattle.blocks.specs.Laws.ReadBack.{length_block}
-use Rattle.label.specs.Label.{label_block, wrong_label, refusal_of, writing_of, written_of}
+use Rattle.label.specs.Label.{label_block, wrong_label, refusal_of, label_answer, writing_of, written_of}
 use Rattle.label.specs.Laws.Label.{label_fits}
 
 -- the label put in place, then its frame
@@ -27,7 +28,7 @@ label_placed label out ys after sum n m ey es e = framed_placed label out ys n e
 
 -- 12, 29, and the block written
 module _ (out label : List ℕ) (b : Bool) (eb : b ≡ wrong_label label) where
-  pub write_12 : b ≡ true → (r : Refusal) → r ≡ refuse 12 0 → record { refusal = r; length = 0 } ≡ writing_of out label
+  pub write_12 : b ≡ true → (r : Refusal) → r ≡ refuse 12 0 → Err (declined r 0) ≡ label_answer (writing_of out label)
   unfolding writing_of refusal_of
   write_12 h r er = rw (← eb, h, er)
 
@@ -50,7 +51,7 @@ module _ (out label : List ℕ) (b : Bool) (eb : b ≡ wrong_label label) where
       unfolding refusal_of
       refused_29 = rw (good, lt-ltb (length out) (length (label_block label)) (omega (arith, long)))
 
-      pub write_29 : (r : Refusal) → r ≡ refuse 29 0 → record { refusal = r; length = frame_size + length label } ≡ writing_of out label
+      pub write_29 : (r : Refusal) → r ≡ refuse 29 0 → Err (declined r (frame_size + length label)) ≡ label_answer (writing_of out label)
       unfolding writing_of
       write_29 r er = rw (refused_29, er, long)
 
@@ -63,9 +64,9 @@ module _ (out label : List ℕ) (b : Bool) (eb : b ≡ wrong_label label) where
       unfolding refusal_of
       accepted = rw (good, le-ltb (length out) (length (label_block label)) (omega (arith, long)))
 
-      pub write_done : (r : Refusal) → r ≡ no_refusal → record { refusal = r; length = frame_size + length label } ≡ writing_of out label
+      pub write_done : Ok (frame_size + length label) ≡ label_answer (writing_of out label)
       unfolding writing_of
-      write_done r er = rw (accepted, er, long)
+      write_done = rw (accepted, long)
 
       pub put_done : (ys : List ℕ) → ys ≡ label_block label → put_mid 0 (frame_size + length label - 0) out ys ≡ written_of out label
       unfolding written_of

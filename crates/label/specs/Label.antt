@@ -1,12 +1,12 @@
 -- A label file is a series of sub-records; a metadata block is written of it, its bytes as they stand (02, W-204).
-use Rattle.std.specs.Prelude.{ℕ, List, [], ◌∷◌, Bool, cond, ◌||◌, length, eqb, ltb}
+use Rattle.std.specs.Prelude.{ℕ, List, [], ◌∷◌, Bool, cond, ◌||◌, length, eqb, ltb, Result}
 use Rattle.basics.specs.declared.Refusal.{Refusal}
+use Rattle.basics.specs.declared.Declined.{Declined}
 use Rattle.basics.specs.Lists.{put_front}
 use Rattle.basics.specs.Rows.{Row}
-use Rattle.basics.specs.Refusals.{refuse, first_refusal, passes}
+use Rattle.basics.specs.Refusals.{refuse, first_refusal, passes, outcome_at}
 use Rattle.metadata.specs.Records.{is_cut}
 use Rattle.blocks.specs.Blocks.{block_of, metadata_type, payload_limit}
-use Rattle.label.specs.declared.Writing.{Writing}
 
 abbrev pub label_block : List ℕ → List ℕ
 label_block label = block_of metadata_type label
@@ -29,9 +29,18 @@ refusal_rows out label =
 unfoldable pub refusal_of : List ℕ → List ℕ → Refusal
 refusal_of out label = first_refusal (refusal_rows out label)
 
+-- what writing a label comes to: its refusal, and a length
+pub record Writing : Type 0 where
+  pub refusal : Refusal
+  pub length : ℕ
+
 -- the answer: the refusal, and zero in all else but the length at 29; and the block's length where nothing is refused
 unfoldable pub writing_of : List ℕ → List ℕ → Writing
 writing_of out label = record { refusal = refusal_of out label; length = cond (eqb (refusal_of out label).number 12) 0 (length (label_block label)) }
+
+-- what the code answers of it: the block's length, or the refusal with the length that is needed
+abbrev pub label_answer : Writing → Result ℕ Declined
+label_answer w = outcome_at w.refusal w.length w.length
 
 -- the buffer: the block at its front where it was written, and all bytes kept where it was not
 unfoldable pub written_of : List ℕ → List ℕ → List ℕ

@@ -3,23 +3,17 @@
 
 ghost use Rattle.std.specs.Prelude.{◌≡◌, ◌+◌, ◌≤◌, length};
 ghost use Rattle.blocks.specs.Blocks.{frame_size, payload_limit};
-ghost use Rattle.label.specs.Label.{label_block, wrong_label, writing_of, written_of};
+ghost use Rattle.label.specs.Label.{label_block, wrong_label, label_answer, writing_of, written_of};
 
-use basics::Refusal;
+use basics::Declined;
 use blocks::{FRAME_SIZE, PAYLOAD_LIMIT};
 
-// What writing a label answers: its refusal, and the block's length, also where the buffer is too short for it.
-#[derive(Clone, Copy)]
-pub struct Writing {
-    pub refusal: Refusal,
-    pub length: usize,
-}
-
 // 12, of a label that is to be a block.
+#[tactic(auto, unfolding(crate::specs::Label::wrong_label))]
 pub fn is_wrong(label: &[u8]) -> bool
     ensures { result ≡ wrong_label label.now }
 {
-    basics::either(metadata::is_cut(label), PAYLOAD_LIMIT < label.len())
+    metadata::is_cut(label) || PAYLOAD_LIMIT < label.len()
 }
 
 // The label's block, into a part of just its size.
@@ -31,26 +25,20 @@ fn put_block(out: &mut [u8], label: &[u8])
     blocks::put_frame(out, blocks::METADATA_TYPE, sums::crc324(label));
 }
 
-// The label's block, at the front of a lent buffer.
-pub fn write(out: &mut [u8], label: &[u8]) -> Writing
-    ensures { (result ≡ writing_of out.old label.now) × (out.new ≡ written_of out.old label.now) }
+// Writes the label's block at the front of a lent buffer, and returns its length; the length that is needed where the buffer is too short for it.
+pub fn write(out: &mut [u8], label: &[u8]) -> Result<usize, Declined>
+    ensures { (result ≡ label_answer (writing_of out.old label.now)) × (out.new ≡ written_of out.old label.now) }
 {
     if is_wrong(label) {
-        return Writing {
-            refusal: basics::refuse(12, 0),
-            length: 0,
-        };
+        return Err(Declined::from(basics::refuse(12, 0)));
     }
     let long = FRAME_SIZE + label.len();
     if out.len() < long {
-        return Writing {
+        return Err(Declined {
             refusal: basics::refuse(29, 0),
             length: long,
-        };
+        });
     }
     put_block(&mut out[0..long], label);
-    Writing {
-        refusal: basics::no_refusal(),
-        length: long,
-    }
+    Ok(long)
 }

@@ -2,3 +2,4 @@
 pub mod Refusals
 pub mod Stated
 pub mod Readable
+pub mod Answers

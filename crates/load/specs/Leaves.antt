@@ -5,7 +5,7 @@ use Rattle.places.specs.Limits.{lent}
 use Rattle.hunk.specs.Hunk.{Hunk, end_of}
 use Rattle.blocks.specs.Blocks.{is_hunk, payload_in}
 use Rattle.blocks.specs.Images.{blocks_in, hunks_in, word_count}
-use Rattle.load.specs.declared.Loading.{Loading}
+use Rattle.load.specs.Load.{Loading}
 
 -- a hunk names word i; one of some hunks does
 abbrev pub names : Hunk → ℕ → Bool

@@ -135,23 +135,20 @@ pub twice_second : (s : List ℕ) (tag : ℕ) (b : Bool) → b ≡ is_single tag
 twice_second s tag b eb h x ex = ap is_ok ex ∙ second (image_texts tag s) ∙ rw (← eb, h)
 
 -- what is refused, by the code's cases
-module _ (label image : List ℕ) (r : Refusal) (er : r ≡ refusal_by_size image lent_limit) where
-  pub refuses_image : (r.number ≡ 0 → ⊥) → Err r ≡ passed (refusal_of label image)
-  refuses_image h =
-      let e : r ≡ refusal_of label image = er ∙ sym (refused_image label image (rw er at h)) in
-      ap Err e ∙ sym (outcome_err (refusal_of label image) tt (rw e at h))
+module _ (label image : List ℕ) where
+  pub refuses_image : (r : Refusal) → passed (refusal_by_size image lent_limit) ≡ Err r → Err r ≡ passed (refusal_of label image)
+  refuses_image r e =
+      rw (refused_image label image (err_some (refusal_by_size image lent_limit) tt r e)) (sym e)
 
-  module _ (z : r.number ≡ 0) (b : Bool) (eb : b ≡ is_cut label) where
+  module _ (u : Unit {0}) (z : passed (refusal_by_size image lent_limit) ≡ Ok u) (b : Bool) (eb : b ≡ is_cut label) where
     asked : refusal_of label image ≡ cond b (refuse 12 0) no_refusal
-    asked = refused_label label image (rw er at z) ∙ rw eb
+    asked = refused_label label image (ok_none (refusal_by_size image lent_limit) tt u z) ∙ rw eb
 
     pub refuses_label : b ≡ true → (q : Refusal) → q ≡ refuse 12 0 → Err q ≡ passed (refusal_of label image)
     refuses_label h q eq = ap Err eq ∙ rw (asked, h)
 
     pub refuses_none : b ≡ false → Ok tt ≡ passed (refusal_of label image)
     refuses_none h = rw (asked, h)
-
-pub ruleset refuses = (refuses_image, refuses_label, refuses_none)
 
 -- what is found, by the code's cases
 module _ (label image : List ℕ) (tag n : ℕ) where

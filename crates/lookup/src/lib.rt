@@ -62,10 +62,7 @@ pub fn is_twice(image: &[u8], tag: u8) -> bool
 pub fn refusal_of(label: &[u8], image: &[u8]) -> Result<(), Refusal>
     ensures { result ≡ passed (refusal_of label.now image.now) }
 {
-    let r = load::refusal_for(image, places::LENT_LIMIT);
-    if r.number != 0 {
-        return Err(r);
-    }
+    load::refusal_for(image, places::LENT_LIMIT)?;
     if metadata::is_cut(label) {
         return Err(basics::refuse(12, 0));
     }

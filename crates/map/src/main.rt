@@ -130,11 +130,8 @@ fn map(rt: &HostRuntime, file: &mut [u8], ram: &mut [u16], flash: &[u16]) -> Res
     let read = files::read_argument(rt, IMAGE, file)?;
     let image = &file[..read.n];
     let f = lending::flash_words(image, flash.len());
-    let loading = load::load(image, ram, &flash[..f]);
-    if loading.refusal.number != 0 {
-        return Err(Failure::Refused(loading.refusal));
-    }
-    let _ = show(rt, loading.cartridge, loading.words);
+    let loaded = load::load(image, ram, &flash[..f])?;
+    let _ = show(rt, loaded.cartridge, loaded.words);
     Ok(())
 }
 

@@ -4,14 +4,17 @@ use mathlib.Core.Path.{◌≡◌, refl, sym, ap, ◌∙◌}
 use mathlib.Core.List.{List, [], ◌∷◌, ◌++◌, append_assoc, append-nil}
 use mathlib.Core.Bool.{Bool}
 use native.Mathlib.Omega.{arith}
-use borrow.Author.Tests.{lt-ltb, le-ltb, eq-eqb, ne_eqb, eqb-true, eqb-false, ltb-true}
+use borrow.Author.Tests.{lt-ltb, le-ltb, eq-eqb, ne_eqb, ltb-true}
 use borrow.Rule.Slice.PartMut.{put_mid}
-use lib.ListN.{length, take, drop, set, length-append}
-use lib.Seq.{length-take-le, set_out}
+use lib.ListN.{length, take, drop, length-append}
+use lib.Seq.{length-take-le}
 use lib.Dec.{ltb}
+use Rattle.std.specs.Prelude.{Result, Ok, Err}
 use Rattle.basics.specs.declared.Refusal.{Refusal}
+use Rattle.basics.specs.declared.Declined.{Declined}
+use Rattle.basics.specs.Laws.Outcomes.{ok_none, ok_value, err_is, err_some}
 use Rattle.basics.specs.Lists.{part, flat, put_front}
-use Rattle.basics.specs.Refusals.{refuse, no_refusal, first_refusal, passes}
+use Rattle.basics.specs.Refusals.{refuse, no_refusal, first_refusal, declined, passed}
 use Rattle.basics.specs.Laws.Tests.{cases}
 use Rattle.basics.specs.Laws.Refusals.{refused_front, silent_behind}
 use Rattle.basics.specs.Laws.Wrote.{Wrote, wrote_none, wrote_set, wrote_part}
@@ -20,44 +23,21 @@ use Rattle.places.specs.Limits.{image_limit, card_limit}
 use Rattle.header.specs.Header.{header_size, header_rows, header_refusal}
 use Rattle.header.specs.Laws.Refusals.{header_accepted, accepted_length}
 use Rattle.blocks.specs.Blocks.{frame_size}
-use Rattle.blocks.specs.Images.{first_block, blocks_in}
+use Rattle.blocks.specs.Images.{first_block}
 use Rattle.recovery.specs.declared.Found.{Found}
-use Rattle.recovery.specs.declared.Verdict.{Verdict}
-use Rattle.recovery.specs.declared.Verdict.TheVariants.{Refused, Goes}
-use Rattle.recovery.specs.declared.Salvaging.{Salvaging}
-use Rattle.recovery.specs.Salvage.{kept_in, closing, salvage_of, blocks_rows, image_refusal, refusal_of, refused, fitted, salvaging_of, written_of}
+use Rattle.recovery.specs.declared.Salvaged.{Salvaged}
+use Rattle.recovery.specs.Salvage.{kept_in, closing, salvage_of, blocks_rows, image_refusal, refusal_of, salvage_answer, fitted, salvaging_of, written_of}
 use Rattle.recovery.specs.Card.{answer_of, answered_of}
 use Rattle.recovery.specs.Laws.Closed.{closed_is, length_closed}
 use Rattle.recovery.specs.Laws.Salvage.{salvage_is}
 use Rattle.recovery.specs.Laws.Refusals.{image_first, image_passed}
-use Rattle.recovery.specs.Code.Passes.{closed_size, end_put, found_of, survey_of, Noted}
+use Rattle.recovery.specs.Code.Passes.{closed_size, end_put, found_of, survey_of}
 
 -- ---- the buffer
 
 module _ (n : ℕ) where
-  pub size-one : n < image_limit → n + 1 ≡ closed_size n
+  size-one : n < image_limit → n + 1 ≡ closed_size n
   size-one h = rw (lt-ltb _ _ h)
-
-  pub size_none : image_limit ≤ n → n ≡ closed_size n
-  size_none h = rw (le-ltb _ _ h) (omega arith)
-
-module _ (n : ℕ) (out : List ℕ) where
-  pub end-full : image_limit ≤ n → out ≡ end_put n out
-  unfolding end_put
-  end-full h = rw (le-ltb _ _ h)
-
-  pub end-here : n < image_limit → set out n 0xFF ≡ end_put n out
-  unfolding end_put
-  end-here h = rw (lt-ltb _ _ h)
-
-  pub end-past : n < image_limit → length out ≤ n → out ≡ end_put n out
-  unfolding end_put
-  end-past h k = rw (lt-ltb _ _ h) (sym (set_out out n 0xFF k))
-
-pub ruleset ends = (end-full, end-here, end-past)
-
-pub note-past : (l : List ℕ) (n p : ℕ) → length l ≤ n → l ≡ set l n p
-note-past l n p h = sym (set_out l n p h)
 
 module _ (s out : List ℕ) (long : ℕ) (enough : header_size ≤ length s) (el : long ≡ first_block + length (flat (kept_in s))) where
   header_long : length (take header_size s) ≡ 32
@@ -99,11 +79,11 @@ module _ (s : List ℕ) (enough : header_size ≤ length s) (found : Found) (ef 
   size_is =
       en ∙ rw ef (sym (ap length (salvage_is s) ∙ length_closed (take header_size s) (kept_in s) (length-take-le header_size s enough)))
 
-  pub finish-short : (out : List ℕ) → length out < n → (r : Refusal) → r ≡ refuse 29 0 → (w : Salvaging) → w ≡ refused r n → w ≡ fitted (length out) s
+  pub finish-short : (out : List ℕ) → length out < n → (r : Refusal) → r ≡ refuse 29 0 → Err (declined r n) ≡ salvage_answer (fitted (length out) s)
   unfolding fitted
-  finish-short out h r er w ew =
+  finish-short out h r er =
       let k : length out < length (salvage_of s) = omega (arith, size_is) in
-      ew ∙ rw (lt-ltb _ _ k, er, size_is)
+      rw (lt-ltb _ _ k, er, size_is)
 
   pub finish-kept : (out : List ℕ) → length out < n → out ≡ put_front (salvage_of s) out
   finish-kept out h = put_short (salvage_of s) out (omega (arith, size_is))
@@ -114,18 +94,18 @@ module _ (s : List ℕ) (enough : header_size ≤ length s) (found : Found) (ef 
   pub finish-long : found.long ≡ first_block + length (flat (kept_in s))
   finish-long = rw ef
 
-  pub finish-good : (out : List ℕ) → n ≤ length out → (r : Refusal) → r ≡ no_refusal
-      → record { refusal = r; length = n; kept = found.kept; dropped = found.dropped; stopped = found.stopped } ≡ fitted (length out) s
+  pub finish-good : (out : List ℕ) → n ≤ length out
+      → Ok (record { length = n; kept = found.kept; dropped = found.dropped; stopped = found.stopped }) ≡ salvage_answer (fitted (length out) s)
   unfolding fitted
-  finish-good out h r er =
+  finish-good out h =
       let k : length (salvage_of s) ≤ length out = omega (arith, size_is) in
-      rw (le-ltb _ _ k, er, size_is, ef)
+      rw (le-ltb _ _ k, size_is, ef)
 
 -- ---- the salvage
 
-refused_by : (out s : List ℕ) (r : Refusal) → (r.number ≡ 0 → ⊥) → image_refusal s ≡ r → refused r 0 ≡ salvaging_of out s
+refused_by : (out s : List ℕ) (r : Refusal) → (r.number ≡ 0 → ⊥) → image_refusal s ≡ r → Err (declined r 0) ≡ salvage_answer (salvaging_of out s)
 unfolding salvaging_of
-refused_by out s r n e = rw (e, ne_eqb _ _ n)
+refused_by out s r n e = rw (e, ne_eqb _ _ n) (rw (ne_eqb _ _ n))
 
 kept_by : (out s : List ℕ) (r : Refusal) → (r.number ≡ 0 → ⊥) → image_refusal s ≡ r → out ≡ written_of out s
 unfolding written_of
@@ -142,85 +122,82 @@ fitted-by out s e =
     (λ l. let j : refusal_of out s ≡ refuse 29 0 = k ∙ rw l in rw j (sym (put_short (salvage_of s) out (ltb-true _ _ l))))
     (λ l. let j : refusal_of out s ≡ no_refusal = k ∙ rw l in rw j)
 
-module _ (out s : List ℕ) (h : Refusal) (eh : h ≡ header_refusal s) where
+module _ (out s : List ℕ) where
   -- 1 to 4
-  module _ (n : h.number ≡ 0 → ⊥) where
-    head-is : image_refusal s ≡ h
-    unfolding image_refusal
-    head-is = refused_front (header_rows s) _ (rw eh at n) ∙ sym eh
+  module _ (r : Refusal) (e : passed (header_refusal s) ≡ Err r) where
+    head-some : r.number ≡ 0 → ⊥
+    head-some z = err_some (header_refusal s) tt r e (ap (λ (q : Refusal). q.number) (err_is (header_refusal s) tt r e) ∙ z)
 
-    pub head_answers : (w : Salvaging) → w ≡ refused h 0 → w ≡ salvaging_of out s
-    head_answers w ew = ew ∙ refused_by out s h n head-is
+    head-is : image_refusal s ≡ r
+    unfolding image_refusal
+    head-is = refused_front (header_rows s) _ (err_some (header_refusal s) tt r e) ∙ err_is (header_refusal s) tt r e
+
+    pub head_answers : Err (declined r 0) ≡ salvage_answer (salvaging_of out s)
+    head_answers = refused_by out s r head-some head-is
 
     pub head_keeps : out ≡ written_of out s
-    head_keeps = kept_by out s h n head-is
+    head_keeps = kept_by out s r head-some head-is
 
-  module _ (zero : h.number ≡ 0) where
+  module _ (u : Unit {0}) (e : passed (header_refusal s) ≡ Ok u) where
+    zero : (header_refusal s).number ≡ 0
+    zero = ok_none (header_refusal s) tt u e
+
     pub head-enough : header_size ≤ length s
-    head-enough = (accepted_length s (rw eh at zero)).0
+    head-enough = (accepted_length s zero).0
 
     pub head-room : (notes : List Bool) → length notes ≡ 262144 → length s ≤ frame_size * length notes
-    head-room notes l = omega (arith, (accepted_length s (rw eh at zero)).1)
+    head-room notes l = omega (arith, (accepted_length s zero).1)
 
     behind-head : image_refusal s ≡ first_refusal (blocks_rows s)
     unfolding image_refusal
-    behind-head = silent_behind (header_rows s) _ ((header_accepted s).0 (rw eh at zero))
+    behind-head = silent_behind (header_rows s) _ ((header_accepted s).0 zero)
 
-    module _ (v : Verdict) (ev : v ≡ survey_of s) where
-      -- of the blocks
-      denied : (r : Refusal) → v ≡ Refused r → (image_refusal s ≡ r) × (r.number ≡ 0 → ⊥)
+    -- of the blocks
+    module _ (r : Refusal) (d : survey_of s ≡ Err r) where
+      denied-some : r.number ≡ 0 → ⊥
       unfolding survey_of
-      denied r e =
-          cases (passes (first_refusal (blocks_rows s)))
-          (λ p. let x : Goes (found_of s) ≡ Refused r = rw p at (sym ev ∙ e) in let z : ◌≡◌ {A = ℕ} 0 1 = cc in absurd (omega arith))
-          (λ p.
-          let x : Refused (first_refusal (blocks_rows s)) ≡ Refused r = rw p at (sym ev ∙ e) in
-          let y : first_refusal (blocks_rows s) ≡ r = cc in
-          (behind-head ∙ y, λ z. eqb-false _ _ p (ap (λ (q : Refusal). q.number) y ∙ z)))
+      denied-some z = err_some (first_refusal (blocks_rows s)) (found_of s) r d (ap (λ (q : Refusal). q.number) (err_is (first_refusal (blocks_rows s)) (found_of s) r d) ∙ z)
 
-      pub denied-answers : (r : Refusal) → v ≡ Refused r → (w : Salvaging) → w ≡ refused r 0 → w ≡ salvaging_of out s
-      denied-answers r e w ew = ew ∙ refused_by out s r (denied r e).1 (denied r e).0
-
-      pub denied-keeps : (r : Refusal) → v ≡ Refused r → out ≡ written_of out s
-      denied-keeps r e = kept_by out s r (denied r e).1 (denied r e).0
-
-      -- none
-      went : (found : Found) → v ≡ Goes found → ((image_refusal s).number ≡ 0) × (found ≡ found_of s)
+      denied-is : image_refusal s ≡ r
       unfolding survey_of
-      went found e =
-          cases (passes (first_refusal (blocks_rows s)))
-          (λ p.
-          let x : Goes (found_of s) ≡ Goes found = rw p at (sym ev ∙ e) in
-          let y : found ≡ found_of s = cc in
-          (ap (λ (q : Refusal). q.number) behind-head ∙ eqb-true _ _ p, y))
-          (λ p. let x : Refused (first_refusal (blocks_rows s)) ≡ Goes found = rw p at (sym ev ∙ e) in let z : ◌≡◌ {A = ℕ} 0 1 = cc in absurd (omega arith))
+      denied-is = behind-head ∙ err_is (first_refusal (blocks_rows s)) (found_of s) r d
 
-      pub went-found : (found : Found) → v ≡ Goes found → found ≡ found_of s
-      went-found found e = (went found e).1
+      pub denied-answers : Err (declined r 0) ≡ salvage_answer (salvaging_of out s)
+      denied-answers = refused_by out s r denied-some denied-is
 
-      pub went-noted : (notes : List Bool) → ((f : Found) → v ≡ Goes f → Noted (blocks_in s) notes) → (found : Found) → v ≡ Goes found → Noted (blocks_in s) notes
-      went-noted notes n found e = n found e
+      pub denied-keeps : out ≡ written_of out s
+      denied-keeps = kept_by out s r denied-some denied-is
 
-      pub went-answers : (found : Found) → v ≡ Goes found → (w : Salvaging) → w ≡ fitted (length out) s → w ≡ salvaging_of out s
+    -- none
+    module _ (found : Found) (g : survey_of s ≡ Ok found) where
+      none : (image_refusal s).number ≡ 0
+      unfolding survey_of
+      none = ap (λ (q : Refusal). q.number) behind-head ∙ ok_none (first_refusal (blocks_rows s)) (found_of s) found g
+
+      pub went-found : found ≡ found_of s
+      unfolding survey_of
+      went-found = sym (ok_value (first_refusal (blocks_rows s)) (found_of s) found g)
+
+      pub went-answers : (w : Result Salvaged Declined) → w ≡ salvage_answer (fitted (length out) s) → w ≡ salvage_answer (salvaging_of out s)
       unfolding salvaging_of
-      went-answers found e w ew = ew ∙ rw (eq-eqb _ _ (went found e).0)
+      went-answers w ew = ew ∙ rw (eq-eqb _ _ none)
 
-      pub went-written : (found : Found) → v ≡ Goes found → (after : List ℕ) → after ≡ put_front (salvage_of s) out → after ≡ written_of out s
+      pub went-written : (after : List ℕ) → after ≡ put_front (salvage_of s) out → after ≡ written_of out s
       unfolding written_of
-      went-written found e left ea = ea ∙ fitted-by out s (went found e).0
+      went-written after ea = ea ∙ fitted-by out s none
 
 -- ---- the program's
 
 module _ (out s : List ℕ) where
-  pub long-answers : card_limit < length s → (r : Refusal) → r ≡ refuse 30 0 → (w : Salvaging) → w ≡ refused r 0 → w ≡ answer_of out s
+  pub long-answers : card_limit < length s → (r : Refusal) → r ≡ refuse 30 0 → Err (declined r 0) ≡ salvage_answer (answer_of out s)
   unfolding answer_of
-  long-answers h r er w ew = ew ∙ rw (lt-ltb _ _ h, er)
+  long-answers h r er = rw (lt-ltb _ _ h, er)
 
   pub long-keeps : card_limit < length s → out ≡ answered_of out s
   unfolding answered_of
   long-keeps h = rw (lt-ltb _ _ h)
 
-  pub short-answers : length s ≤ card_limit → (w : Salvaging) → w ≡ salvaging_of out s → w ≡ answer_of out s
+  pub short-answers : length s ≤ card_limit → (w : Result Salvaged Declined) → w ≡ salvage_answer (salvaging_of out s) → w ≡ salvage_answer (answer_of out s)
   unfolding answer_of
   short-answers h w ew = ew ∙ rw (le-ltb _ _ h)
 

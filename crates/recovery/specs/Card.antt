@@ -4,8 +4,7 @@ use Rattle.basics.specs.declared.Refusal.{Refusal}
 use Rattle.basics.specs.Rows.{Row}
 use Rattle.basics.specs.Refusals.{refuse}
 use Rattle.places.specs.Limits.{card_limit}
-use Rattle.recovery.specs.declared.Salvaging.{Salvaging}
-use Rattle.recovery.specs.Salvage.{refusal_rows, refused, salvaging_of, written_of}
+use Rattle.recovery.specs.Salvage.{Salvaging, refusal_rows, refused, salvaging_of, written_of}
 
 abbrev pub card_rows : List ℕ → List ℕ → List (Row Refusal)
 card_rows out s = (ltb card_limit (length s), refuse 30 0) ∷ refusal_rows out s

@@ -5,3 +5,4 @@ pub mod Salvage
 pub mod Refusals
 pub mod Reasons
 pub mod Card
+pub mod Answers

@@ -1,10 +1,11 @@
 -- Salvage of a damaged image: which blocks are kept and which are left out, what is refused, what is written and what is answered (02, W-208).
 -- Each refusal is loading's own, for a RAM of 524,288 words.
-use Rattle.std.specs.Prelude.{ℕ, ◌+◌, List, [], ◌∷◌, ◌++◌, Bool, false, cond, not, ◌&&◌, ◌||◌, length, take, eqb, ltb}
+use Rattle.std.specs.Prelude.{ℕ, ◌+◌, List, [], ◌∷◌, ◌++◌, Bool, false, cond, not, ◌&&◌, ◌||◌, length, take, eqb, ltb, Option, Some, None, Result, Ok, Err}
 use Rattle.basics.specs.declared.Refusal.{Refusal}
+use Rattle.basics.specs.declared.Declined.{Declined}
 use Rattle.basics.specs.Lists.{flat, put_front}
 use Rattle.basics.specs.Rows.{Row}
-use Rattle.basics.specs.Refusals.{refuse, no_refusal, first_refusal, passes}
+use Rattle.basics.specs.Refusals.{refuse, no_refusal, first_refusal, passes, outcome_at}
 use Rattle.places.specs.Limits.{lent_limit, image_limit}
 use Rattle.sums.specs.Crc.{crc324_of}
 use Rattle.header.specs.Header.{header_size, header_rows, flags_of}
@@ -12,9 +13,7 @@ use Rattle.tables.specs.Tables.{tables_in, flash_words, tables_rows}
 use Rattle.blocks.specs.Blocks.{payload_in, end_mark, is_tables, is_hunk}
 use Rattle.blocks.specs.Judged.{judge_rows, judged_of}
 use Rattle.blocks.specs.Images.{image_of, first_block, blocks_in, stop_of, is_cut, any_tables, payload_of_tables}
-use Rattle.recovery.specs.declared.Stopped.{Stopped}
-use Rattle.recovery.specs.declared.Stopped.TheVariants.{Nowhere, At}
-use Rattle.recovery.specs.declared.Salvaging.{Salvaging}
+use Rattle.recovery.specs.declared.Salvaged.{Salvaged}
 
 -- the number that a load refuses a block with, 0 where it does not. What stands before a hunk is not asked, so it is judged as a first block
 abbrev pub number_for : List ℕ → ℕ
@@ -41,6 +40,10 @@ abbrev pub drops_in : List ℕ → List ℕ
 drops_in s = drops_from first_block (blocks_in s)
 
 -- where it stops: at a block that would give 5, or nowhere
+pub data Stopped : Type 0 where
+  Nowhere : Stopped
+  At : ℕ → Stopped
+
 abbrev pub stopped_of : List ℕ → Stopped
 stopped_of s = cond (is_cut s) (At (stop_of s)) Nowhere
 
@@ -86,6 +89,25 @@ image_refusal s = first_refusal (image_rows s)
 unfoldable pub refusal_of : List ℕ → List ℕ → Refusal
 refusal_of out s = first_refusal (refusal_rows out s)
 
+-- what a salvage comes to: its refusal, the length of what is written, the blocks kept and left out, and where it stopped
+pub record Salvaging : Type 0 where
+  pub refusal : Refusal
+  pub length : ℕ
+  pub kept : ℕ
+  pub dropped : ℕ
+  pub stopped : Stopped
+
+-- what the code answers of it: the refusal and the length, or what was salvaged
+abbrev pub stop_answer : Stopped → Option ℕ
+stop_answer Nowhere = None
+stop_answer (At p) = Some p
+
+abbrev pub salvaged_as : Salvaging → Salvaged
+salvaged_as l = record { length = l.length; kept = l.kept; dropped = l.dropped; stopped = stop_answer l.stopped }
+
+abbrev pub salvage_answer : Salvaging → Result Salvaged Declined
+salvage_answer l = outcome_at l.refusal l.length (salvaged_as l)
+
 -- the answer of a refused salvage: number and place, zero in all else but the length at 29
 abbrev pub refused : Refusal → ℕ → Salvaging
 refused r long = record { refusal = r; length = long; kept = 0; dropped = 0; stopped = Nowhere }
@@ -115,3 +137,13 @@ written_of out s = cond (passes (refusal_of out s)) (put_front (salvage_of s) ou
 -- a lent array with the places of the blocks left out at its front, as many as it has room for, and all else kept
 unfoldable pub listed_in : List ℕ → List ℕ → List ℕ
 listed_in s array = put_front (take (length array) (drops_in s)) array
+
+-- what the code's answer says that a salvage comes to
+abbrev pub stopped_from : Option ℕ → Stopped
+stopped_from None = Nowhere
+stopped_from (Some p) = At p
+
+abbrev pub salvaging_from : Result Salvaged Declined → Salvaging
+salvaging_from (Ok s) =
+    record { refusal = no_refusal; length = s.length; kept = s.kept; dropped = s.dropped; stopped = stopped_from s.stopped }
+salvaging_from (Err d) = refused d.refusal d.length

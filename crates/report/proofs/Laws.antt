@@ -3,20 +3,30 @@ use Prim.Native.Nat.{ℕ, ◌<◌, ◌≤◌}
 use mathlib.Core.List.{List}
 use mathlib.Core.Path.{◌≡◌, ◌∙◌}
 use lib.ListN.{length}
-use borrow.Author.Tests.{lt-ltb, le-ltb}
+use borrow.Author.Tests.{lt-ltb, le-ltb, ne_eqb}
 use Rattle.places.specs.Limits.{card_limit}
-use Rattle.load.specs.declared.Loading.{Loading}
-use Rattle.load.specs.Load.{loading_of, load_ram_of}
-use Rattle.report.specs.Report.{too_long, report_of, printed, report_ram_of}
+use Rattle.std.specs.Prelude.{Result, Ok, Err}
+use Rattle.basics.specs.declared.Refusal.{Refusal}
+use Rattle.basics.specs.Refusals.{refuse}
+use Rattle.load.specs.declared.Loaded.{Loaded}
+use Rattle.load.specs.Laws.Answers.{loading_ok, loading_err, err_refuses}
+use Rattle.load.specs.Load.{loading_of, load_answer, load_ram_of}
+use Rattle.report.specs.Report.{report_answer, report_of, report_ram_of}
 
 module _ (s : List ℕ) (m : ℕ) where
-  pub too_long_lem : card_limit < length s → too_long ≡ report_of s m
+  pub too_long_lem : card_limit < length s → (r : Refusal) → r ≡ refuse 30 0 → Err r ≡ report_answer (report_of s m)
   unfolding report_of
-  too_long_lem h = simp (lt-ltb _ _ h)
+  too_long_lem h r e = rw (lt-ltb _ _ h, e)
 
-  pub loaded : length s ≤ card_limit → (r : Loading) → r ≡ loading_of s m 0 → printed r ≡ report_of s m
-  unfolding report_of
-  loaded h r e = simp (le-ltb _ _ h, e)
+  module _ (h : length s ≤ card_limit) (v : Result Loaded Refusal) (ev : v ≡ load_answer (loading_of s m 0)) where
+    pub denied : (r : Refusal) → v ≡ Err r → Err r ≡ report_answer (report_of s m)
+    unfolding report_of
+    denied r e =
+        rw (le-ltb _ _ h, ← loading_err s m 0 v ev r e, ne_eqb _ _ (err_refuses s m 0 v ev r e))
+
+    pub loaded : (l : Loaded) → v ≡ Ok l → Ok (record { blocks = l.blocks; words = l.words }) ≡ report_answer (report_of s m)
+    unfolding report_of
+    loaded l e = rw (le-ltb _ _ h, ← loading_ok s m 0 v ev l e)
 
 module _ (s ram : List ℕ) where
   pub too_long_ram : card_limit < length s → ram ≡ report_ram_of s ram

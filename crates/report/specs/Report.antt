@@ -1,10 +1,21 @@
 -- What the image card prints of an image (01, Bench cases, "The image card").
-use Rattle.std.specs.Prelude.{ℕ, List, cond, ltb, length}
-use Rattle.basics.specs.Refusals.{refuse}
+use Rattle.std.specs.Prelude.{ℕ, List, cond, ltb, length, Result}
+use Rattle.basics.specs.declared.Refusal.{Refusal}
+use Rattle.basics.specs.Refusals.{refuse, outcome}
 use Rattle.places.specs.Limits.{card_limit}
-use Rattle.load.specs.declared.Loading.{Loading}
+use Rattle.load.specs.Load.{Loading}
 use Rattle.load.specs.Load.{loading_of, load_ram_of}
-use Rattle.report.specs.declared.Report.{Report}
+use Rattle.report.specs.declared.Counts.{Counts}
+
+-- what the card comes to: a refusal, and what is printed of a load
+pub record Report : Type 0 where
+  pub refusal : Refusal
+  pub blocks : ℕ
+  pub words : ℕ
+
+-- what the code answers of it
+abbrev pub report_answer : Report → Result Counts Refusal
+report_answer r = outcome r.refusal (record { blocks = r.blocks; words = r.words })
 
 abbrev pub printed : Loading → Report
 printed r = record { refusal = r.refusal; blocks = r.blocks; words = r.words }

@@ -4,7 +4,7 @@
 
 use files::{Argument, Failure};
 use places::CARD_LIMIT;
-use recovery::{Salvaging, Stopped};
+use recovery::Salvaged;
 use std::io;
 
 const IMAGE: Argument = Argument {
@@ -24,12 +24,12 @@ const FILE_ROOM: usize = CARD_LIMIT + 1;
 // Room for the places of all blocks that such a file can lose: each has eight bytes at least.
 const DROPS_ROOM: usize = 3072;
 
-fn show(rt: &HostRuntime, salvaging: Salvaging, drops: &[usize]) -> io::Result<()> {
-    let Salvaging { kept, dropped, .. } = salvaging;
+fn show(rt: &HostRuntime, salvaged: Salvaged, drops: &[usize]) -> io::Result<()> {
+    let Salvaged { kept, dropped, .. } = salvaged;
     println!(rt; "kept={kept}\ndropped={dropped}")?;
-    match salvaging.stopped {
-        Stopped::Nowhere => println!(rt; "stopped=none")?,
-        Stopped::At(place) => println!(rt; "stopped={place}")?,
+    match salvaged.stopped {
+        None => println!(rt; "stopped=none")?,
+        Some(place) => println!(rt; "stopped={place}")?,
     }
     for place in drops {
         println!(rt; "drop={place}")?;
@@ -44,15 +44,12 @@ fn salvage(rt: &HostRuntime) -> Result<(), Failure> {
     let mut places: [usize; DROPS_ROOM] = files::room(0);
     let read = files::read_argument(rt, IMAGE, &mut file)?;
     let image = &file[..read.n];
-    let salvaging = recovery::answer(image, &mut out);
-    if salvaging.refusal.number != 0 {
-        return Err(Failure::Refused(salvaging.refusal));
-    }
+    let salvaged = recovery::answer(image, &mut out)?;
     // What was salvaged lies in the buffer: recovery would have refused with 29. And the places have room for all.
-    let n = salvaging.length.min(FILE_ROOM);
+    let n = salvaged.length.min(FILE_ROOM);
     files::write_argument(rt, OUT, &out[..n], &[read.seen])?;
     let drops = recovery::drops(image, &mut places).min(DROPS_ROOM);
-    let _ = show(rt, salvaging, &places[..drops]);
+    let _ = show(rt, salvaged, &places[..drops]);
     Ok(())
 }
 

@@ -2,18 +2,21 @@
 use Prim.Native.Nat.{ℕ, ◌+◌, ◌*◌, ◌-◌, ◌≤◌, ◌<◌}
 use mathlib.Core.List.{List, [], ◌∷◌, ◌++◌}
 use mathlib.Core.Path.{◌≡◌, refl, sym, ap, ◌∙◌}
-use mathlib.Core.Bool.{Bool, true, false, ◌||◌}
+use mathlib.Core.Bool.{Bool, true, false}
 use native.Mathlib.Omega.{arith}
-use lib.ListN.{length, get_or, length-append, get_or-eq_default}
-use lib.Dec.{ltb, eqb}
-use borrow.Author.Tests.{lt-ltb, le-ltb, ne_eqb}
+use lib.ListN.{length, get_or, length-append}
+use lib.Dec.{ltb}
+use borrow.Author.Tests.{lt-ltb, le-ltb, ne_eqb, eq-eqb}
 use borrow.Rule.Slice.PartMut.{put_mid}
 use Rattle.basics.specs.Laws.Refusals.{refused_front, silent_behind}
 use Rattle.basics.specs.Rows.{Row}
+use Rattle.std.specs.Prelude.{Ok, Err}
 use Rattle.basics.specs.declared.Refusal.{Refusal}
+use Rattle.basics.specs.declared.Declined.{Declined}
+use Rattle.basics.specs.Laws.Outcomes.{ok_none, err_is, err_some}
 use Rattle.basics.specs.Lists.{part, put_front}
 use Rattle.basics.specs.Counts.{lowest, any}
-use Rattle.basics.specs.Refusals.{refuse, no_refusal, first_refusal}
+use Rattle.basics.specs.Refusals.{refuse, first_refusal, passed}
 use Rattle.basics.specs.Laws.Tests.{and_true, and_false}
 use Rattle.basics.specs.Laws.Lowest.{any_low, any_not}
 use Rattle.basics.specs.Laws.Wrote.{Wrote, wrote_none, wrote_all, wrote_part}
@@ -29,16 +32,11 @@ use Rattle.hunk.specs.Laws.Sizes.{length_payload}
 use Rattle.blocks.specs.Blocks.{frame_size, payload_in, put_frame, tables_type, hunk_type, end_mark}
 use Rattle.blocks.specs.Laws.ReadBack.{length_block}
 use Rattle.blocks.specs.Laws.Payloads.{placed, block_placed}
-use Rattle.save.specs.declared.Writing.{Writing}
 use Rattle.save.specs.Chosen.{tables_block, hunk_block}
-use Rattle.save.specs.Writing.{Content, content, is_marked, marked, image_by, past, refusal_of, answer_for, writing_of, written_of}
-use Rattle.save.specs.Code.Writing.{block_limit, front_of, front_size, hunk_bytes, image_size, judged_by}
+use Rattle.save.specs.Writing.{Content, content, is_marked, marked, image_by, past, refusal_of, save_answer, writing_of, written_of}
+use Rattle.save.specs.Code.Writing.{block_limit, front_of, front_size, hunk_bytes, image_size, judged_by, declined_by}
 use Rattle.save.specs.Laws.Chosen.{image_parts, length_image}
 use Rattle.save.proofs.Theorems.Refusals.{Accepted, accepted_so}
-
--- past a RAM's end
-pub no_word : (ram : List ℕ) (at : ℕ) → length ram ≤ at → 0 ≡ get_or ram at 0
-no_word ram at h = sym (get_or-eq_default ram 0 h)
 
 -- a hunk's payload that was lent its part, and then its frame
 pub hunk_placed : (at : Locutus) (words out ys after : List ℕ) → length out ≡ frame_size + payload_size words → length out ≤ block_limit
@@ -79,10 +77,9 @@ module _ (marks : List Bool) (n p : ℕ) where
   past_not e = rw (is_off e)
 
 -- the refusals: what is refused of flags and tables, or a row that holds with none before it
-module _ (room : ℕ) (flags flips : List ℕ) (words : ℕ) (marks : List Bool) (long f : ℕ) (size : f ≡ flash_words flags)
-    (t : Refusal) (by : t ≡ tables_refusal flags flips words f) where
-  et : t ≡ tables_refusal flags flips words (flash_words flags)
-  et = by ∙ ap (tables_refusal flags flips words) size
+module _ (room : ℕ) (flags flips : List ℕ) (words : ℕ) (marks : List Bool) (long f : ℕ) (size : f ≡ flash_words flags) where
+  abbrev t : Refusal
+  t = tables_refusal flags flips words (flash_words flags)
 
   abbrev rest : List (Row Refusal)
   rest =
@@ -91,38 +88,32 @@ module _ (room : ℕ) (flags flips : List ℕ) (words : ℕ) (marks : List Bool)
       ∷ (ltb room long, refuse 29 0)
       ∷ []
 
-  pub judge_tables : (t.number ≡ 0 → ⊥) → t ≡ judged_by room flags flips words marks long
+  pub judge_tables : (r : Refusal) → passed (tables_refusal flags flips words f) ≡ Err r → Err r ≡ passed (judged_by room flags flips words marks long)
   unfolding judged_by
-  judge_tables n = et ∙ sym (refused_front (tables_rows flags flips words (flash_words flags)) rest (rw et at n))
+  judge_tables r e =
+      let g : passed t ≡ Err r = rw size at e in
+      rw (refused_front (tables_rows flags flips words (flash_words flags)) rest (err_some t tt r g)) (sym g)
 
-  module _ (z : t.number ≡ 0) (r : Refusal) (first : ℕ) (ef : first ≡ lowest locutus_paragraphs (past marks words)) where
+  module _ (u : Unit {0}) (z : passed (tables_refusal flags flips words f) ≡ Ok u) (first : ℕ) (ef : first ≡ lowest locutus_paragraphs (past marks words)) where
     judged_rest : judged_by room flags flips words marks long ≡ first_refusal rest
     unfolding judged_by
-    judged_rest = silent_behind (tables_rows flags flips words (flash_words flags)) rest ((tables_accepted flags flips words (flash_words flags)).0 (rw et at z))
+    judged_rest =
+        let g : passed t ≡ Ok u = rw size at z in
+        silent_behind (tables_rows flags flips words (flash_words flags)) rest ((tables_accepted flags flips words (flash_words flags)).0 (ok_none t tt u g))
 
-    pub judge_9 : first < locutus_paragraphs → r ≡ refuse 9 first → r ≡ judged_by room flags flips words marks long
-    judge_9 l e = rw (judged_rest, any_low locutus_paragraphs (past marks words) first ef l, ← ef) e
+    pub judge_9 : first < locutus_paragraphs → (r : Refusal) → r ≡ refuse 9 first → Err r ≡ passed (judged_by room flags flips words marks long)
+    judge_9 l r e = rw (judged_rest, any_low locutus_paragraphs (past marks words) first ef l, ← ef, e)
 
     module _ (l : locutus_paragraphs ≤ first) where
-      pub judge_1 : image_limit < long → r ≡ refuse 1 0 → r ≡ judged_by room flags flips words marks long
-      judge_1 k e = rw (judged_rest, any_not locutus_paragraphs (past marks words) first ef l, lt-ltb _ _ k) e
+      pub judge_1 : image_limit < long → (r : Refusal) → r ≡ refuse 1 0 → Err r ≡ passed (judged_by room flags flips words marks long)
+      judge_1 k r e = rw (judged_rest, any_not locutus_paragraphs (past marks words) first ef l, lt-ltb _ _ k, e)
 
       module _ (k : long ≤ image_limit) where
-        pub judge_29 : room < long → r ≡ refuse 29 0 → r ≡ judged_by room flags flips words marks long
-        judge_29 j e = rw (judged_rest, any_not locutus_paragraphs (past marks words) first ef l, le-ltb _ _ k, lt-ltb _ _ j) e
+        pub judge_29 : room < long → (r : Refusal) → r ≡ refuse 29 0 → Err r ≡ passed (judged_by room flags flips words marks long)
+        judge_29 j r e = rw (judged_rest, any_not locutus_paragraphs (past marks words) first ef l, le-ltb _ _ k, lt-ltb _ _ j, e)
 
-        pub judge_none : long ≤ room → r ≡ no_refusal → r ≡ judged_by room flags flips words marks long
-        judge_none j e = rw (judged_rest, any_not locutus_paragraphs (past marks words) first ef l, le-ltb _ _ k, le-ltb _ _ j) e
-
-pub ruleset judges = (judge_tables, judge_9, judge_1, judge_29, judge_none)
-
--- the length of an answer
-module _ (r : Refusal) (long : ℕ) (b : Bool) (eb : b ≡ (eqb r.number 0 || eqb r.number 29)) where
-  pub answer_long : b ≡ true → record { refusal = r; length = long } ≡ answer_for r long
-  answer_long h = rw (← eb, h)
-
-  pub answer_zero : b ≡ false → record { refusal = r; length = 0 } ≡ answer_for r long
-  answer_zero h = rw (← eb, h)
+        pub judge_none : long ≤ room → Ok tt ≡ passed (judged_by room flags flips words marks long)
+        judge_none j = rw (judged_rest, any_not locutus_paragraphs (past marks words) first ef l, le-ltb _ _ k, le-ltb _ _ j)
 
 -- the front in its part, then the hunks and the end in theirs; and the answers of the writer
 module _ (out flags uid : List ℕ) (t : Tables) (ram : List ℕ) (marks : List Bool) (long : ℕ) (el : long ≡ image_size (content flags uid t ram marks)) where
@@ -144,26 +135,37 @@ module _ (out flags uid : List ℕ) (t : Tables) (ram : List ℕ) (marks : List 
       wrote_part out _ f a (long - a) y₂ g w₁ (omega arith) (omega arith) (omega arith) e₂ in
       put_wrote out _ (image_by c) (rw (image_parts flags uid t (marked ram marks)) w₂)
 
-  module _ (words : ℕ) (ew : words ≡ lent ram) (r : Refusal) (er : r ≡ judged_by (length out) flags t.flips words marks long) where
-    same_refusal : r ≡ refusal_of out c
+  module _ (words : ℕ) (ew : words ≡ lent ram) where
+    same_refusal : judged_by (length out) flags t.flips words marks long ≡ refusal_of out c
     unfolding judged_by refusal_of
-    same_refusal = er ∙ rw (ew, image_long)
+    same_refusal = rw (ew, image_long)
 
-    pub write_answer : (w : Writing) → w ≡ answer_for r long → w ≡ writing_of out c
-    unfolding writing_of
-    write_answer w e = e ∙ rw (same_refusal, image_long)
+    module _ (r : Refusal) (e : passed (judged_by (length out) flags t.flips words marks long) ≡ Err r) where
+      some : (refusal_of out c).number ≡ 0 → ⊥
+      some = err_some (refusal_of out c) tt r (rw same_refusal at e)
 
-    pub write_kept : (r.number ≡ 0 → ⊥) → out ≡ written_of out c
-    unfolding written_of
-    write_kept n = rw (← same_refusal, ne_eqb _ _ n)
+      pub write_refused : (d : Declined) → d ≡ declined_by r long → Err d ≡ save_answer (writing_of out c)
+      unfolding writing_of
+      write_refused d ed =
+          let i : refusal_of out c ≡ r = err_is (refusal_of out c) tt r (rw same_refusal at e) in
+          rw (ed, ne_eqb _ _ some, ← i, image_long)
 
-    module _ (e : r.number ≡ 0) where
+      pub write_kept : out ≡ written_of out c
+      unfolding written_of
+      write_kept = rw (ne_eqb _ _ some)
+
+    module _ (u : Unit {0}) (e : passed (judged_by (length out) flags t.flips words marks long) ≡ Ok u) where
+      zero : (refusal_of out c).number ≡ 0
+      zero = ok_none (refusal_of out c) tt u (rw same_refusal at e)
+
       pub write_room : long ≤ length out
       unfolding writing_of
-      write_room =
-          let a : Accepted out c = (accepted_so out c).0 (ap (λ (x : Refusal). x.number) (sym same_refusal) ∙ e) in
-          omega (arith, image_long, a.room)
+      write_room = let a : Accepted out c = (accepted_so out c).0 zero in omega (arith, image_long, a.room)
+
+      pub write_done : Ok long ≡ save_answer (writing_of out c)
+      unfolding writing_of
+      write_done = rw (eq-eqb _ _ zero, image_long)
 
       pub write_put : (after : List ℕ) → after ≡ put_front (image_by c) out → after ≡ written_of out c
       unfolding written_of
-      write_put after ea = rw (← same_refusal, e) ea
+      write_put after ea = rw (eq-eqb _ _ zero) ea

@@ -1,15 +1,15 @@
 -- What the plain writer takes, what it answers, and what it leaves in the lent buffer (01, How an image is laid out by the builder; Numbers that come back).
-use Rattle.std.specs.Prelude.{ℕ, ◌+◌, ◌*◌, List, [], ◌∷◌, ◌++◌, Bool, false, cond, ◌&&◌, ◌||◌, length, get_or, ltb, eqb}
+use Rattle.std.specs.Prelude.{ℕ, ◌+◌, ◌*◌, List, [], ◌∷◌, ◌++◌, Bool, false, cond, ◌&&◌, ◌||◌, length, get_or, ltb, eqb, Result, Ok, Err}
 use Rattle.basics.specs.declared.Refusal.{Refusal}
+use Rattle.basics.specs.declared.Declined.{Declined}
 use Rattle.basics.specs.Lists.{put_front}
 use Rattle.basics.specs.Tables.{table}
 use Rattle.basics.specs.Counts.{any, lowest}
 use Rattle.basics.specs.Rows.{Row}
-use Rattle.basics.specs.Refusals.{refuse, first_refusal, passes}
+use Rattle.basics.specs.Refusals.{refuse, no_refusal, first_refusal, passes, outcome_at}
 use Rattle.places.specs.Limits.{image_limit, lent, locutus_paragraphs, paragraph_size}
 use Rattle.tables.specs.Tables.{Tables, flash_words, tables_rows}
 use Rattle.hunk.specs.Hunk.{Hunk}
-use Rattle.save.specs.declared.Writing.{Writing}
 use Rattle.save.specs.Chosen.{chosen, image_for}
 
 -- flag bytes, UID, the three tables, a RAM, and one mark for each of 2,048 Locutus paragraphs
@@ -56,12 +56,26 @@ refusal_rows out c =
 unfoldable pub refusal_of : List ℕ → Content → Refusal
 refusal_of out c = first_refusal (refusal_rows out c)
 
+-- what writing comes to: its refusal, and a length
+pub record Writing : Type 0 where
+  pub refusal : Refusal
+  pub length : ℕ
+
 -- the answer: the refusal, and zero in all else but the length at 29; and the image's length where nothing is refused
 abbrev pub answer_for : Refusal → ℕ → Writing
 answer_for r long = record { refusal = r; length = cond (passes r || eqb r.number 29) long 0 }
 
 unfoldable pub writing_of : List ℕ → Content → Writing
 writing_of out c = answer_for (refusal_of out c) (length (image_by c))
+
+-- what the code answers of it: the image's length, or the refusal with the length that is needed
+abbrev pub save_answer : Writing → Result ℕ Declined
+save_answer w = outcome_at w.refusal w.length w.length
+
+-- and what such an answer says that the writing comes to
+abbrev pub saving_from : Result ℕ Declined → Writing
+saving_from (Ok n) = record { refusal = no_refusal; length = n }
+saving_from (Err d) = record { refusal = d.refusal; length = d.length }
 
 -- the buffer: the image at its front where it was written, and all bytes kept where it was not
 unfoldable pub written_of : List ℕ → Content → List ℕ

@@ -4,6 +4,7 @@
 ghost use Rattle.std.specs.Prelude.{◌≡◌, ◌++◌, ◌∷◌, [], ◌+◌, ◌*◌, ◌≤◌, ◌<◌, length, get_or};
 ghost use Rattle.basics.specs.Counts.{lowest};
 ghost use Rattle.basics.specs.Lists.{put_front};
+ghost use Rattle.basics.specs.Refusals.{passed};
 ghost use Rattle.places.specs.Limits.{locutus_paragraphs};
 ghost use Rattle.sums.specs.Crc.{c324_poly, crc324_of};
 ghost use Rattle.sums.specs.Tables.{tables_of};
@@ -11,48 +12,22 @@ ghost use Rattle.tables.specs.Tables.{tables, tables_payload};
 ghost use Rattle.hunk.specs.Hunk.{hunk, payload_size};
 ghost use Rattle.blocks.specs.Blocks.{frame_size, end_mark, payload_in, put_frame};
 ghost use Rattle.save.specs.Chosen.{tables_block, hunk_block};
-ghost use Rattle.save.specs.Writing.{content, paragraph_of, image_by, past, answer_for, writing_of, written_of};
-ghost use Rattle.save.specs.Code.Writing.{block_limit, front_of, front_size, hunk_bytes, image_size, judged_by};
+ghost use Rattle.save.specs.Writing.{content, paragraph_of, image_by, past, save_answer, writing_of, written_of};
+ghost use Rattle.save.specs.Code.Writing.{block_limit, front_of, front_size, hunk_bytes, image_size, judged_by, declined_by};
 
-use basics::Refusal;
+use basics::{Declined, Refusal};
 use blocks::FRAME_SIZE;
 use header::{FLAGS_SIZE, UID_SIZE};
 use places::{LOCUTUS_PARAGRAPHS, Locutus, PARAGRAPH_SIZE, PARAGRAPHS};
+use std::array;
 use sums::TABLE_ENTRIES;
-
-// What writing answers: its refusal, and the image's length, also where the buffer is too short for it.
-#[derive(Clone, Copy)]
-pub struct Writing {
-    pub refusal: Refusal,
-    pub length: usize,
-}
-
-// A word of a RAM; 0 past its end, as in the definitions.
-fn word_of(ram: &[u16], at: usize) -> u16
-    ensures { result ≡ get_or ram.now at 0 }
-{
-    if at < ram.len() { ram[at] } else { 0 }
-}
 
 // The words of paragraph p of a RAM.
 fn paragraph_of(ram: &[u16], p: usize) -> [u16; PARAGRAPH_SIZE]
     requires { p < locutus_paragraphs }
     ensures { result ≡ paragraph_of ram.now p }
 {
-    let mut words = [0u16; PARAGRAPH_SIZE];
-    for i in 0..PARAGRAPH_SIZE {
-        words[i] = word_of(ram, PARAGRAPH_SIZE * p + i);
-    }
-    words
-}
-
-// CRC32/4 of a block's payload, by its own tables.
-fn payload_sum(c324: &[u32; TABLE_ENTRIES], x: &[u8]) -> u32
-    requires { c324.now ≡ tables_of c324_poly }
-    ensures { result ≡ crc324_of (payload_in x.now) }
-{
-    let a = basics::least(FRAME_SIZE, x.len());
-    sums::sum_by(c324, 0, &x[a..])
+    array::from_fn(|i| ram.get(PARAGRAPH_SIZE * p + i).copied().unwrap_or(0))
 }
 
 // The frame of a block whose payload stands from byte 8 on.
@@ -60,7 +35,7 @@ fn frame(out: &mut [u8], t: u8, c324: &[u32; TABLE_ENTRIES])
     requires { c324.now ≡ tables_of c324_poly }
     ensures { out.new ≡ put_frame t (crc324_of (payload_in out.old)) out.old }
 {
-    let sum = payload_sum(c324, out);
+    let sum = blocks::payload_sum(c324, out);
     blocks::put_frame(out, t, sum);
 }
 
@@ -132,13 +107,11 @@ fn hunks_size(ram: &[u16], marks: &[bool; LOCUTUS_PARAGRAPHS]) -> usize
     ensures { (result ≡ length (hunk_bytes ram.now marks.now)) × (result ≤ block_limit * locutus_paragraphs) }
 {
     let mut long = 0;
-    let mut p = 0;
-    while p < LOCUTUS_PARAGRAPHS {
+    for p in 0..LOCUTUS_PARAGRAPHS {
         if marks[p] {
             let words = paragraph_of(ram, p);
-            long = long + block_size(&words);
+            long += block_size(&words);
         }
-        p += 1;
     }
     long
 }
@@ -154,8 +127,7 @@ fn put_hunks(
     ensures { out.new ≡ hunk_bytes ram.now marks.now ++ (end_mark ∷ []) }
 {
     let mut at = 0;
-    let mut p = 0;
-    while p < LOCUTUS_PARAGRAPHS {
+    for p in 0..LOCUTUS_PARAGRAPHS {
         if marks[p] {
             let words = paragraph_of(ram, p);
             let e = at + block_size(&words);
@@ -167,7 +139,6 @@ fn put_hunks(
             );
             at = e;
         }
-        p += 1;
     }
     out[at] = blocks::END_MARK;
 }
@@ -220,19 +191,15 @@ fn put_image<'a>(
 fn lowest_past(marks: &[bool; LOCUTUS_PARAGRAPHS], n: usize) -> usize
     ensures { result ≡ lowest locutus_paragraphs (past marks.now n) }
 {
-    let mut p = 0;
-    while p < LOCUTUS_PARAGRAPHS {
-        if marks[p] {
-            if n < PARAGRAPH_SIZE * p + PARAGRAPH_SIZE {
-                return p;
-            }
+    for p in 0..LOCUTUS_PARAGRAPHS {
+        if marks[p] && n < PARAGRAPH_SIZE * p + PARAGRAPH_SIZE {
+            return p;
         }
-        p += 1;
     }
-    p
+    LOCUTUS_PARAGRAPHS
 }
 
-// The refusals of a writing whose image has so many bytes, in their order: 10, 11, 13, 9, 1, 29.
+// Checks a writing whose image has `long` bytes: refusals 10, 11, 13, 9, 1 and 29, in their order.
 fn judge(
     room: usize,
     flags: &[u8; FLAGS_SIZE],
@@ -240,43 +207,34 @@ fn judge(
     words: usize,
     marks: &[bool; LOCUTUS_PARAGRAPHS],
     long: usize,
-) -> Refusal
-    ensures { result ≡ judged_by room flags.now flips.now words marks.now long }
+) -> Result<(), Refusal>
+    ensures { result ≡ passed (judged_by room flags.now flips.now words marks.now long) }
 {
-    let of_tables = tables::refused(flags, flips, words, tables::flash_words(flags));
-    if of_tables.number != 0 {
-        return of_tables;
-    }
+    tables::refused(flags, flips, words, tables::flash_words(flags))?;
     let first = lowest_past(marks, words);
     if first < LOCUTUS_PARAGRAPHS {
-        return basics::refuse(9, first);
+        return Err(basics::refuse(9, first));
     }
     if places::IMAGE_LIMIT < long {
-        return basics::refuse(1, 0);
+        return Err(basics::refuse(1, 0));
     }
     if room < long {
-        return basics::refuse(29, 0);
+        return Err(basics::refuse(29, 0));
     }
-    basics::no_refusal()
+    Ok(())
 }
 
-// The answer: a refusal has the length only at 29.
-fn answer(r: Refusal, long: usize) -> Writing
-    ensures { result ≡ answer_for r long }
+// The error of a refusal, with the length that is needed where it is 29.
+fn decline(refusal: Refusal, long: usize) -> Declined
+    ensures { result ≡ declined_by refusal long }
 {
-    if basics::either(r.number == 0, r.number == 29) {
-        return Writing {
-            refusal: r,
-            length: long,
-        };
-    }
-    Writing {
-        refusal: r,
-        length: 0,
+    Declined {
+        refusal,
+        length: if refusal.number == 29 { long } else { 0 },
     }
 }
 
-// The plain writer.
+// The plain writer: the image's length, and the length that is needed where the buffer is too short for it.
 pub fn write<'a>(
     out: &mut [u8],
     flags: &[u8; FLAGS_SIZE],
@@ -286,21 +244,14 @@ pub fn write<'a>(
     flips: &'a [u16; PARAGRAPHS],
     ram: &[u16],
     marks: &[bool; LOCUTUS_PARAGRAPHS],
-) -> Writing
-    ensures { (result ≡ writing_of out.old (content flags.now uid.now (tables mapping.now permissions.now flips.now) ram.now marks.now))
+) -> Result<usize, Declined>
+    ensures { (result ≡ save_answer (writing_of out.old (content flags.now uid.now (tables mapping.now permissions.now flips.now) ram.now marks.now)))
         × (out.new ≡ written_of out.old (content flags.now uid.now (tables mapping.now permissions.now flips.now) ram.now marks.now)) }
 {
     let long = image_size(flags, uid, mapping, permissions, flips, ram, marks);
-    let r = judge(
-        out.len(),
-        flags,
-        flips,
-        places::lent_words(ram),
-        marks,
-        long,
-    );
-    if r.number != 0 {
-        return answer(r, long);
+    let words = places::lent_words(ram);
+    if let Err(r) = judge(out.len(), flags, flips, words, marks, long) {
+        return Err(decline(r, long));
     }
     put_image(
         out,
@@ -313,5 +264,5 @@ pub fn write<'a>(
         marks,
         long,
     );
-    answer(r, long)
+    Ok(long)
 }

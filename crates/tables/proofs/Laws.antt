@@ -1,6 +1,5 @@
 -- One law for each return, its premises as the code's tests and calls give them.
 use Prim.Native.Nat.{ℕ, ◌<◌, ◌≤◌, ◌-◌}
-use mathlib.Core.Bool.{Bool, true, false, ◌||◌}
 use mathlib.Core.Path.{◌≡◌, refl, sym}
 use mathlib.Core.List.{List, ◌++◌, [], append_assoc}
 use native.Mathlib.Omega.{arith}
@@ -11,33 +10,9 @@ use Rattle.basics.specs.Bytes.{bytes16}
 use Rattle.basics.specs.Laws.Bytes.{length_bytes16}
 use Rattle.basics.specs.Laws.Wrote.{Wrote, wrote_none}
 use Rattle.basics.specs.Laws.Puts.{put_short, put_wrote, wrote_put}
-use Rattle.basics.specs.declared.Refusal.{Refusal}
-use Rattle.basics.specs.Refusals.{refuse, no_refusal}
 use Rattle.places.specs.Limits.{paragraphs}
-use Rattle.tables.specs.Tables.{tables, permissions_at, flips_at, tables_size, tables_payload, unsupported, lacks_ram, oversized, mislent, tables_rows, tables_refusal}
+use Rattle.tables.specs.Tables.{tables, permissions_at, flips_at, tables_size, tables_payload}
 use Rattle.tables.specs.Laws.Tables.{length_tables}
-
--- the rows
-module _ (flags flips : List ℕ) (m f : ℕ) (r : Refusal) (b : Bool) (eb : b ≡ unsupported flags flips) where
-  pub refused_10 : b ≡ true → r ≡ refuse 10 0 → r ≡ tables_refusal flags flips m f
-  unfolding tables_rows
-  refused_10 h e = rw (← eb, h) e
-
-  module _ (h : b ≡ false) (d : Bool) (ed : d ≡ lacks_ram flags m) where
-    pub refused_11 : d ≡ true → r ≡ refuse 11 0 → r ≡ tables_refusal flags flips m f
-    unfolding tables_rows
-    refused_11 k e = rw (← eb, h, ← ed, k) e
-
-    module _ (k : d ≡ false) (c : Bool) (ec : c ≡ (oversized flags || mislent flags f)) where
-      pub refused_13 : c ≡ true → r ≡ refuse 13 0 → r ≡ tables_refusal flags flips m f
-      unfolding tables_rows
-      refused_13 l e = rw (← eb, h, ← ed, k, ← ec, l) e
-
-      pub refused_none : c ≡ false → r ≡ no_refusal → r ≡ tables_refusal flags flips m f
-      unfolding tables_rows
-      refused_none l e = rw (← eb, h, ← ed, k, ← ec, l) e
-
-pub ruleset ends = (refused_10, refused_11, refused_13, refused_none)
 
 -- a buffer without room for the tables, and one with: each in its part
 module _ (out m p f : List ℕ) (em : length m ≡ paragraphs) (ep : length p ≡ paragraphs) (ef : length f ≡ paragraphs) where

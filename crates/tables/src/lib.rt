@@ -3,6 +3,7 @@
 
 ghost use Rattle.std.specs.Prelude.{◌≤◌, ◌≡◌, ◌||◌, length};
 ghost use Rattle.basics.specs.Lists.{put_front};
+ghost use Rattle.basics.specs.Refusals.{passed};
 ghost use Rattle.places.specs.Limits.{paragraphs};
 ghost use Rattle.cart.specs.Cartridges.{no_cartridge};
 ghost use Rattle.tables.specs.Tables.{tables, tables_payload, tables_size, words_at, bytes_at, sectors_of, jlp_of, cartridge_of, flips_one, unsupported, lacks_ram, flash_words, oversized, mislent, tables_refusal};
@@ -146,18 +147,19 @@ fn misfits(flags: &[u8], f: usize) -> bool
         && (flash::SECTOR_LIMIT < usize::from(header::flash_size(flags)) || f != flash_words(flags))
 }
 
-// What is refused of flags and flip table, with m words of RAM and f of flash lent.
-pub fn refused(flags: &[u8], flips: &[u16; PARAGRAPHS], m: usize, f: usize) -> Refusal
-    ensures { result ≡ tables_refusal flags.now flips.now m f }
+// Checks flags and flip table, with m words of RAM and f of flash lent: refusals 10, 11 and 13, in their order.
+#[tactic(auto, unfolding(crate::specs::Tables::tables_rows))]
+pub fn refused(flags: &[u8], flips: &[u16; PARAGRAPHS], m: usize, f: usize) -> Result<(), Refusal>
+    ensures { result ≡ passed (tables_refusal flags.now flips.now m f) }
 {
     if is_unsupported(flags, flips) {
-        return basics::refuse(10, 0);
+        return Err(basics::refuse(10, 0));
     }
     if lacks_ram(flags, m) {
-        return basics::refuse(11, 0);
+        return Err(basics::refuse(11, 0));
     }
     if misfits(flags, f) {
-        return basics::refuse(13, 0);
+        return Err(basics::refuse(13, 0));
     }
-    basics::no_refusal()
+    Ok(())
 }

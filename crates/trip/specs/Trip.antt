@@ -5,7 +5,7 @@ use Rattle.basics.specs.Refusals.{no_refusal}
 use Rattle.places.specs.Limits.{locutus_paragraphs, paragraph_size}
 use Rattle.header.specs.Flags.{compat_of}
 use Rattle.tables.specs.Tables.{Tables, jlp_of, cartridge_with}
-use Rattle.load.specs.declared.Loading.{Loading}
+use Rattle.load.specs.Load.{Loading}
 use Rattle.save.specs.Writing.{Content, is_marked}
 
 -- the answer of a load: these tables, what the flags say of each device and, of the TutorVision, may leave unsaid, so many blocks and words

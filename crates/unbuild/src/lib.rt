@@ -7,7 +7,7 @@ mod source;
 ghost use Rattle.std.specs.Prelude.{◌≡◌};
 ghost use Rattle.places.specs.Limits.{lent, lent_limit};
 ghost use Rattle.tables.specs.Tables.{tables};
-ghost use Rattle.load.specs.Load.{load_ram_of, loading_of};
+ghost use Rattle.load.specs.Load.{load_answer, load_ram_of, loading_of};
 ghost use Rattle.rebuild.specs.Code.Retraced.{retraced_of};
 ghost use Rattle.unbuild.specs.Behind.{bin_behind, cfg_behind, unbuildable};
 ghost use Rattle.unbuild.specs.Code.Answers.{Answered, AnswersBy, Plain, refusalAccelerated};
@@ -17,7 +17,7 @@ ghost use Rattle.unbuild.specs.Unbuild.{bin_after, cfg_after, unbuilding_of};
 
 use basics::Refusal;
 use cart::Cartridge;
-use load::Loading;
+use load::Loaded;
 use places::LENT_LIMIT;
 use rebuild::{Retraced, retrace_image};
 use source::{refuse, write_source};
@@ -31,8 +31,8 @@ pub struct Unbuilding {
 }
 
 // A load with no flash lent.
-fn load_into(image: &[u8], ram: &mut [u16]) -> Loading
-    ensures { (result ≡ loading_of image.now (lent ram.old) 0) × (ram.new ≡ load_ram_of image.now ram.old 0) }
+fn load_into(image: &[u8], ram: &mut [u16]) -> Result<Loaded, Refusal>
+    ensures { (result ≡ load_answer (loading_of image.now (lent ram.old) 0)) × (ram.new ≡ load_ram_of image.now ram.old 0) }
 {
     let flash = [0u16; 0];
     load::load(image, ram, &flash)
@@ -49,28 +49,27 @@ fn retrace_cartridge(c: Cartridge, zeros: &[u16], ones: &[u16]) -> Retraced
 }
 
 // Of an image that was loaded into zeros: the words that its hunks, laid over ones, leave as they were are those that it does not name.
-fn retrace_loaded(image: &[u8], l: Loading, zeros: &[u16], ones: &mut [u16]) -> Retraced
-    requires { (Plain image.now) × (l ≡ loading_of image.now lent_limit 0) × (ones.old ≡ whole_ones) }
+fn retrace_loaded(image: &[u8], c: Cartridge, zeros: &[u16], ones: &mut [u16]) -> Retraced
+    requires { (Plain image.now) × (c ≡ (loading_of image.now lent_limit 0).cartridge) × (ones.old ≡ whole_ones) }
     ensures { (result ≡ retraced_of (image_tables image.now) zeros.now ones.new) × (ones.new ≡ load_ram_of image.now whole_ones 0) }
 {
     load::lay_hunks(image, ones);
-    let c = l.cartridge;
     retrace_cartridge(c, zeros, ones)
 }
 
 // Its BIN and its CFG.
 fn unbuild_loaded(
     image: &[u8],
-    l: Loading,
+    c: Cartridge,
     zeros: &[u16],
     ones: &mut [u16],
     bin: &mut [u8],
     cfg: &mut [u8],
 ) -> Unbuilding
-    requires { (Plain image.now) × (l ≡ loading_of image.now lent_limit 0) × (zeros.now ≡ load_ram_of image.now whole_ram 0) × (ones.old ≡ whole_ones) }
+    requires { (Plain image.now) × (c ≡ (loading_of image.now lent_limit 0).cartridge) × (zeros.now ≡ load_ram_of image.now whole_ram 0) × (ones.old ≡ whole_ones) }
     ensures { AnswersBy (unbuildable image.now) (bin_behind image.now) (cfg_behind image.now) bin.old cfg.old result bin.new cfg.new }
 {
-    let k = retrace_loaded(image, l, zeros, ones);
+    let k = retrace_loaded(image, c, zeros, ones);
     write_source(k, zeros, bin, cfg)
 }
 
@@ -85,12 +84,10 @@ fn unload_into(
     requires { (image_jlp image.now ≡ 0) × (zeros.old ≡ whole_ram) × (ones.old ≡ whole_ones) }
     ensures { Answered image.now bin.old cfg.old result bin.new cfg.new }
 {
-    let l = load_into(image, zeros);
-    let r = l.refusal;
-    if r.number != 0 {
-        return refuse(r);
+    match load_into(image, zeros) {
+        Err(r) => refuse(r),
+        Ok(l) => unbuild_loaded(image, l.cartridge, zeros, ones, bin, cfg),
     }
-    unbuild_loaded(image, l, zeros, ones, bin, cfg)
 }
 
 fn unload(image: &[u8], bin: &mut [u8], cfg: &mut [u8]) -> Unbuilding
@@ -106,19 +103,17 @@ fn unload(image: &[u8], bin: &mut [u8], cfg: &mut [u8]) -> Unbuilding
 fn jlp_of(image: &[u8]) -> u8
     ensures { result ≡ image_jlp image.now }
 {
-    let from = basics::least(header::FLAGS_AT, image.len());
-    header::jlp_field(&image[from..])
+    header::jlp_field(header::flags_of(image))
 }
 
 // What is refused of an image that has accelerators: what its load refuses, 13 by its size; else 31.
 fn refusal_accelerated(image: &[u8]) -> Refusal
     ensures { result ≡ refusalAccelerated image.now }
 {
-    let r = load::refusal_for(image, LENT_LIMIT);
-    if r.number != 0 {
-        return r;
+    match load::refusal_for(image, LENT_LIMIT) {
+        Err(r) => r,
+        Ok(()) => basics::refuse(31, 0),
     }
-    basics::refuse(31, 0)
 }
 
 // A BIN and a CFG from an image, each into the front of a lent buffer; before all else what a load into 524,288 words refuses, 13 by its size.

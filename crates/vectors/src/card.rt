@@ -1,23 +1,26 @@
 // A case of the image card: what it answers for an input, as the lines that it prints (01, Bench cases).
-use basics::least;
+use basics::{Refusal, least};
 use cases::digest::text_ends;
 use cases::fill::{Taken, fill_words, put, put_line, take_bytes};
 use cases::record::front;
 use places::CARD_WORDS;
-use report::Report;
+use report::Counts;
 use sums::TABLE_ENTRIES;
 
 // The card's text; answers its length.
-fn put_card(out: &mut [u8], r: Report) -> usize {
-    let f = r.refusal;
-    if f.number == 0 {
-        let a = put(out, 0, b"result=loaded\n");
-        let b = put_line(out, a, b"blocks=", r.blocks);
-        return put_line(out, b, b"words=", r.words);
+fn put_card(out: &mut [u8], answer: Result<Counts, Refusal>) -> usize {
+    match answer {
+        Ok(r) => {
+            let a = put(out, 0, b"result=loaded\n");
+            let b = put_line(out, a, b"blocks=", r.blocks);
+            put_line(out, b, b"words=", r.words)
+        }
+        Err(f) => {
+            let a = put(out, 0, b"result=refused\n");
+            let b = put_line(out, a, b"code=", f.number as usize);
+            put_line(out, b, b"at=", f.place)
+        }
     }
-    let a = put(out, 0, b"result=refused\n");
-    let b = put_line(out, a, b"code=", f.number as usize);
-    put_line(out, b, b"at=", f.place)
 }
 
 // The text for a record's input, on a RAM of zeros.

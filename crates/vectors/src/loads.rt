@@ -5,9 +5,8 @@ use cart::Cartridge;
 use cases::digest::digest_tables;
 use cases::fill::{take_bytes, take_packed, take_words};
 use cases::record::{after, ends, front_words, get16, get32, has8, has32};
-use cases::state::{load_in, same_active, same_end, same_words};
+use cases::state::{Loading, load_in, same_active, same_end, same_words};
 use header::Compat;
-use load::Loading;
 use sums::TABLE_ENTRIES;
 
 fn same_compat(rec: &[u8], at: usize, c: Compat) -> bool {

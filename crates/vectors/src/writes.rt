@@ -1,11 +1,10 @@
 // A case of the family write: an image of marked paragraphs written into a buffer.
-use basics::{both, least};
+use basics::{Declined, both, least};
 use cart::Cartridge;
 use cases::digest::digest;
 use cases::fill::{lay, take_buffer, take_bytes, take_laid};
 use cases::record::{ends, front, front_words, get8, has8, has32};
 use places::LOCUTUS_PARAGRAPHS;
-use save::Writing;
 use sums::TABLE_ENTRIES;
 
 // Paragraph p is bit p mod 8 of byte p div 8.
@@ -70,7 +69,7 @@ fn write_in(
     ram: &[u16],
     out: &mut [u8],
     n: usize,
-) -> Writing {
+) -> Result<usize, Declined> {
     let flags = flags_of(rec);
     let uid = uid_of(rec);
     let m = c.mapping;
@@ -87,11 +86,22 @@ fn write_in(
     )
 }
 
-fn same_writing(rec: &[u8], at: usize, w: Writing, whole: usize) -> bool {
-    let r = w.refusal;
-    let number = has8(rec, at, 0, r.number as usize);
-    let place = has32(rec, at, 1, r.place);
-    let length = has32(rec, at, 5, w.length);
+// A writing as a record says it: no refusal and the image's length, or the refusal and the length that is needed.
+fn said_of(w: Result<usize, Declined>) -> Declined {
+    match w {
+        Ok(length) => Declined {
+            refusal: basics::no_refusal(),
+            length,
+        },
+        Err(d) => d,
+    }
+}
+
+fn same_writing(rec: &[u8], at: usize, w: Result<usize, Declined>, whole: usize) -> bool {
+    let d = said_of(w);
+    let number = has8(rec, at, 0, d.refusal.number as usize);
+    let place = has32(rec, at, 1, d.refusal.place);
+    let length = has32(rec, at, 5, d.length);
     let bytes = has32(rec, at, 9, whole);
     both(
         both(number, place),

@@ -1,10 +1,9 @@
 // A case of the families names, dates and label: texts looked up in a label and an image, a release date, and a label's block written.
-use basics::{Refusal, both, least};
+use basics::{Declined, Refusal, both, least};
 use blocks::Frame;
 use cases::digest::{ONES, digest, ended};
 use cases::fill::{take_buffer, take_bytes};
 use cases::record::{after, ends, front, get8, get16, get32, has8, has32, rest};
-use label::Writing;
 use lookup::Place;
 use metadata::{ReleaseDate, Span, Stands};
 use sums::TABLE_ENTRIES;
@@ -254,16 +253,27 @@ pub fn date_agrees(rec: &[u8]) -> bool {
 }
 
 // A label's block into the first n bytes of a buffer.
-fn write_in(out: &mut [u8], n: usize, label: &[u8], long: usize) -> Writing {
+fn write_in(out: &mut [u8], n: usize, label: &[u8], long: usize) -> Result<usize, Declined> {
     let k = least(n, out.len());
     label::write(&mut out[0..k], front(label, long))
 }
 
-fn same_writing(rec: &[u8], at: usize, w: Writing, whole: usize) -> bool {
-    let r = w.refusal;
-    let number = has8(rec, at, 0, r.number as usize);
-    let place = has32(rec, at, 1, r.place);
-    let length = has32(rec, at, 5, w.length);
+// A writing as a record says it: no refusal and the block's length, or the refusal and the length that is needed.
+fn said_of(w: Result<usize, Declined>) -> Declined {
+    match w {
+        Ok(length) => Declined {
+            refusal: basics::no_refusal(),
+            length,
+        },
+        Err(d) => d,
+    }
+}
+
+fn same_writing(rec: &[u8], at: usize, w: Result<usize, Declined>, whole: usize) -> bool {
+    let d = said_of(w);
+    let number = has8(rec, at, 0, d.refusal.number as usize);
+    let place = has32(rec, at, 1, d.refusal.place);
+    let length = has32(rec, at, 5, d.length);
     let bytes = has32(rec, at, 9, whole);
     both(
         both(number, place),

@@ -1,11 +1,11 @@
 // A case of the family salvage: a damaged image salvaged into a buffer, the places of the blocks left out, and the text that the program
 // prints of it (02, W-208).
-use basics::{both, least};
+use basics::{Declined, Refusal, both, least};
 use cases::digest::{digest, text_ends};
 use cases::fill::{put, put_line, take_buffer, take_bytes};
 use cases::record::{after, front, get32, has8, has32};
 use places::CARD_LIMIT;
-use recovery::{Salvaging, Stopped};
+use recovery::Salvaged;
 use sums::TABLE_ENTRIES;
 
 // Room for the places of the blocks that a case loses; one that lost more would differ.
@@ -14,21 +14,42 @@ const PLACES: usize = 64;
 // The buffer that the program has.
 const PROGRAM_ROOM: usize = CARD_LIMIT + 1;
 
-// Where it stopped, as a record says it: all ones for nowhere, and 0 in a refusal.
-fn stopped_of(s: Salvaging) -> usize {
-    let r = s.refusal;
-    if r.number != 0 {
-        return 0;
-    }
-    let w = s.stopped;
-    match w {
-        Stopped::Nowhere => 4294967295,
-        Stopped::At(p) => p,
+// A salvage as a record says it: a refused one has zero in all else but the length at 29.
+#[derive(Clone, Copy)]
+struct Salvaging {
+    refusal: Refusal,
+    salvaged: Salvaged,
+}
+
+fn salvaging_of(answer: Result<Salvaged, Declined>) -> Salvaging {
+    match answer {
+        Ok(salvaged) => Salvaging {
+            refusal: basics::no_refusal(),
+            salvaged,
+        },
+        Err(d) => Salvaging {
+            refusal: d.refusal,
+            salvaged: Salvaged {
+                length: d.length,
+                kept: 0,
+                dropped: 0,
+                stopped: Some(0),
+            },
+        },
     }
 }
 
-fn same_salvaging(rec: &[u8], at: usize, s: Salvaging) -> bool {
-    let r = s.refusal;
+// Where it stopped, as a record says it: all ones for nowhere, and 0 in a refusal.
+fn stopped_of(s: Salvaged) -> usize {
+    match s.stopped {
+        None => 4294967295,
+        Some(p) => p,
+    }
+}
+
+fn same_salvaging(rec: &[u8], at: usize, w: Salvaging) -> bool {
+    let r = w.refusal;
+    let s = w.salvaged;
     let number = has8(rec, at, 0, r.number as usize);
     let place = has32(rec, at, 1, r.place);
     let length = has32(rec, at, 5, s.length);
@@ -54,10 +75,10 @@ fn same_places(rec: &[u8], at: usize, places: &[usize]) -> bool {
     same
 }
 
-fn put_stopped(out: &mut [u8], at: usize, w: Stopped) -> usize {
-    match w {
-        Stopped::Nowhere => put(out, at, b"stopped=none\n"),
-        Stopped::At(p) => put_line(out, at, b"stopped=", p),
+fn put_stopped(out: &mut [u8], at: usize, stopped: Option<usize>) -> usize {
+    match stopped {
+        None => put(out, at, b"stopped=none\n"),
+        Some(p) => put_line(out, at, b"stopped=", p),
     }
 }
 
@@ -72,8 +93,9 @@ fn put_drops(out: &mut [u8], at: usize, places: &[usize]) -> usize {
 }
 
 // The program's lines of an answer; answers their length.
-fn put_salvage(out: &mut [u8], s: Salvaging, places: &[usize]) -> usize {
-    let r = s.refusal;
+fn put_salvage(out: &mut [u8], w: Salvaging, places: &[usize]) -> usize {
+    let r = w.refusal;
+    let s = w.salvaged;
     if r.number != 0 {
         let a = put(out, 0, b"result=refused\n");
         let b = put_line(out, a, b"code=", r.number as usize);
@@ -81,8 +103,7 @@ fn put_salvage(out: &mut [u8], s: Salvaging, places: &[usize]) -> usize {
     }
     let a = put_line(out, 0, b"kept=", s.kept);
     let b = put_line(out, a, b"dropped=", s.dropped);
-    let w = s.stopped;
-    let p = put_stopped(out, b, w);
+    let p = put_stopped(out, b, s.stopped);
     put_drops(out, p, places)
 }
 
@@ -90,8 +111,8 @@ fn put_salvage(out: &mut [u8], s: Salvaging, places: &[usize]) -> usize {
 // may not. Answers its length.
 fn put_text(text: &mut [u8], image: &[u8], out: &mut [u8], places: &[usize]) -> usize {
     let n = least(PROGRAM_ROOM, out.len());
-    let s = recovery::answer(image, &mut out[0..n]);
-    let k = least(s.dropped, places.len());
+    let s = salvaging_of(recovery::answer(image, &mut out[0..n]));
+    let k = least(s.salvaged.dropped, places.len());
     put_salvage(text, s, &places[0..k])
 }
 
@@ -117,7 +138,7 @@ fn same_answer(
 // A salvage into the first n bytes of a buffer.
 fn salvage_in(image: &[u8], out: &mut [u8], n: usize) -> Salvaging {
     let k = least(n, out.len());
-    recovery::salvage(image, &mut out[0..k])
+    salvaging_of(recovery::salvage(image, &mut out[0..k]))
 }
 
 fn salvage_case(
@@ -132,7 +153,7 @@ fn salvage_case(
     let mut places = [0usize; PLACES];
     recovery::drops(image, &mut places);
     let s = salvage_in(image, out, n);
-    let k = least(s.dropped, PLACES);
+    let k = least(s.salvaged.dropped, PLACES);
     let answer = same_answer(rec, at, ieee, s, &places[0..k], front(out, n));
     let long = put_text(text, image, out, &places);
     let lines_at = after(behind_places(rec, at), 4);

@@ -13,7 +13,7 @@ use Rattle.hunk.specs.Hunk.{hunk_of, words_of}
 use Rattle.hunk.specs.Laws.Refusals.{break_within}
 use Rattle.hunk.specs.Laws.Walk.{words_few}
 use Rattle.blocks.specs.Blocks.{payload_in, is_hunk}
-use Rattle.blocks.specs.declared.Judged.{Judged}
+use Rattle.blocks.specs.Judged.{Judged}
 use Rattle.blocks.specs.Judged.{is_encrypted, wrong_sum, wrong_metadata, wrong_tables, wrong_hunk, break_in, judge_rows, judged_of}
 use Rattle.blocks.specs.Images.{word_count}
 

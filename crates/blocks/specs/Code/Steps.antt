@@ -1,14 +1,13 @@
 -- The parts of a frame's reading and of a block's judgement.
-use Rattle.std.specs.Prelude.{Result, Ok, Err}
-use Rattle.std.specs.Prelude.{ℕ, ◌+◌, List, Bool, cond, not, ◌&&◌, ◌||◌, length, get_or, eqb, ltb}
+use Rattle.std.specs.Prelude.{ℕ, ◌+◌, List, Bool, Result, Ok, Err, cond, not, ◌&&◌, ◌||◌, length, get_or, eqb, ltb}
 use Rattle.basics.specs.Lists.{part}
-use Rattle.basics.specs.Refusals.{refuse, no_refusal}
+use Rattle.basics.specs.Refusals.{refuse}
 use Rattle.sums.specs.Crc.{dowcrc_of}
 use Rattle.tables.specs.Tables.{tables_size}
 use Rattle.metadata.specs.Records.{is_cut}
 use Rattle.blocks.specs.declared.Frame.{Frame}
 use Rattle.blocks.specs.declared.Frame.TheVariants.{Cut, Framed}
-use Rattle.blocks.specs.declared.Judged.{Judged}
+use Rattle.basics.specs.declared.Refusal.{Refusal}
 use Rattle.blocks.specs.Blocks.{frame_size, start_size, sum_said, payload_in, tables_type, hunk_type, metadata_type}
 use Rattle.blocks.specs.Frames.{next_of}
 
@@ -28,14 +27,7 @@ metadata_by t sum x = eqb t metadata_type && (not (eqb sum (sum_said x)) || is_c
 unfoldable pub tables_by : ℕ → ℕ → Bool → Bool
 tables_by t n earlier = eqb t tables_type && (not (eqb n tables_size) || earlier)
 
--- a block that is refused, and one that is not
-abbrev pub bad_of : ℕ → ℕ → Judged
-bad_of number place = record { refusal = refuse number place; words = 0 }
-
-abbrev pub good_of : ℕ → Judged
-good_of words = record { refusal = no_refusal; words = words }
-
 -- a hunk, by its check
-abbrev pub checked_of : Result ℕ ℕ → Judged
-checked_of (Ok n) = good_of n
-checked_of (Err k) = bad_of 9 (frame_size + k)
+abbrev pub checked_of : Result ℕ ℕ → Result ℕ Refusal
+checked_of (Ok n) = Ok n
+checked_of (Err k) = Err (refuse 9 (frame_size + k))

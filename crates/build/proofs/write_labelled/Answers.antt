@@ -3,7 +3,7 @@ use mathlib.Core.Path.{◌≡◌, refl, sym, ◌∙◌, ap}
 use lib.ListN.{length}
 use borrow.Author.Tests.{eqb-true, eqb-false}
 use Rattle.basics.specs.Laws.Outcomes.{ok_at_none, err_at_some}
-use Rattle.build.specs.Code.Answers.{written_as}
+use Rattle.save.specs.Writing.{save_answer}
 use Rattle.build.specs.Laws.Label.{labelled_none, labelled_ok, labelled_err, ok_fits, err_fits, labelled_kept, labelled_put}
 use Rattle.build.proofs.write_labelled.Goals as goal
 
@@ -11,7 +11,7 @@ pub returns-then-is_empty : goal.returns-then-is_empty
 returns-then-is_empty c =
     let e : length c.args.label.now ≡ 0 = eqb-true _ _ (sym c.is_empty.ensures ∙ c.if-is_empty.true) in
     let p = labelled_none c.args.label.now c.args.out.now _ _ _ e (refl, c.write_drawing.ensures.1) in
-    (c.write_drawing.ensures.0 ∙ ap written_as p.0, p.1)
+    (c.write_drawing.ensures.0 ∙ ap save_answer p.0, p.1)
 
 pub overflow_add-result : goal.overflow_add-result
 overflow_add-result c =

@@ -2,13 +2,13 @@
 use Rattle.std.specs.Prelude.{ℕ, ◌+◌, ◌*◌, ◌≤◌, min, cond, false, ◌||◌, List, ◌++◌, ◌≡◌, length, take, drop, ltb, eqb, Result}
 use Rattle.basics.specs.declared.Refusal.{Refusal}
 use Rattle.basics.specs.declared.Declined.{Declined}
-use Rattle.basics.specs.Refusals.{refuse, no_refusal, passes, outcome_at}
+use Rattle.basics.specs.Refusals.{refuse, no_refusal, passes}
 use Rattle.places.specs.Limits.{page_size, bin_limit}
 use Rattle.header.specs.Header.{header_size}
 use Rattle.tables.specs.Tables.{tables, tables_size}
 use Rattle.blocks.specs.Blocks.{frame_size}
 use Rattle.label.specs.Label.{label_block, wrong_label}
-use Rattle.save.specs.declared.Writing.{Writing}
+use Rattle.save.specs.Writing.{Writing}
 use Rattle.save.specs.Writing.{Content, content, writing_of, written_of}
 use Rattle.lines.specs.declared.Line.{Line}
 use Rattle.cfg.specs.File.{reading_of, entries_of}
@@ -31,10 +31,6 @@ whole n words = record { refusal = no_refusal; length = n; needed = words }
 abbrev pub answered_of : Writing → ℕ → Building
 answered_of w pages =
     record { refusal = w.refusal; length = w.length; needed = cond (passes w.refusal) (page_size * pages) 0 }
-
--- a writer's answer, as the code says it
-abbrev pub written_as : Writing → Result ℕ Declined
-written_as w = outcome_at w.refusal w.length w.length
 
 -- what the writer is given of a drawing, with this UID and a RAM that has its words
 abbrev pub drawnContent : List ℕ → Drawing → List ℕ → Content

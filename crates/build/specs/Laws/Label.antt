@@ -19,9 +19,9 @@ use Rattle.blocks.specs.Blocks.{frame_size, metadata_type}
 use Rattle.blocks.specs.Laws.ReadBack.{length_block}
 use Rattle.label.specs.Label as Label
 use Rattle.label.specs.Laws.Label.{label_fits, written_all}
-use Rattle.save.specs.declared.Writing.{Writing}
-use Rattle.save.specs.Writing.{Content, past_lent, image_by, refusal_of, answer_for, writing_of, written_of}
-use Rattle.build.specs.Code.Answers.{front_size, labelPut, roomOf, labelledOf, labelledLeft, written_as}
+use Rattle.save.specs.Writing.{Writing}
+use Rattle.save.specs.Writing.{Content, past_lent, image_by, refusal_of, answer_for, save_answer, writing_of, written_of}
+use Rattle.build.specs.Code.Answers.{front_size, labelPut, roomOf, labelledOf, labelledLeft}
 
 -- too little is there for a front
 pub put_nothing : (label out : List ℕ) → length out < frame_size + length label + front_size → out ≡ labelPut label out
@@ -102,20 +102,20 @@ module _ (label out : List ℕ) (c : Content) (some : length label ≡ 0 → ⊥
   length_fits right = let s : w.length ≤ image_limit = rw writes (writing_small (drop (roomOf label out) out) c) in omega (arith, s, label_fits label right)
 
   -- as the code says it
-  pub labelled_ok : (n : ℕ) → Ok n ≡ written_as w → Ok (n + (frame_size + length label)) ≡ written_as (labelledOf label out c)
+  pub labelled_ok : (n : ℕ) → Ok n ≡ save_answer w → Ok (n + (frame_size + length label)) ≡ save_answer (labelledOf label out c)
   labelled_ok n o =
       let l : w.length ≡ n = ok_at_value w.refusal w.length w.length n (sym o) in
       rw (← l, ← labelled_answer) (sym (outcome_at_ok w.refusal _ _ (ok_at_none w.refusal w.length w.length n (sym o))))
 
-  pub ok_fits : (n : ℕ) → Ok n ≡ written_as w → Label.wrong_label label ≡ false → Fits w64 (n + (frame_size + length label))
+  pub ok_fits : (n : ℕ) → Ok n ≡ save_answer w → Label.wrong_label label ≡ false → Fits w64 (n + (frame_size + length label))
   ok_fits n o right = rw (← ok_at_value w.refusal w.length w.length n (sym o)) (length_fits right)
 
-  pub labelled_err : (e : Declined) → Err e ≡ written_as w → Err (record { refusal = e.refusal; length = e.length + (frame_size + length label) }) ≡ written_as (labelledOf label out c)
+  pub labelled_err : (e : Declined) → Err e ≡ save_answer w → Err (record { refusal = e.refusal; length = e.length + (frame_size + length label) }) ≡ save_answer (labelledOf label out c)
   labelled_err e o =
       let d : declined w.refusal w.length ≡ e = err_at_is w.refusal w.length w.length e (sym o) in
       rw (← d, ← labelled_answer) (sym (outcome_at_err w.refusal _ _ (err_at_some w.refusal w.length w.length e (sym o))))
 
-  pub err_fits : (e : Declined) → Err e ≡ written_as w → Label.wrong_label label ≡ false → Fits w64 (e.length + (frame_size + length label))
+  pub err_fits : (e : Declined) → Err e ≡ save_answer w → Label.wrong_label label ≡ false → Fits w64 (e.length + (frame_size + length label))
   err_fits e o right = rw (← err_at_is w.refusal w.length w.length e (sym o)) (length_fits right)
 
   whole : put_mid a (length out - a) out ys ≡ take (roomOf label out) out ++ written_of (drop (roomOf label out) out) c

@@ -30,9 +30,9 @@ use Rattle.header.specs.Laws.Header.{length_header}
 use Rattle.tables.specs.Tables.{tables, flash_words, tables_rows}
 use Rattle.blocks.specs.Blocks.{frame_size, end_mark}
 use Rattle.label.specs.Label.{label_block, wrong_label}
-use Rattle.save.specs.declared.Writing.{Writing}
+use Rattle.save.specs.Writing.{Writing}
 use Rattle.save.specs.Chosen.{tables_block, hunk_block, image_for, Sized}
-use Rattle.save.specs.Writing.{Content, content, paragraph_of, is_marked, marked, past_lent, image_by, refusal_of, answer_for, writing_of, written_of}
+use Rattle.save.specs.Writing.{Content, content, paragraph_of, is_marked, marked, past_lent, image_by, refusal_of, answer_for, save_answer, writing_of, written_of}
 use Rattle.save.specs.Laws.Chosen.{chosen_same, image_parts, with_parts, length_tables_block}
 use Rattle.lines.specs.declared.Line.{Line}
 use Rattle.rules.specs.Accepted.{Accepted}
@@ -43,7 +43,7 @@ use Rattle.layout.specs.Laws.Uses.{covered_below, covered_inside}
 use Rattle.build.specs.declared.Built.{Built}
 use Rattle.build.specs.Building.{outcome_of}
 use Rattle.build.specs.Building.{hunks_for, flag_bytes, uid_of, tables_for, image_on, too_large}
-use Rattle.build.specs.Code.Answers.{answered_of, written_as, short, whole, drawnContent, front_size, labelPut, roomOf, labelledOf, labelledLeft, Pressed}
+use Rattle.build.specs.Code.Answers.{answered_of, short, whole, drawnContent, front_size, labelPut, roomOf, labelledOf, labelledLeft, Pressed}
 use Rattle.build.specs.Laws.Image.{sized, supported, plain_limit, length_labelled, length_one}
 
 -- a block put between the front and the rest of what stands behind room for it
@@ -301,12 +301,12 @@ label_passes label w e f = sym e ∙ f
 answered_by : (w : Writing) (pages : ℕ) → outcome_of (answered_of w pages) ≡ outcome_at w.refusal w.length (record { length = w.length; needed = page_size * pages })
 answered_by w pages = cases (passes w.refusal) (λ e. rw e) (λ e. rw e)
 
-pub answered_ok : (w : Writing) (pages n needed : ℕ) → Ok n ≡ written_as w → needed ≡ page_size * pages → Ok (record { length = n; needed = needed }) ≡ outcome_of (answered_of w pages)
+pub answered_ok : (w : Writing) (pages n needed : ℕ) → Ok n ≡ save_answer w → needed ≡ page_size * pages → Ok (record { length = n; needed = needed }) ≡ outcome_of (answered_of w pages)
 answered_ok w pages n needed o e =
     let l : w.length ≡ n = ok_at_value w.refusal w.length w.length n (sym o) in
     rw (← l, e) (sym (answered_by w pages ∙ outcome_at_ok w.refusal w.length _ (ok_at_none w.refusal w.length w.length n (sym o))))
 
-pub answered_err : (w : Writing) (pages : ℕ) (d : Declined) → Err d ≡ written_as w → Err d ≡ outcome_of (answered_of w pages)
+pub answered_err : (w : Writing) (pages : ℕ) (d : Declined) → Err d ≡ save_answer w → Err d ≡ outcome_of (answered_of w pages)
 answered_err w pages d o =
     let n : w.refusal.number ≡ 0 → ⊥ = err_at_some w.refusal w.length w.length d (sym o) in
     sym (answered_by w pages ∙ outcome_at_err w.refusal w.length _ n ∙ ap Err (err_at_is w.refusal w.length w.length d (sym o)))
@@ -324,15 +324,8 @@ pressed_fitting bin cfg label out lines accepted ram d ed h o eo f uid eu after 
 
 -- the writer given a drawing and the flag bytes
 pub drawn_written :
-    (out after uid flags ram : List ℕ) (d : Drawing) (w : Writing) → flags ≡ flag_bytes
-    → (w ≡ writing_of out (content flags uid (tables d.mapping d.permissions d.flips) ram d.marks))
+    (out after uid flags ram : List ℕ) (d : Drawing) (w : Result ℕ Declined) → flags ≡ flag_bytes
+    → (w ≡ save_answer (writing_of out (content flags uid (tables d.mapping d.permissions d.flips) ram d.marks)))
     × (after ≡ written_of out (content flags uid (tables d.mapping d.permissions d.flips) ram d.marks))
-    → (w ≡ writing_of out (drawnContent uid d ram)) × (after ≡ written_of out (drawnContent uid d ram))
+    → (w ≡ save_answer (writing_of out (drawnContent uid d ram))) × (after ≡ written_of out (drawnContent uid d ram))
 drawn_written out after uid flags ram d w e q = rw e at q
-
--- the writer's answer, as the code says it
-pub written_err : (w v : Writing) → w ≡ v → (w.refusal.number ≡ 0 → ⊥) → Err (record { refusal = w.refusal; length = w.length }) ≡ written_as v
-written_err w v e n = rw (← e) (sym (outcome_at_err w.refusal w.length w.length n))
-
-pub written_ok : (w v : Writing) → w ≡ v → w.refusal.number ≡ 0 → Ok w.length ≡ written_as v
-written_ok w v e z = rw (← e) (sym (outcome_at_ok w.refusal w.length w.length z))

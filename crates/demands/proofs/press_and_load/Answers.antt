@@ -5,9 +5,11 @@ use Rattle.build.specs.Laws.Outcome.{building_back}
 use Rattle.demands.proofs.press_and_load.Goals as goal
 
 pub returns-clause-pressed : goal.returns-clause-pressed
-returns-clause-pressed c =
-    record {
-      answer = ap building_from c.build-building.ensures.0 ∙ building_back _ _ _ _;
-      leaves = c.build-building.ensures.1;
-      loads = rw c.length_of.ensures at c.load_front-loading.ensures;
-    }
+returns-clause-pressed c = (
+  record {
+    answer = ap building_from c.build-building.ensures.0 ∙ building_back _ _ _ _;
+    leaves = c.build-building.ensures.1;
+    loads = rw c.length_of.ensures at c.load_front-loading.ensures.0;
+  },
+  c.load_front-loading.ensures.1,
+)

@@ -12,7 +12,7 @@ use Rattle.cart.specs.Run.{Access, answers}
 use Rattle.tables.specs.Tables.{cartridge_with}
 use Rattle.label.specs.Label.{label_blocks, wrong_label}
 use Rattle.label.specs.Laws.Label.{label_whole}
-use Rattle.load.specs.declared.Loading.{Loading}
+use Rattle.load.specs.Load.{Loading}
 use Rattle.load.specs.Load.{load_ram_of, loading_of}
 use Rattle.trip.specs.Smallest.{Alike}
 use Rattle.trip.specs.Laws.LoadImage.{Other, other_metadata}

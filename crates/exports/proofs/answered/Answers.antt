@@ -1,5 +1,8 @@
--- `exports::answered` meets its contract: the fields and the words are the callees'.
+-- `exports::answered` meets its contract, case by case.
 use Rattle.exports.proofs.answered.Goals as goal
 
-pub returns : goal.returns
-returns c = rw (c.compat_of.ensures, c.words_of-accelerators.ensures)
+pub returns-in-Ok : goal.returns-in-Ok
+returns-in-Ok c = rw (c.in-Ok.is, c.laid.ensures, c.no_refusal.ensures)
+
+pub returns-in-Err : goal.returns-in-Err
+returns-in-Err c = rw (c.in-Err.is, c.laid-in-Err.ensures, c.no_cartridge.ensures, c.no_compat.ensures)

@@ -4,7 +4,7 @@ use borrow.Author.Rules.{rules}
 use Rattle.label.proofs.write.Goals as goal
 
 pub returns-then-is_wrong : goal.returns-then-is_wrong
-returns-then-is_wrong c = (search (rules, write_12), search (rules, kept_12))
+returns-then-is_wrong c = rw c.from.ensures (search (rules, write_12), search (rules, kept_12))
 
 pub returns-then-out-long : goal.returns-then-out-long
 returns-then-out-long c = (search (rules, write_29), search (rules, kept_29))

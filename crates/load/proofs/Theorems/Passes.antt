@@ -1,37 +1,38 @@
 -- From the passes to the load: the tables block that the checking pass found is the first of the image's, and the hunks that the storing
 -- pass stores one after the other are the hunks laid over the RAM.
-use Rattle.std.specs.Prelude.{ℕ, ◌+◌, ◌≤◌, min, refl, List, [], ◌∷◌, ◌++◌, Bool, true, not, ◌&&◌, ◌||◌, length, drop, eqb}
+use Rattle.std.specs.Prelude.{ℕ, ◌+◌, ◌≤◌, min, refl, List, [], ◌∷◌, ◌++◌, Bool, true, not, ◌&&◌, ◌||◌, length, drop, eqb, Result, Ok, Err}
 use Rattle.std.proofs.Math.Path.{◌≡◌, sym}
-use Rattle.std.proofs.Common.{ap, ◌∙◌, arith, length-drop, drop-drop}
+use Rattle.std.proofs.Common.{ap, ◌∙◌, arith, length-drop, drop-drop, append_assoc}
 use Rattle.std.proofs.Math.Bool.{false}
-use borrow.Author.Tests.{ne_eqb, eqb-true, eqb-false}
+use borrow.Author.Tests.{ne_eqb, eqb-true}
 use Rattle.std.proofs.lemmas.List.{drop-append-le}
 use Rattle.basics.specs.declared.Refusal.{Refusal}
 use Rattle.basics.specs.Lists.{lay, flat, Each, none as no_blocks, also as and_block}
-use Rattle.basics.specs.Rows.{Silent, none, also}
-use Rattle.basics.specs.Refusals.{first_refusal, passes}
+use Rattle.basics.specs.Rows.{Row, Silent, none, also}
+use Rattle.basics.specs.Refusals.{first_refusal, outcome, passed}
 use Rattle.basics.specs.Laws.Lay.{length_lay}
 use Rattle.basics.specs.Laws.Tests.{cases, true_is_not_false}
 use Rattle.basics.specs.Laws.Rows.{silent_left, silent_right}
 use Rattle.basics.specs.Laws.Stands.{stands_part}
-use Rattle.basics.specs.Laws.Refusals.{refused_front, silent_behind, accepted_exactly}
+use Rattle.basics.specs.Laws.Refusals.{Refusing, refusing_append, refused_front, silent_behind, accepted_exactly}
+use Rattle.basics.specs.Laws.Outcomes.{outcome_err, ok_none, ok_value, err_is, err_some}
 use Rattle.places.specs.Limits.{lent, lent_limit}
 use Rattle.sums.specs.Crc.{crc324_of}
 use Rattle.header.specs.Header.{header_rows, header_refusal, flags_of}
-use Rattle.header.specs.Laws.Refusals.{header_accepted, accepted_length}
+use Rattle.header.specs.Laws.Refusals.{header_refusing, header_accepted, accepted_length}
 use Rattle.hunk.specs.Hunk.{address, words_of, store_hunk}
-use Rattle.tables.specs.Tables.{tables_size, tables_in, flash_words, tables_rows, tables_refusal}
+use Rattle.tables.specs.Tables.{tables_size, tables_in, flash_words, tables_rows}
 use Rattle.blocks.specs.Blocks.{payload_in, size_said, is_tables, is_hunk, Block}
 use Rattle.blocks.specs.Judged.{wrong_tables, wrong_hunk, judge_rows}
-use Rattle.blocks.specs.Images.{first_block, blocks_in, judge_all, any_tables, payload_of_tables, hunks_in, overlay, word_count}
+use Rattle.blocks.specs.Images.{first_block, blocks_in, judge_all, any_tables, payload_of_tables, hunks_in, overlay}
 use Rattle.blocks.specs.Laws.Frames.{block_fits, rest_is}
 use Rattle.blocks.specs.Laws.Images.{next_blocks, reading}
-use Rattle.load.specs.declared.Verdict.{Verdict}
-use Rattle.load.specs.declared.Verdict.TheVariants.{Refused, Loads}
-use Rattle.load.specs.declared.Loading.{Loading}
-use Rattle.load.specs.Load.{walk_rows, refusal_of, refusal_by_size, refused, loading_of, load_ram_of, hunks_laid}
-use Rattle.load.specs.Code.Passes.{tables_place, verdict_of, Tabled, tables_at, end_refusal, finished_of, finished_ram_of}
+use Rattle.load.specs.declared.Found.{Found as Checked}
+use Rattle.load.specs.declared.Loaded.{Loaded}
+use Rattle.load.specs.Load.{walk_rows, refusal_of, refusal_by_size, loaded_of, loading_of, loaded, load_answer, load_ram_of, hunks_laid}
+use Rattle.load.specs.Code.Passes.{tables_place, found_in, found_of, checked_of, Tabled, tables_at, end_refusal, loaded_by, finished_of, finished_ram_of}
 use Rattle.load.specs.Laws.Refusals.{walk_silent, walk_refusing}
+use Rattle.load.specs.Laws.Answers.{answer_is}
 
 -- what a block's rows say where none holds
 judged_tables : (m : ℕ) (e : Bool) (p sum : ℕ) (x : List ℕ) → Silent (judge_rows m e p sum x) → wrong_tables e x ≡ false
@@ -104,135 +105,93 @@ stored_over (x ∷ xs) m e p ram k q =
 
 -- ---- the load, as the code comes to its answer
 
-module _ (s : List ℕ) (m f : ℕ) where
-  refused_by : (r : Refusal) → (r.number ≡ 0 → ⊥) → refusal_of s m f ≡ r → refused r ≡ loading_of s m f
-  unfolding loading_of
-  refused_by r n e = rw (e, ne_eqb _ _ n)
+module _ (s : List ℕ) (m : ℕ) where
+  abbrev front : List (Row Refusal)
+  front = header_rows s ++ walk_rows s m
 
-  kept_by : (ram : List ℕ) → m ≡ lent ram → (r : Refusal) → (r.number ≡ 0 → ⊥) → refusal_of s m f ≡ r → ram ≡ load_ram_of s ram f
-  unfolding load_ram_of
-  kept_by ram em r n e = let q : refusal_of s (lent ram) f ≡ r = rw (← em) e in rw (q, ne_eqb _ _ n)
+  front_refusing : Refusing front
+  front_refusing = refusing_append (header_rows s) (walk_rows s m) (header_refusing s) (walk_refusing s m)
 
-  -- 1 to 4
-  header_refuses : (h : Refusal) → h ≡ header_refusal s → (h.number ≡ 0 → ⊥) → refusal_of s m f ≡ h
+  -- 1 to 4, then the blocks
+  pub check_head : (r : Refusal) → passed (header_refusal s) ≡ Err r → Err r ≡ checked_of s m
+  unfolding checked_of
+  check_head r e =
+      let i : header_refusal s ≡ r = err_is (header_refusal s) tt r e in
+      let n : (header_refusal s).number ≡ 0 → ⊥ = err_some (header_refusal s) tt r e in
+      rw (refused_front (header_rows s) (walk_rows s m) n) (sym (outcome_err (header_refusal s) (found_in s) n ∙ ap Err i))
+
+  pub check_walk : (u : Unit {0}) → passed (header_refusal s) ≡ Ok u → (v : Result Checked Refusal) → v ≡ found_of s m → v ≡ checked_of s m
+  unfolding checked_of found_of
+  check_walk u e v ev =
+      ev ∙ rw (silent_behind (header_rows s) (walk_rows s m) ((header_accepted s).0 (ok_none (header_refusal s) tt u e)))
+
+  rows_split : (f : ℕ) → refusal_of s m f ≡ first_refusal (front ++ tables_rows (flags_of s) (tables_in (payload_of_tables (blocks_in s))).flips m f)
   unfolding refusal_of
-  header_refuses h e n = refused_front (header_rows s) _ (rw e at n) ∙ sym e
+  rows_split f = ap first_refusal (sym (append_assoc (header_rows s) (walk_rows s m) _))
 
-  module _ (h : Refusal) (eh : h ≡ header_refusal s) (n : h.number ≡ 0 → ⊥) where
-    header_answer : (l : Loading) → l ≡ refused h → l ≡ loading_of s m f
-    header_answer l el = el ∙ refused_by h n (header_refuses h eh n)
+  module _ (r : Refusal) (e : checked_of s m ≡ Err r) where
+    front_some : r.number ≡ 0 → ⊥
+    unfolding checked_of
+    front_some z = err_some (first_refusal front) (found_in s) r e (ap (λ (q : Refusal). q.number) (err_is (first_refusal front) (found_in s) r e) ∙ z)
 
-    header_ram : (ram : List ℕ) → m ≡ lent ram → ram ≡ load_ram_of s ram f
-    header_ram ram em = kept_by ram em h n (header_refuses h eh n)
+    front_refuses : (f : ℕ) → refusal_of s m f ≡ r
+    unfolding checked_of
+    front_refuses f =
+        rows_split f ∙ refused_front front _ (err_some (first_refusal front) (found_in s) r e) ∙ err_is (first_refusal front) (found_in s) r e
 
-  module _ (h : Refusal) (eh : h ≡ header_refusal s) (zero : h.number ≡ 0) where
-    header_silent : Silent (header_rows s)
-    header_silent = (header_accepted s).0 (rw eh at zero)
+    refused_by : {A : Type 0} (f : ℕ) (a : A) → Err r ≡ outcome (refusal_of s m f) a
+    refused_by f a = rw (front_refuses f) (sym (outcome_err r a front_some))
 
-    behind_header : refusal_of s m f ≡ first_refusal (walk_rows s m ++ tables_rows (flags_of s) (tables_in (payload_of_tables (blocks_in s))).flips m f)
-    unfolding refusal_of
-    behind_header = silent_behind (header_rows s) _ header_silent
+    pub front_answers : (f : ℕ) → Err r ≡ load_answer (loading_of s m f)
+    front_answers f = refused_by f _ ∙ sym (answer_is s m f)
 
-    -- the blocks
-    walk_by : (v : Verdict) → v ≡ verdict_of s m → (r : Refusal) → v ≡ Refused r → (first_refusal (walk_rows s m) ≡ r) × (r.number ≡ 0 → ⊥)
-    unfolding verdict_of
-    walk_by v ev r e =
-        cases (passes (first_refusal (walk_rows s m)))
-        (λ p. let x : Loads (tables_place first_block (blocks_in s)) (length (blocks_in s)) _ ≡ Refused r = rw p at (sym ev ∙ e) in let z : ◌≡◌ {A = ℕ} 0 1 = cc in absurd (omega arith))
-        (λ p.
-        let x : Refused (first_refusal (walk_rows s m)) ≡ Refused r = rw p at (sym ev ∙ e) in
-        let y : first_refusal (walk_rows s m) ≡ r = cc in
-        (y, λ z. eqb-false _ _ p (ap (λ (q : Refusal). q.number) y ∙ z)))
+    pub front_keeps : (f : ℕ) (ram : List ℕ) → m ≡ lent ram → ram ≡ load_ram_of s ram f
+    unfolding load_ram_of
+    front_keeps f ram em = let q : refusal_of s (lent ram) f ≡ r = rw (← em) (front_refuses f) in rw (q, ne_eqb _ _ front_some)
 
-    walk_refuses : (v : Verdict) → v ≡ verdict_of s m → (r : Refusal) → v ≡ Refused r → refusal_of s m f ≡ r
-    walk_refuses v ev r e =
-        let w = walk_by v ev r e in
-        behind_header ∙ refused_front (walk_rows s m) _ (λ z. w.1 (sym (ap (λ (q : Refusal). q.number) w.0) ∙ z)) ∙ w.0
+    pub front_stops : Err r ≡ passed (refusal_by_size s m)
+    front_stops = refused_by (flash_words (flags_of s)) tt
 
-    walk_answer : (v : Verdict) → v ≡ verdict_of s m → (r : Refusal) → v ≡ Refused r → (l : Loading) → l ≡ refused r → l ≡ loading_of s m f
-    walk_answer v ev r e l el = el ∙ refused_by r (walk_by v ev r e).1 (walk_refuses v ev r e)
+  -- 10, 11 and 13, and the answer
+  module _ (found : Checked) (e : checked_of s m ≡ Ok found) where
+    front_quiet : Silent front
+    unfolding checked_of
+    front_quiet = (accepted_exactly front front_refusing).0 (ok_none (first_refusal front) (found_in s) found e)
 
-    walk_ram : (v : Verdict) → v ≡ verdict_of s m → (r : Refusal) → v ≡ Refused r → (ram : List ℕ) → m ≡ lent ram → ram ≡ load_ram_of s ram f
-    walk_ram v ev r e ram em = kept_by ram em r (walk_by v ev r e).1 (walk_refuses v ev r e)
+    found_is : found_in s ≡ found
+    unfolding checked_of
+    found_is = ok_value (first_refusal front) (found_in s) found e
 
     pub header_enough : 32 ≤ length s
-    header_enough = (accepted_length s (rw eh at zero)).0
+    header_enough = (accepted_length s ((header_accepted s).1 (silent_left (header_rows s) _ front_quiet))).0
 
-    -- 10, 11 and 13, and the answer
-    module _ (v : Verdict) (ev : v ≡ verdict_of s m) (t blocks words : ℕ) (e : v ≡ Loads t blocks words) where
-      record Went : Type 0 where
-        pub good : (first_refusal (walk_rows s m)).number ≡ 0
-        pub place : t ≡ tables_place first_block (blocks_in s)
-        pub counted : blocks ≡ length (blocks_in s)
-        pub stored : words ≡ word_count (hunks_in (blocks_in s))
+    walk_quiet : Silent (walk_rows s m)
+    walk_quiet = silent_right (header_rows s) _ front_quiet
 
-      went : Went
-      unfolding verdict_of
-      went =
-          cases (passes (first_refusal (walk_rows s m)))
-          (λ p.
-          let x : Loads (tables_place first_block (blocks_in s)) (length (blocks_in s)) (word_count (hunks_in (blocks_in s))) ≡ Loads t blocks words = rw p at (sym ev ∙ e) in
-          record { good = eqb-true _ _ p; place = cc; counted = cc; stored = cc })
-          (λ p. let x : Refused (first_refusal (walk_rows s m)) ≡ Loads t blocks words = rw p at (sym ev ∙ e) in let z : ◌≡◌ {A = ℕ} 0 1 = cc in absurd (omega arith))
+    here : Found s found.tables (payload_of_tables (blocks_in s))
+    unfolding found_in
+    here = let w = walk_silent s m walk_quiet in rw (← found_is) (tables_found s m w.0 w.1.1)
 
-      walk_quiet : Silent (walk_rows s m)
-      walk_quiet = (accepted_exactly (walk_rows s m) (walk_refusing s m)).0 went.good
+    pub loads_tabled : Tabled s found.tables
+    loads_tabled = here.tabled
 
-      here : Found s t (payload_of_tables (blocks_in s))
-      here = let w = walk_silent s m walk_quiet in rw went.place (tables_found s m w.0 w.1.1)
+    end_is : (f : ℕ) → end_refusal s found.tables m f ≡ refusal_of s m f
+    end_is f = rw here.payload (sym (rows_split f ∙ silent_behind front _ front_quiet))
 
-      pub loads_tabled : Tabled s t
-      loads_tabled = here.tabled
+    all_is : loaded_by s found ≡ loaded (loaded_of (flags_of s) (blocks_in s))
+    unfolding found_in
+    all_is = rw (here.payload, ← found_is)
 
-      refusal_end : refusal_of s m f ≡ tables_refusal (flags_of s) (tables_in (payload_of_tables (blocks_in s))).flips m f
-      refusal_end = behind_header ∙ silent_behind (walk_rows s m) _ walk_quiet
+    pub done_answer : (f : ℕ) (v : Result Loaded Refusal) → v ≡ finished_of s m f found → v ≡ load_answer (loading_of s m f)
+    unfolding finished_of
+    done_answer f v ev = ev ∙ rw (end_is f, all_is) (sym (answer_is s m f))
 
-      done_answer : (r : Loading) → r ≡ finished_of s m f t blocks words → r ≡ loading_of s m f
-      unfolding finished_of loading_of
-      done_answer r er = er ∙ rw (here.payload, refusal_end, went.counted, went.stored)
+    pub done_ram : (f : ℕ) (ram after : List ℕ) → m ≡ lent ram → after ≡ finished_ram_of s found.tables ram f → after ≡ load_ram_of s ram f
+    unfolding finished_ram_of load_ram_of
+    done_ram f ram after em ea =
+        let w = walk_silent s m walk_quiet in
+        let g : end_refusal s found.tables (lent ram) f ≡ refusal_of s (lent ram) f = rw (← em) (end_is f) in
+        ea ∙ rw (g, stored_over (blocks_in s) m false first_block ram em w.0)
 
-      done_ram : (ram after : List ℕ) → m ≡ lent ram → after ≡ finished_ram_of s t ram f → after ≡ load_ram_of s ram f
-      unfolding finished_ram_of load_ram_of
-      done_ram ram after em ea =
-          let w = walk_silent s m walk_quiet in
-          let g : refusal_of s (lent ram) f ≡ tables_refusal (flags_of s) (tables_in (payload_of_tables (blocks_in s))).flips (lent ram) f = rw (← em) refusal_end in
-          ea ∙ rw (here.payload, g, stored_over (blocks_in s) m false first_block ram em w.0)
-
--- each way out of the load, for the words that are lent
-module _ (s ram : List ℕ) (f : ℕ) (h : Refusal) (eh : h ≡ header_refusal s) where
-  module _ (n : h.number ≡ 0 → ⊥) where
-    pub head_answers : (l : Loading) → l ≡ refused h → l ≡ loading_of s (lent ram) f
-    head_answers l el = header_answer s (lent ram) f h eh n l el
-
-    pub head_keeps : ram ≡ load_ram_of s ram f
-    head_keeps = header_ram s (lent ram) f h eh n ram refl
-
-  module _ (zero : h.number ≡ 0) (m : ℕ) (em : m ≡ lent ram) (v : Verdict) (ev : v ≡ verdict_of s m) where
-    module _ (r : Refusal) (e : v ≡ Refused r) where
-      pub walk_answers : (l : Loading) → l ≡ refused r → l ≡ loading_of s (lent ram) f
-      walk_answers l el = rw (← em) (walk_answer s m f h eh zero v ev r e l el)
-
-      pub walk_keeps : ram ≡ load_ram_of s ram f
-      walk_keeps = walk_ram s m f h eh zero v ev r e ram em
-
-    module _ (t blocks words : ℕ) (e : v ≡ Loads t blocks words) where
-      pub done_so : (l : Loading) (after : List ℕ) → l ≡ finished_of s (lent ram) f t blocks words → after ≡ finished_ram_of s t ram f → (l ≡ loading_of s (lent ram) f) × (after ≡ load_ram_of s ram f)
-      done_so l after el ea =
-          (rw (← em) (done_answer s m f h eh zero v ev t blocks words e l (rw (← em) at el)), done_ram s m f h eh zero v ev t blocks words e ram after em ea)
-
--- each way out of the refusals alone, for any number of words
-module _ (s : List ℕ) (m : ℕ) (h : Refusal) (eh : h ≡ header_refusal s) where
-  abbrev size : ℕ
-  size = flash_words (flags_of s)
-
-  pub refusal_head : (h.number ≡ 0 → ⊥) → h ≡ refusal_by_size s m
-  refusal_head n = sym (header_refuses s m size h eh n)
-
-  module _ (zero : h.number ≡ 0) (v : Verdict) (ev : v ≡ verdict_of s m) where
-    pub refusal_walk : (r : Refusal) → v ≡ Refused r → r ≡ refusal_by_size s m
-    refusal_walk r e = sym (walk_refuses s m size h eh zero v ev r e)
-
-    pub refusal_tables : (t blocks words : ℕ) → v ≡ Loads t blocks words → (r : Refusal) → r ≡ end_refusal s t m size → r ≡ refusal_by_size s m
-    refusal_tables t blocks words e r er =
-        let p : Found s t (payload_of_tables (blocks_in s)) = here s m size h eh zero v ev t blocks words e in
-        er ∙ rw p.payload (sym (refusal_end s m size h eh zero v ev t blocks words e))
+    pub done_stops : (v : Result (Unit {0}) Refusal) → v ≡ passed (end_refusal s found.tables m (flash_words (flags_of s))) → v ≡ passed (refusal_by_size s m)
+    done_stops v ev = ev ∙ ap passed (end_is (flash_words (flags_of s)))

@@ -4,8 +4,8 @@ use lib.ListN.{length}
 use Rattle.load.proofs.Loops.{Checking}
 use Rattle.load.proofs.check_blocks.Given as goal
 
-abbrev pub invariant-loop-r : goal.invariant-loop-r
-invariant-loop-r l = Checking l.s l.m l.p l.tables l.blocks l.words
+abbrev pub invariant-loop-next : goal.invariant-loop-next
+invariant-loop-next l = Checking l.s l.m l.p l.tables l.blocks l.words
 
-abbrev pub decreases-loop-r : goal.decreases-loop-r
-decreases-loop-r l = length l.s - l.p
+abbrev pub decreases-loop-next : goal.decreases-loop-next
+decreases-loop-next l = length l.s - l.p

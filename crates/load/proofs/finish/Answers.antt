@@ -1,10 +1,15 @@
 -- `load::finish` meets its contract: refused by 10, 11 or 13, or stored and answered.
-use Rattle.load.proofs.Laws.{refused_answer, refused_ram, loaded_answer, loaded_ram}
-use borrow.Author.Rules.{rules}
+use mathlib.Core.Path.{sym, ◌∙◌}
+use Rattle.std.proofs.lemmas.Result.{err_from_is_err_and}
+use Rattle.load.proofs.Laws.{refused_so, loaded_so}
 use Rattle.load.proofs.finish.Goals as goal
 
-pub returns-then-r-ne0 : goal.returns-then-r-ne0
-returns-then-r-ne0 c = (search (rules, refused_answer), search (rules, refused_ram))
+pub returns-in_err-refused : goal.returns-in_err-refused
+returns-in_err-refused c =
+    let p = err_from_is_err_and c.from_residual.result c.from_residual.ensures.1 in
+    rw (p.1, p.2) (refused_so _ _ _ _ _ c.cartridge_at-cartridge.ensures _ c.lent_words.ensures.0 _ c.flags_of-flags.ensures _ (sym c.refused.ensures ∙ c.in_err-refused.was))
 
 pub returns : goal.returns
-returns c = (search (rules, loaded_answer), search (rules, loaded_ram))
+returns c =
+    loaded_so _ _ _ _ _ c.cartridge_at-cartridge.ensures _ c.lent_words.ensures.0 _ c.flags_of-flags.ensures _ (sym c.refused.ensures ∙ c.in_ok-refused.was) _ c.compat_of.ensures _
+    c.lay_hunks.ensures

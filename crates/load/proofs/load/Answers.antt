@@ -1,22 +1,21 @@
 -- `load::load` meets its contract: one law for the answer and one for the RAM, for each way out.
-use Rattle.load.proofs.Theorems.Passes.{head_answers, head_keeps, header_enough, walk_answers, walk_keeps, loads_tabled, done_so}
-use borrow.Author.Rules.{rules}
+use mathlib.Core.Path.{sym, ◌∙◌}
+use Rattle.std.proofs.lemmas.Result.{err_from_is_err_and}
+use Rattle.load.proofs.Theorems.Passes.{front_answers, front_keeps, header_enough, loads_tabled, done_answer, done_ram}
 use Rattle.load.proofs.load.Goals as goal
 
-pub returns-then-h-ne0 : goal.returns-then-h-ne0
-returns-then-h-ne0 c = (search (rules, head_answers), search (rules, head_keeps))
+pub returns-in_err-found : goal.returns-in_err-found
+returns-in_err-found c =
+    let p = err_from_is_err_and c.from_residual.result c.from_residual.ensures.1 in
+    let e = sym c.check.ensures ∙ c.in_err-found.was in
+    let m = c.lent_words.ensures.0 in
+    rw (p.1, p.2) (rw (← m) (front_answers _ _ _ e _), front_keeps _ _ _ e _ _ m)
 
 pub finish-requires : goal.finish-requires
-finish-requires c = (search (rules, header_enough), search (rules, loads_tabled))
+finish-requires c = let e = sym c.check.ensures ∙ c.in_ok-found.was in (header_enough _ _ _ e, loads_tabled _ _ _ e)
 
-pub returns-in-Refused : goal.returns-in-Refused
-returns-in-Refused c = (search (rules, walk_answers), search (rules, walk_keeps))
-
-pub returns-in-Loads : goal.returns-in-Loads
-returns-in-Loads c =
-    let h = c.check-h.ensures in
-    let z = c.if-h-ne0.false in
+pub returns : goal.returns
+returns c =
+    let e = sym c.check.ensures ∙ c.in_ok-found.was in
     let m = c.lent_words.ensures.0 in
-    let v = c.check_blocks-v.ensures in
-    let f = c.finish.ensures in
-    done_so _ _ _ _ h z _ m _ v _ _ _ (search rules) _ _ f.0 f.1
+    (rw (← m) (done_answer _ _ _ e _ _ (rw (← m) at c.finish.ensures.0)), done_ram _ _ _ e _ _ _ m c.finish.ensures.1)

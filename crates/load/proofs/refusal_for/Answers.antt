@@ -1,16 +1,16 @@
 -- `load::refusal_for` meets its contract: one law for each way out.
-use Rattle.load.proofs.Theorems.Passes.{refusal_head, header_enough, loads_tabled, refusal_walk, refusal_tables}
-use borrow.Author.Rules.{rules}
+use mathlib.Core.Path.{sym, ◌∙◌}
+use Rattle.std.proofs.lemmas.Result.{err_from_is_err_and}
+use Rattle.load.proofs.Theorems.Passes.{front_stops, header_enough, loads_tabled, done_stops}
 use Rattle.load.proofs.refusal_for.Goals as goal
 
-pub returns-then-h-ne0 : goal.returns-then-h-ne0
-returns-then-h-ne0 c = search (rules, refusal_head)
+pub returns-in_err-found : goal.returns-in_err-found
+returns-in_err-found c =
+    let p = err_from_is_err_and c.from_residual.result c.from_residual.ensures.1 in
+    rw (p.1, p.2) (front_stops _ _ _ (sym c.check.ensures ∙ c.in_err-found.was))
 
 pub judge_tables-requires : goal.judge_tables-requires
-judge_tables-requires c = (search (rules, header_enough), search (rules, loads_tabled))
+judge_tables-requires c = let e = sym c.check.ensures ∙ c.in_ok-found.was in (header_enough _ _ _ e, loads_tabled _ _ _ e)
 
-pub returns-in-Refused : goal.returns-in-Refused
-returns-in-Refused c = search (rules, refusal_walk)
-
-pub returns-in-Loads : goal.returns-in-Loads
-returns-in-Loads c = search (rules, refusal_tables)
+pub returns : goal.returns
+returns c = done_stops _ _ _ (sym c.check.ensures ∙ c.in_ok-found.was) _ c.judge_tables.ensures

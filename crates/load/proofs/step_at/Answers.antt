@@ -15,14 +15,14 @@ slice_bounds-judge-end c = search (rules, frame_inside)
 pub overflow_add-p : goal.overflow_add-p
 overflow_add-p c = search (rules, place_fits)
 
-pub returns-then-r-ne0 : goal.returns-then-r-ne0
-returns-then-r-ne0 c = search (rules, steps)
-
 pub returns-in-Over : goal.returns-in-Over
 returns-in-Over c = search (rules, steps)
 
 pub returns-in-Cut : goal.returns-in-Cut
 returns-in-Cut c = search (rules, steps)
 
-pub returns-else-r-ne0 : goal.returns-else-r-ne0
-returns-else-r-ne0 c = search (rules, steps)
+pub returns-in-Err : goal.returns-in-Err
+returns-in-Err c = search (rules, steps)
+
+pub returns-in-Ok : goal.returns-in-Ok
+returns-in-Ok c = search (rules, steps)

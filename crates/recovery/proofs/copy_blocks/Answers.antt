@@ -1,23 +1,11 @@
 -- `recovery::copy_blocks` meets its contract. The invariant: the kept blocks before p are written.
 use Rattle.recovery.proofs.Laws.{frame_later, frame_inside}
-use Rattle.recovery.proofs.Loops.{copy_start, copy_same, copy_over, copy_cut, copy_less, copy_within, copy_next, copy_none, copy_room, copy_fit, copy_one}
+use Rattle.recovery.proofs.Loops.{copy_start, copy_all, copy_same, copy_less, copy_within, copy_next, copy_none, copy_room, copy_fit, copy_one}
 use borrow.Author.Rules.{rules}
 use Rattle.recovery.proofs.copy_blocks.Goals as goal
 
 pub loop-q-init : goal.loop-q-init
 loop-q-init c = search (rules, copy_start)
-
-pub shape_of-out-in-Over : goal.shape_of-out-in-Over
-shape_of-out-in-Over c = search (rules, copy_same)
-
-pub returns-in-Over : goal.returns-in-Over
-returns-in-Over c = search (rules, copy_over)
-
-pub shape_of-out-in-Cut : goal.shape_of-out-in-Cut
-shape_of-out-in-Cut c = search (rules, copy_same)
-
-pub returns-in-Cut : goal.returns-in-Cut
-returns-in-Cut c = search (rules, copy_cut)
 
 pub bounds-notes-n : goal.bounds-notes-n
 bounds-notes-n c = search (rules, copy_within)
@@ -54,3 +42,9 @@ loop-q-smaller c = search (rules, copy_less)
 
 pub loop-q-preserved : goal.loop-q-preserved
 loop-q-preserved c = search (rules, copy_none)
+
+pub shape_of-out : goal.shape_of-out
+shape_of-out c = search (rules, copy_same)
+
+pub returns : goal.returns
+returns c = copy_all _ _ _ _ _ _ c.loop-q.invariant _ c.frame_at.ensures c.requires.1 c.in_default.not-Framed

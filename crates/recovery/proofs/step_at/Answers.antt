@@ -12,12 +12,6 @@ slice_bounds-judge-start c = search (rules, frame_later)
 pub slice_bounds-judge-end : goal.slice_bounds-judge-end
 slice_bounds-judge-end c = search (rules, frame_inside)
 
-pub returns-then-r-eq0 : goal.returns-then-r-eq0
-returns-then-r-eq0 c = search (rules, steps)
-
-pub returns-then-t-eq-HUNK_TYPE : goal.returns-then-t-eq-HUNK_TYPE
-returns-then-t-eq-HUNK_TYPE c = search (rules, steps)
-
 pub overflow_add-p : goal.overflow_add-p
 overflow_add-p c = search (rules, place_fits)
 
@@ -27,5 +21,11 @@ returns-in-Over c = search (rules, steps)
 pub returns-in-Cut : goal.returns-in-Cut
 returns-in-Cut c = search (rules, steps)
 
-pub returns-else-t-eq-HUNK_TYPE : goal.returns-else-t-eq-HUNK_TYPE
-returns-else-t-eq-HUNK_TYPE c = search (rules, steps)
+pub returns-in-Ok : goal.returns-in-Ok
+returns-in-Ok c = search (rules, steps)
+
+pub returns-in-Err : goal.returns-in-Err
+returns-in-Err c = search (rules, steps)
+
+pub returns-in-Err-2 : goal.returns-in-Err-2
+returns-in-Err-2 c = search (rules, steps)

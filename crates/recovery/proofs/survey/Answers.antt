@@ -1,64 +1,67 @@
 -- `recovery::survey` meets its contract. The invariant: the blocks before p are surveyed and noted.
-use Rattle.recovery.proofs.Loops.{survey_start, survey_same, survey_end, survey_noted, survey_no, no_notes, keep_later, keep_inside, keep_turn, keep_room, keep_more, keep_less, keep_fit, long_fit, drop_turn, drop_room, drop_more, drop_less, drop_fit}
+use mathlib.Core.Path.{sym, ap, ◌∙◌}
+use Prim.Native.Nat.{◌≤◌}
+use lib.ListN.{length}
+use Rattle.std.specs.Prelude.{Ok}
+use Rattle.std.proofs.lemmas.Result.{err_from_is_err_and}
+use Rattle.recovery.proofs.Loops.{survey_start, survey_end, survey_noted, survey_no, keep_later, keep_inside, keep_turn, keep_room, keep_more, keep_less, keep_fit, long_fit, drop_turn, drop_room, drop_more, drop_less, drop_fit}
 use borrow.Author.Rules.{rules}
 use Rattle.recovery.proofs.survey.Goals as goal
 
-pub loop-w-init : goal.loop-w-init
-loop-w-init c = search (rules, survey_start)
+pub loop-stopped-init : goal.loop-stopped-init
+loop-stopped-init c = search (rules, survey_start)
 
-pub shape_of-notes-in-Stops : goal.shape_of-notes-in-Stops
-shape_of-notes-in-Stops c = search (rules, survey_same)
+pub returns-in_err-stopped : goal.returns-in_err-stopped
+returns-in_err-stopped c =
+    let p = err_from_is_err_and c.from_residual.result c.from_residual.ensures.1 in
+    rw (p.1, p.2) (survey_no _ _ _ _ _ _ _ _ c.loop-stopped.invariant _ c.is_some.ensures _ (sym c.step_at.ensures ∙ c.in_err-stopped.was), λ found e. cc)
 
 pub returns-in-Stops : goal.returns-in-Stops
-returns-in-Stops c = (search (rules, survey_end), λ found e. search (rules, survey_noted))
-
-pub shape_of-notes-in-No : goal.shape_of-notes-in-No
-shape_of-notes-in-No c = search (rules, survey_same)
-
-pub returns-in-No : goal.returns-in-No
-returns-in-No c = (search (rules, survey_no), λ found e. no_notes _ _ _ e)
+returns-in-Stops c = (survey_end _ _ _ _ _ _ _ _ c.loop-stopped.invariant _ c.is_some.ensures _ (sym c.step_at.ensures ∙ c.in_ok-stopped.was ∙ ap Ok c.in-Stops.is) _ c.ended.ensures, λ found e. survey_noted _ _ _ _ _ _ _ _ c.loop-stopped.invariant _ c.is_some.ensures _ (sym c.step_at.ensures ∙ c.in_ok-stopped.was ∙ ap Ok c.in-Stops.is))
 
 pub overflow_add-notes : goal.overflow_add-notes
-overflow_add-notes c = search (rules, keep_turn)
+overflow_add-notes c = keep_turn _ _ _ _ _ _ _ _ c.loop-stopped.invariant _ c.is_some.ensures _ _ (sym c.step_at.ensures ∙ c.in_ok-stopped.was ∙ ap Ok c.in-Keeps.is) (search rules)
 
 pub bounds-notes-kept : goal.bounds-notes-kept
-bounds-notes-kept c = search (rules, keep_room)
+bounds-notes-kept c = keep_room _ _ _ _ _ _ _ _ c.loop-stopped.invariant _ c.is_some.ensures _ _ (sym c.step_at.ensures ∙ c.in_ok-stopped.was ∙ ap Ok c.in-Keeps.is) c.requires.2
 
-pub slice_bounds-late_after-count-in-Keeps : goal.slice_bounds-late_after-count-in-Keeps
-slice_bounds-late_after-count-in-Keeps c = search (rules, keep_later)
+pub slice_bounds-late_after-count : goal.slice_bounds-late_after-count
+slice_bounds-late_after-count c = keep_later _ _ _ _ _ _ _ _ c.loop-stopped.invariant _ c.is_some.ensures _ _ (sym c.step_at.ensures ∙ c.in_ok-stopped.was ∙ ap Ok c.in-Keeps.is)
 
-pub slice_bounds-late_after-start-in-Keeps : goal.slice_bounds-late_after-start-in-Keeps
-slice_bounds-late_after-start-in-Keeps c = search (rules, keep_later)
+pub slice_bounds-late_after-start : goal.slice_bounds-late_after-start
+slice_bounds-late_after-start c = keep_later _ _ _ _ _ _ _ _ c.loop-stopped.invariant _ c.is_some.ensures _ _ (sym c.step_at.ensures ∙ c.in_ok-stopped.was ∙ ap Ok c.in-Keeps.is)
 
-pub slice_bounds-late_after-end-in-Keeps : goal.slice_bounds-late_after-end-in-Keeps
-slice_bounds-late_after-end-in-Keeps c = search (rules, keep_inside)
-
-pub overflow_add-kept : goal.overflow_add-kept
-overflow_add-kept c = search (rules, keep_fit)
+pub slice_bounds-late_after-end : goal.slice_bounds-late_after-end
+slice_bounds-late_after-end c =
+    let h : c.in-Keeps.q ≤ length c.args.s.now = keep_inside _ _ _ _ _ _ _ _ c.loop-stopped.invariant _ c.is_some.ensures _ _ (sym c.step_at.ensures ∙ c.in_ok-stopped.was ∙ ap Ok c.in-Keeps.is) in
+    search rules
 
 pub overflow_sub-long : goal.overflow_sub-long
-overflow_sub-long c = search (rules, keep_later)
+overflow_sub-long c = keep_later _ _ _ _ _ _ _ _ c.loop-stopped.invariant _ c.is_some.ensures _ _ (sym c.step_at.ensures ∙ c.in_ok-stopped.was ∙ ap Ok c.in-Keeps.is)
+
+pub overflow_add-kept : goal.overflow_add-kept
+overflow_add-kept c = keep_fit _ _ _ _ _ _ _ _ c.loop-stopped.invariant _ c.is_some.ensures _ _ (sym c.step_at.ensures ∙ c.in_ok-stopped.was ∙ ap Ok c.in-Keeps.is) (search rules)
 
 pub overflow_add-long : goal.overflow_add-long
-overflow_add-long c = search (rules, long_fit)
+overflow_add-long c = long_fit _ _ _ _ _ _ _ _ c.loop-stopped.invariant _ c.is_some.ensures _ _ (sym c.step_at.ensures ∙ c.in_ok-stopped.was ∙ ap Ok c.in-Keeps.is) (search rules)
 
-pub loop-w-smaller-in-Keeps : goal.loop-w-smaller-in-Keeps
-loop-w-smaller-in-Keeps c = search (rules, keep_less)
+pub loop-stopped-smaller-in-Keeps : goal.loop-stopped-smaller-in-Keeps
+loop-stopped-smaller-in-Keeps c = keep_less _ _ _ _ _ _ _ _ c.loop-stopped.invariant _ c.is_some.ensures _ _ (sym c.step_at.ensures ∙ c.in_ok-stopped.was ∙ ap Ok c.in-Keeps.is)
 
-pub loop-w-preserved-in-Keeps : goal.loop-w-preserved-in-Keeps
-loop-w-preserved-in-Keeps c = search (rules, keep_more)
+pub loop-stopped-preserved-in-Keeps : goal.loop-stopped-preserved-in-Keeps
+loop-stopped-preserved-in-Keeps c = keep_more _ _ _ _ _ _ _ _ c.loop-stopped.invariant _ c.is_some.ensures _ _ (sym c.step_at.ensures ∙ c.in_ok-stopped.was ∙ ap Ok c.in-Keeps.is) c.requires.2 _ (rw c.flags_of-flags.ensures at c.late_after-late.ensures)
 
 pub overflow_add-notes-in-Drops : goal.overflow_add-notes-in-Drops
-overflow_add-notes-in-Drops c = search (rules, drop_turn)
+overflow_add-notes-in-Drops c = drop_turn _ _ _ _ _ _ _ _ c.loop-stopped.invariant _ c.is_some.ensures _ (sym c.step_at.ensures ∙ c.in_ok-stopped.was ∙ ap Ok c.in-Drops.is) (search rules)
 
 pub bounds-notes-kept-in-Drops : goal.bounds-notes-kept-in-Drops
-bounds-notes-kept-in-Drops c = search (rules, drop_room)
+bounds-notes-kept-in-Drops c = drop_room _ _ _ _ _ _ _ _ c.loop-stopped.invariant _ c.is_some.ensures _ (sym c.step_at.ensures ∙ c.in_ok-stopped.was ∙ ap Ok c.in-Drops.is) c.requires.2
 
 pub overflow_add-dropped : goal.overflow_add-dropped
-overflow_add-dropped c = search (rules, drop_fit)
+overflow_add-dropped c = drop_fit _ _ _ _ _ _ _ _ c.loop-stopped.invariant _ c.is_some.ensures _ (sym c.step_at.ensures ∙ c.in_ok-stopped.was ∙ ap Ok c.in-Drops.is) (search rules)
 
-pub loop-w-smaller : goal.loop-w-smaller
-loop-w-smaller c = search (rules, drop_less)
+pub loop-stopped-smaller : goal.loop-stopped-smaller
+loop-stopped-smaller c = drop_less _ _ _ _ _ _ _ _ c.loop-stopped.invariant _ c.is_some.ensures _ (sym c.step_at.ensures ∙ c.in_ok-stopped.was ∙ ap Ok c.in-Drops.is)
 
-pub loop-w-preserved : goal.loop-w-preserved
-loop-w-preserved c = search (rules, drop_more)
+pub loop-stopped-preserved : goal.loop-stopped-preserved
+loop-stopped-preserved c = drop_more _ _ _ _ _ _ _ _ c.loop-stopped.invariant _ c.is_some.ensures _ (sym c.step_at.ensures ∙ c.in_ok-stopped.was ∙ ap Ok c.in-Drops.is) c.requires.2

@@ -4,8 +4,8 @@ use lib.ListN.{length}
 use Rattle.recovery.proofs.Loops.{Surveying}
 use Rattle.recovery.proofs.survey.Given as goal
 
-abbrev pub invariant-loop-w : goal.invariant-loop-w
-invariant-loop-w l = Surveying l.s l.initial.notes l.notes l.p l.tabled l.late l.kept l.dropped l.long
+abbrev pub invariant-loop-stopped : goal.invariant-loop-stopped
+invariant-loop-stopped l = Surveying l.s l.initial.notes l.notes l.p l.late l.kept l.dropped l.long
 
-abbrev pub decreases-loop-w : goal.decreases-loop-w
-decreases-loop-w l = length l.s - l.p
+abbrev pub decreases-loop-stopped : goal.decreases-loop-stopped
+decreases-loop-stopped l = length l.s - l.p

@@ -1,40 +1,42 @@
 -- What the surveying pass answers and notes over the blocks that are read, and what stands behind it.
-use Rattle.std.specs.Prelude.{ℕ, ◌+◌, ◌≡◌, List, ◌++◌, map, Bool, cond, length, set, eqb, ltb}
+use Rattle.std.specs.Prelude.{ℕ, ◌+◌, ◌≡◌, List, ◌++◌, map, Bool, cond, length, set, eqb, ltb, Option, Some, None, Result, Ok, Err}
 use Rattle.basics.specs.declared.Refusal.{Refusal}
 use Rattle.basics.specs.Lists.{part, flat}
-use Rattle.basics.specs.Refusals.{refuse, first_refusal, passes}
+use Rattle.basics.specs.Refusals.{refuse, first_refusal, passes, outcome, passed}
 use Rattle.places.specs.Limits.{lent_limit, image_limit}
 use Rattle.tables.specs.Tables.{tables_in, flash_words, tables_refusal}
-use Rattle.blocks.specs.declared.Judged.{Judged}
+use Rattle.blocks.specs.Judged.{Judged}
 use Rattle.blocks.specs.Blocks.{payload_in, hunk_type, tables_type, end_mark}
 use Rattle.blocks.specs.Frames.{frame_at, on_frame}
 use Rattle.blocks.specs.Images.{first_block}
 use Rattle.load.specs.Code.Passes.{judgement_of}
-use Rattle.recovery.specs.declared.Stopped.TheVariants.{Nowhere, At}
 use Rattle.recovery.specs.declared.Step.{Step}
-use Rattle.recovery.specs.declared.Step.TheVariants.{Stops, No, Keeps, Drops}
+use Rattle.recovery.specs.declared.Step.TheVariants.{Stops, Keeps, Drops}
 use Rattle.recovery.specs.declared.Found.{Found}
-use Rattle.recovery.specs.declared.Verdict.{Verdict}
-use Rattle.recovery.specs.declared.Verdict.TheVariants.{Refused, Goes}
-use Rattle.recovery.specs.Salvage.{left_out, kept_in, drops_in, stopped_of, closing, blocks_rows}
+use Rattle.recovery.specs.Salvage.{left_out, kept_in, drops_in, stopped_of, stop_answer, closing, blocks_rows}
 
 -- one step: the end or a block that is cut, a refusal, a block that is kept with its type, or one that is left out; each with the next place
-abbrev pub on_judged : Judged → ℕ → ℕ → Step
-on_judged j t q = cond (passes j.refusal) (Keeps t q) (cond (eqb t hunk_type) (Drops q) (No j.refusal))
+abbrev pub on_judged : Judged → ℕ → ℕ → Result Step Refusal
+on_judged j t q = cond (passes j.refusal) (Ok (Keeps t q)) (cond (eqb t hunk_type) (Ok (Drops q)) (Err j.refusal))
 
-unfoldable pub step_of : List ℕ → Bool → ℕ → Step
-step_of s earlier p = on_frame (frame_at s p) (Stops Nowhere) (Stops (At p)) (λ t q. on_judged (judgement_of lent_limit earlier p (part s p q)) t q)
+unfoldable pub step_of : List ℕ → Bool → ℕ → Result Step Refusal
+step_of s earlier p = on_frame (frame_at s p) (Ok (Stops None)) (Ok (Stops (Some p))) (λ t q. on_judged (judgement_of lent_limit earlier p (part s p q)) t q)
 
 -- what a load refuses of these flags and the tables in a payload; and that after a block of type t
 unfoldable pub late_of : List ℕ → List ℕ → Refusal
 late_of flags payload = tables_refusal flags (tables_in payload).flips lent_limit (flash_words flags)
 
-unfoldable pub late_after : Refusal → List ℕ → List ℕ → ℕ → Refusal
-late_after late flags x t = cond (eqb t tables_type) (late_of flags (payload_in x)) late
+abbrev pub Late : Type 0
+Late = Result (Unit {0}) Refusal
+
+unfoldable pub late_after : Option Late → List ℕ → List ℕ → ℕ → Option Late
+late_after late flags x t = cond (eqb t tables_type) (Some (passed (late_of flags (payload_in x)))) late
 
 -- behind the blocks: "none" of 8, then what was refused of the tables
-unfoldable pub ended_by : ℕ → Bool → Refusal → Found → Verdict
-ended_by size tabled late found = cond tabled (cond (passes late) (Goes found) (Refused late)) (Refused (refuse 8 size))
+unfoldable pub ended_by : ℕ → Option Late → Found → Result Found Refusal
+ended_by size None found = Err (refuse 8 size)
+ended_by size (Some (Ok u)) found = Ok found
+ended_by size (Some (Err r)) found = Err r
 
 -- the blocks kept and left out, the bytes of header and kept blocks, and where they stop
 abbrev pub found_of : List ℕ → Found
@@ -43,11 +45,11 @@ found_of s =
       kept = length (kept_in s);
       dropped = length (drops_in s);
       long = first_block + length (flat (kept_in s));
-      stopped = stopped_of s;
+      stopped = stop_answer (stopped_of s);
     }
 
-unfoldable pub survey_of : List ℕ → Verdict
-survey_of s = cond (passes (first_refusal (blocks_rows s))) (Goes (found_of s)) (Refused (first_refusal (blocks_rows s)))
+unfoldable pub survey_of : List ℕ → Result Found Refusal
+survey_of s = outcome (first_refusal (blocks_rows s)) (found_of s)
 
 -- notes of blocks: from the first on, whether each is left out, and then whatever stands there
 pub record Noted (xs : List (List ℕ)) (notes : List Bool) : Type 0 where

@@ -12,7 +12,7 @@ use Rattle.basics.specs.Laws.Tests.{cases, and_left, or_assoc, or_none, true_is_
 use Rattle.basics.specs.Laws.Rows.{silent_first, silent_append, silent_left, silent_right}
 use Rattle.places.specs.Limits.{lent_limit}
 use Rattle.sums.specs.Crc.{crc324_of}
-use Rattle.blocks.specs.declared.Judged.{Judged}
+use Rattle.blocks.specs.Judged.{Judged}
 use Rattle.blocks.specs.Blocks.{type_of, payload_in, is_tables, is_hunk, Block}
 use Rattle.blocks.specs.Judged.{is_encrypted, wrong_sum, wrong_metadata, wrong_tables, wrong_hunk, break_in, judge_rows, judged_of}
 use Rattle.blocks.specs.Images.{judge_all, any_tables, payload_of_tables}

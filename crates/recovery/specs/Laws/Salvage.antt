@@ -22,7 +22,7 @@ use Rattle.blocks.specs.Images.{first_block, blocks_in, is_cut, judge_all, any_t
 use Rattle.blocks.specs.Laws.Images.{reading}
 use Rattle.load.specs.Load.{walk_rows, refusal_of, loaded_of, loading_of, load_ram_of}
 use Rattle.load.specs.Laws.Refusals.{Accepted, accepted, accepts}
-use Rattle.recovery.specs.declared.Stopped.TheVariants.{Nowhere}
+use Rattle.recovery.specs.Salvage.{Nowhere}
 use Rattle.recovery.specs.Salvage.{kept, kept_in, drops_in, stopped_of, closed, salvage_of, kept_rows, end_rows, blocks_rows, image_rows}
 use Rattle.recovery.specs.Laws.Kept.{keeps, kept_each, kept_silent, AllKept, all_kept, kept_dropped, drops_few}
 use Rattle.recovery.specs.Laws.Closed.{flags_are, header_other, closing_one, closed_is, length_closed, closed_header, closed_length, closed_blocks, closed_whole}

@@ -2,11 +2,11 @@
 -- paragraph that does not lie in the words lent; and what a writing without refusal says.
 use Rattle.std.specs.Prelude.{ℕ, ◌+◌, ◌*◌, ◌≤◌, ◌<◌, List, ◌++◌, ◌∷◌, [], ◌≡◌, refl, true, false, ◌↔◌, length, drop, ltb}
 use Rattle.std.proofs.Common.{ap, ◌∙◌, arith}
-use borrow.Author.Tests.{ltb-true, ltb-false, ne_eqb}
+use borrow.Author.Tests.{eqb-true, ltb-true, ltb-false, ne_eqb}
 use Rattle.basics.specs.declared.Refusal.{Refusal}
 use Rattle.basics.specs.Rows.{Gives, here, later, Silent, also, none, Row}
 use Rattle.basics.specs.Counts.{any, lowest}
-use Rattle.basics.specs.Refusals.{no_refusal, refuse}
+use Rattle.basics.specs.Refusals.{no_refusal, refuse, passes}
 use Rattle.basics.specs.Laws.Tests.{cases, true_is_not_false, and_true}
 use Rattle.basics.specs.Laws.Counts.{any_of}
 use Rattle.basics.specs.Laws.Rows.{silent_first, silent_append, silent_left, silent_right}
@@ -16,8 +16,8 @@ use Rattle.basics.specs.Laws.Puts.{put_room}
 use Rattle.places.specs.Limits.{image_limit, lent, locutus_paragraphs, paragraph_size}
 use Rattle.tables.specs.Tables.{flash_words, tables_rows}
 use Rattle.tables.specs.Laws.Refusals.{tables_refusing}
-use Rattle.save.specs.declared.Writing.{Writing}
-use Rattle.save.specs.Writing.{Content, is_marked, image_by, past_lent, refusal_rows, refusal_of, answer_for, writing_of, written_of}
+use Rattle.save.specs.Writing.{Writing}
+use Rattle.save.specs.Writing.{Content, is_marked, image_by, past_lent, refusal_rows, refusal_of, answer_for, save_answer, saving_from, writing_of, written_of}
 
 -- what the writer answers and leaves, for every buffer and content
 pub record Answers (out : List ℕ) (c : Content) : Type 0 where
@@ -106,3 +106,15 @@ module _ (out : List ℕ) (c : Content) where
 
   pub accepted_so : ((writing_of out c).refusal.number ≡ 0) ↔ Accepted out c
   accepted_so = ((λ e. silent_accepted (answers.accepted.0 e)), (λ a. ap (λ (w : Writing). w.refusal.number) a.answer))
+
+-- what the code answers of a writing tells all that it comes to
+back_err : (w : Writing) → passes w.refusal ≡ false → saving_from (save_answer w) ≡ w
+back_err w p = rw p
+
+pub saving_back : (out : List ℕ) (c : Content) → saving_from (save_answer (writing_of out c)) ≡ writing_of out c
+saving_back out c =
+    cases (passes (writing_of out c).refusal)
+    (λ p.
+    let a : writing_of out c ≡ answer_for no_refusal (length (image_by c)) = ((accepted_so out c).0 (eqb-true _ _ p)).answer in
+    rw a)
+    (λ p. back_err (writing_of out c) p)

@@ -1,11 +1,6 @@
 -- `save::put_hunks` meets its contract. The loop's invariant: the blocks of the marked paragraphs below p are written.
-use Prim.Native.Nat.{◌-◌}
-use Rattle.places.specs.Limits.{locutus_paragraphs}
 use Rattle.save.proofs.Loops.{Marking}
 use Rattle.save.proofs.put_hunks.Given as goal
 
 abbrev pub invariant-loop-p : goal.invariant-loop-p
 invariant-loop-p l = Marking l.ram l.marks l.initial.out l.out l.at l.p
-
-abbrev pub decreases-loop-p : goal.decreases-loop-p
-decreases-loop-p l = locutus_paragraphs - l.p

@@ -1,9 +1,10 @@
 -- The parts of an image that are written one after the other, and the refusals by what they ask.
-use Rattle.std.specs.Prelude.{ℕ, ◌+◌, List, [], ◌∷◌, ◌++◌, Bool, length, ltb}
+use Rattle.std.specs.Prelude.{ℕ, ◌+◌, List, [], ◌∷◌, ◌++◌, Bool, cond, length, ltb, eqb}
 use Rattle.basics.specs.declared.Refusal.{Refusal}
+use Rattle.basics.specs.declared.Declined.{Declined}
 use Rattle.basics.specs.Lists.{joined}
 use Rattle.basics.specs.Counts.{any, lowest}
-use Rattle.basics.specs.Refusals.{refuse, first_refusal}
+use Rattle.basics.specs.Refusals.{refuse, first_refusal, declined}
 use Rattle.places.specs.Limits.{image_limit, locutus_paragraphs}
 use Rattle.header.specs.Header.{header_of}
 use Rattle.tables.specs.Tables.{Tables, tables_payload, flash_words, tables_rows}
@@ -38,3 +39,7 @@ judged_by room flags flips words marks long =
     ∷ (ltb image_limit long, refuse 1 0)
     ∷ (ltb room long, refuse 29 0)
     ∷ []))
+
+-- the error of a refusal: the length only at 29
+abbrev pub declined_by : Refusal → ℕ → Declined
+declined_by r long = declined r (cond (eqb r.number 29) long 0)

@@ -14,9 +14,9 @@ use Rattle.basics.specs.Rows.{Silent}
 use Rattle.tables.specs.Tables.{Tables, mislent, tables_rows}
 use Rattle.tables.specs.Laws.Refusals.{lent_alike}
 use Rattle.hunk.specs.Hunk.{Hunk}
-use Rattle.load.specs.declared.Loading.{Loading}
+use Rattle.load.specs.Load.{Loading}
 use Rattle.load.specs.Load.{loading_of, load_ram_of}
-use Rattle.save.specs.declared.Writing.{Writing}
+use Rattle.save.specs.Writing.{Writing}
 use Rattle.save.specs.Chosen.{chosen, image_with, image_for, Sized}
 use Rattle.save.specs.Writing.{Content, is_marked, paragraph_of, image_by, writing_of, written_of}
 use Rattle.save.specs.Laws.Chosen.{Lies, chosen_each, length_chosen}

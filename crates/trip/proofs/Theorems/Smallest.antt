@@ -30,7 +30,7 @@ use Rattle.load.specs.Laws.Refusals.{answer_refusal}
 use Rattle.load.proofs.Theorems.Ram.{leaves}
 use Rattle.save.specs.Chosen.{chosen, tables_block, hunk_block, image_with, image_for, Sized}
 use Rattle.save.specs.Laws.Chosen.{Lies, chosen_each, length_with}
-use Rattle.save.specs.declared.Writing.{Writing}
+use Rattle.save.specs.Writing.{Writing}
 use Rattle.save.specs.Writing.{Content, is_marked, paragraph_of, image_by, writing_of, written_of}
 use Rattle.save.proofs.Theorems.Refusals.{Accepted}
 use Rattle.trip.specs.Smallest.{Recoded, SameBlocks, none, same, coded, Alike}

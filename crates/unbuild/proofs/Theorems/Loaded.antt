@@ -18,7 +18,7 @@ use Rattle.blocks.specs.Images.{blocks_in, payload_of_tables}
 use Rattle.load.proofs.Theorems.Ram.{laid}
 use Rattle.load.specs.Laws.Refusals.{answer_refusal}
 use Rattle.load.specs.Load.{flash_asked, hunks_laid, load_ram_of, loading_of, loads, refusal_by_size, refusal_of}
-use Rattle.load.specs.declared.Loading.{Loading}
+use Rattle.load.specs.Load.{Loading}
 use Rattle.plan.specs.Fewest.{fewest}
 use Rattle.plan.specs.Plan.{Plan}
 use Rattle.behind.specs.Behind.{behind}

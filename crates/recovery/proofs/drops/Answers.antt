@@ -1,23 +1,11 @@
--- `recovery::list_drops` meets its contract. The invariant: the places before p are listed.
+-- `recovery::drops` meets its contract. The invariant: the places before p are listed.
 use Rattle.recovery.proofs.Laws.{frame_later, frame_inside}
-use Rattle.recovery.proofs.Loops.{list_start, list_same, count_over, list_over, count_cut, list_cut, list_less, list_fit, list_none, list_one}
+use Rattle.recovery.proofs.Loops.{list_start, list_same, list_all, list_less, list_fit, list_none, list_one}
 use borrow.Author.Rules.{rules}
-use Rattle.recovery.proofs.list_drops.Goals as goal
+use Rattle.recovery.proofs.drops.Goals as goal
 
 pub loop-q-init : goal.loop-q-init
 loop-q-init c = search (rules, list_start)
-
-pub shape_of-places-in-Over : goal.shape_of-places-in-Over
-shape_of-places-in-Over c = search (rules, list_same)
-
-pub returns-in-Over : goal.returns-in-Over
-returns-in-Over c = (search (rules, count_over), search (rules, list_over))
-
-pub shape_of-places-in-Cut : goal.shape_of-places-in-Cut
-shape_of-places-in-Cut c = search (rules, list_same)
-
-pub returns-in-Cut : goal.returns-in-Cut
-returns-in-Cut c = (search (rules, count_cut), search (rules, list_cut))
 
 pub slice_bounds-is_left_out-count : goal.slice_bounds-is_left_out-count
 slice_bounds-is_left_out-count c = search (rules, frame_later)
@@ -42,3 +30,9 @@ loop-q-smaller c = search (rules, list_less)
 
 pub loop-q-preserved : goal.loop-q-preserved
 loop-q-preserved c = search (rules, list_none)
+
+pub shape_of-places : goal.shape_of-places
+shape_of-places c = search (rules, list_same)
+
+pub returns : goal.returns
+returns c = list_all _ _ _ _ _ c.loop-q.invariant _ c.frame_at.ensures c.in_default.not-Framed
