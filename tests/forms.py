@@ -122,7 +122,7 @@ for path in sorted(TOP.glob("crates/*/src/**/*.rt")):
     for m in re.finditer(r"\[fn\(|: fn\(", text):
         place("7", where, m.group(0))
     for name, given, body in functions(text):
-        for m in re.finditer(r"\bwhile [^{]*\{", body):
+        for m in re.finditer(r"\bwhile (?!let )[^{]*\{", body):
             if re.search(r"\b\w+ (\+|-)= 1;", braced(body, m.end() - 1)):
                 place("3", where, f"{name}: {m.group(0)[:-2]}")
         words = [p.split(":")[0].replace("mut ", "").strip() for p in parts(given)]
