@@ -45,8 +45,8 @@ def is_there(word):
 
 
 def main():
-    # PORT.md names what stood under older names, too.
-    documents = [ROOT / "README.md", *(p for p in sorted((ROOT / "docs").glob("**/*.md")) if p.name != "PORT.md")]
+    # PORT.md and DESIGN-PASS.md name what stood under older names, too.
+    documents = [ROOT / "README.md", *(p for p in sorted((ROOT / "docs").glob("**/*.md")) if p.name not in ("PORT.md", "DESIGN-PASS.md"))]
     total = wrong = 0
     for document in documents:
         for word in re.findall(r"`([^`\s]+)`", document.read_text()):
