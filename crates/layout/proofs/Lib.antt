@@ -5,4 +5,5 @@ pub mod Holding
 pub mod Drafts
 pub mod Laying
 pub mod Sources
+pub mod Rows
 pub mod Same

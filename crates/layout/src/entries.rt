@@ -2,11 +2,11 @@
 ghost use Rattle.std.specs.Prelude.{◌≤◌, ◌<◌, ◌≡◌, IfSome};
 ghost use Rattle.basics.specs.Tables.{table};
 ghost use Rattle.places.specs.Limits.{slots, chapters, chapter_pages, flip_entries, paragraphs};
-ghost use Rattle.layout.specs.Code.Entries.{answer_in, flip_in, flips_by, flippable_in, mapping_in, permissions_in};
+ghost use Rattle.layout.specs.Code.Entries.{answer_in, row_in, rows_in, flip_in, flips_by, flippable_in, mapping_in, permissions_in};
 
 use crate::found::Survey;
 use places::{
-    CHAPTER_PAGES, CHAPTER_PARAGRAPHS, FLIP_ENTRIES, LAYERS, PAGE_PARAGRAPHS, PARAGRAPHS,
+    CHAPTER_PAGES, CHAPTER_PARAGRAPHS, CHAPTERS, FLIP_ENTRIES, LAYERS, PAGE_PARAGRAPHS, PARAGRAPHS,
 };
 use std::array;
 
@@ -27,25 +27,47 @@ fn answer_at(s: &Survey, x: usize, y: usize) -> Option<u16>
     }
 }
 
+// Gathers which page answers in chapter x, for each page that may be asked for.
+fn row_of(s: &Survey, x: usize) -> [Option<u16>; CHAPTER_PAGES]
+    requires { x < chapters }
+    ensures { result ≡ row_in s.now x }
+{
+    array::from_fn(|y| answer_at(s, x, y))
+}
+
+// Gathers the rows of all chapters: sixteen rows of sixteen pages.
+fn rows_of(s: &Survey) -> [[Option<u16>; CHAPTER_PAGES]; CHAPTERS]
+    ensures { result ≡ rows_in s.now }
+{
+    array::from_fn(
+        |x|
+            requires { x < chapters }
+            ensures { (result ≡ row_in s.entry.now x) × (s.exit ≡ s.entry) }
+        { row_of(s, x) },
+    )
+}
+
 // 16L + 9 for the page L that answers, else 8; 0 in a chapter without PAGE lines.
-fn flip_at(s: &Survey, n: usize) -> u16
-    requires { n < flip_entries }
+fn flip_at(s: &Survey, rows: &[[Option<u16>; CHAPTER_PAGES]; CHAPTERS], n: usize) -> u16
+    requires { (n < flip_entries) × (rows.now ≡ rows_in s.now) }
     ensures { result ≡ flip_in s.now n }
 {
     let x = n / CHAPTER_PAGES;
     if !s.paged[x] {
         return 0;
     }
-    match answer_at(s, x, n % CHAPTER_PAGES) {
+    match rows[x][n % CHAPTER_PAGES] {
         Some(page) => PAGE_PARAGRAPHS as u16 * page + 9,
         None => 8,
     }
 }
 
+// The pages that answer are gathered first, and then written as the flip table.
 pub(crate) fn flips_of(s: &Survey) -> [u16; FLIP_ENTRIES]
     ensures { result ≡ flips_by s.now }
 {
-    array::from_fn(|n| flip_at(s, n))
+    let rows = rows_of(s);
+    array::from_fn(|n| flip_at(s, &rows, n))
 }
 
 // Whether paragraph p lies in the flippable range of a chapter with PAGE lines.

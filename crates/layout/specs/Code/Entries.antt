@@ -1,18 +1,26 @@
 -- The entries of the three tables, and the marks, by a survey.
 use Rattle.std.specs.Prelude.{ℕ, ◌+◌, ◌*◌, ◌/◌, ◌%◌, List, Bool, false, cond, ◌&&◌, not, get_or, eqb, leb, ltb, Option, Some, None}
 use Rattle.basics.specs.Tables.{table}
-use Rattle.places.specs.Limits.{chapter_paragraphs, chapter_pages, flip_entries, paragraphs, layers, page_paragraphs, locutus_paragraphs}
+use Rattle.places.specs.Limits.{chapters, chapter_paragraphs, chapter_pages, flip_entries, paragraphs, layers, page_paragraphs, locutus_paragraphs}
 use Rattle.switches.specs.Flips.{first_k, flip_mapping, flip_permissions}
 use Rattle.layout.specs.declared.found.Survey.{Survey}
 use Rattle.layout.specs.declared.Drawing.{Drawing}
 use Rattle.layout.specs.Code.Survey.{is_used}
 
--- the page that answers in chapter x while page y is asked for; and the flip entry
+-- the page that answers in chapter x while page y is asked for
 abbrev pub answer_in : Survey → ℕ → ℕ → Option ℕ
 answer_in s x y =
     cond (is_used s.used (layers * x + (y + 1))) (Some (get_or s.page (layers * x + (y + 1)) 0))
     (cond (get_or s.under x false) (Some (get_or s.page (layers * x) 0)) None)
 
+-- the rows of answering pages: one for each chapter, with an answer for each page that may be asked for
+unfoldable pub row_in : Survey → ℕ → List (Option ℕ)
+row_in s x = table chapter_pages (answer_in s x)
+
+abbrev pub rows_in : Survey → List (List (Option ℕ))
+rows_in s = table chapters (row_in s)
+
+-- the flip entry of an answer, and flip entry n
 abbrev pub entry_of : Option ℕ → ℕ
 entry_of None = 8
 entry_of (Some n) = page_paragraphs * n + 9
