@@ -273,7 +273,7 @@ module _ (bin : List ℕ) (lines : List Line) (accepted : Accepted bin lines) (f
         }
 
 -- 20, as the code asks it of a drawing's pages
-drawn_large : (lines : List Line) (d : Drawing) → d ≡ drawing_of lines → too_large lines ≡ ltb lent_limit (page_size * d.pages)
+pub drawn_large : (lines : List Line) (d : Drawing) → d ≡ drawing_of lines → too_large lines ≡ ltb lent_limit (page_size * d.pages)
 unfolding too_large drawing_of
 drawn_large lines d e = rw e
 
