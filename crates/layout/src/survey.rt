@@ -89,7 +89,7 @@ fn under_of(kinds: &[u8; PARAGRAPHS]) -> [bool; CHAPTERS]
 
 pub(crate) fn survey_of(lines: &[Line]) -> Survey
     requires { length lines.now ≤ line_limit }
-    ensures { Surveyed lines.now result }
+    ensures { Surveyed lines.now lines.now result }
 {
     let cells = cells_of(lines);
     let kinds = kinds_of(&cells, lines);

@@ -5,4 +5,4 @@ use Rattle.layout.specs.Laws.Draw.{draws}
 use Rattle.layout.proofs.draw.Goals as goal
 
 pub returns : goal.returns
-returns c = rw (take_min _ line_limit c.args.lines.now c.min.ensures) at (draws _ _ c.survey_of.ensures _ c.drawn.ensures)
+returns c = rw (take_min _ line_limit c.args.lines.now c.min.ensures) at (draws _ _ _ c.survey_of.ensures _ c.drawn.ensures)

@@ -68,9 +68,9 @@ numbered_of u =
       pages = count (is_used u) slots;
     }
 
--- a survey of some lines
-pub record Surveyed (ls : List Line) (s : Survey) : Type 0 where
-  pub cells_are : Cells ls ls s.cells
+-- a survey of some lines, where `all` are numbered
+pub record Surveyed (all ls : List Line) (s : Survey) : Type 0 where
+  pub cells_are : Cells all ls s.cells
   pub kinds_are : s.kinds ≡ table paragraphs (kind_at ls)
   pub used_are : s.used ≡ table slots (used ls)
   pub paged_are : s.paged ≡ table chapters (paged ls)

@@ -51,7 +51,7 @@ kind_none : (o : Option Line) → not (is_some o) ≡ eqb (kind_of o) 0
 kind_none none = refl
 kind_none (some l) = sym (kind_entry l.entry)
 
-module _ (ls : List Line) (s : Survey) (v : Surveyed ls s) where
+module _ (all ls : List Line) (s : Survey) (v : Surveyed all ls s) where
   -- each table at its places
   used_at : (i : ℕ) → i < slots → get_or s.used i false ≡ used ls i
   used_at i h = rw v.used_are (get_d_table false slots (used ls) i h)
@@ -134,11 +134,11 @@ module _ (ls : List Line) (s : Survey) (v : Surveyed ls s) where
   paragraph_at : (p : ℕ) → p < cells → paragraph_in s p ≡ paragraph_held ls p
   paragraph_at p h = rw (slot_at (p / page_paragraphs) (omega arith))
 
-  line_cond : (b : Bool) (n : ℕ) → line_of ls (cond b n 0) ≡ cond b (line_of ls n) none
+  line_cond : (b : Bool) (n : ℕ) → line_of all (cond b n 0) ≡ cond b (line_of all n) none
   line_cond true n = refl
   line_cond false n = refl
 
-  line_held_lem : (p : ℕ) → p < cells → line_of ls (held_in s p) ≡ line_held ls p
+  line_held_lem : (p : ℕ) → p < cells → line_of all (held_in s p) ≡ line_held ls p
   unfolding held_in line_held
   line_held_lem p h =
       let b : slot_of_page ls (p / page_paragraphs) < slots = slot_below (p / page_paragraphs) in
@@ -149,7 +149,7 @@ module _ (ls : List Line) (s : Survey) (v : Surveyed ls s) where
   marks_are : table locutus_paragraphs (mark_in s) ≡ table locutus_paragraphs (covered ls)
   marks_are =
       table_same false locutus_paragraphs _ (covered ls)
-      (λ p h. sym (some_line ls (held_in s p)) ∙ ap is_some (line_held_lem p (omega arith)))
+      (λ p h. sym (some_line all (held_in s p)) ∙ ap is_some (line_held_lem p (omega arith)))
 
   drawn_is : drawn_by s ≡ drawing_of ls
   unfolding drawn_by drawing_of
@@ -159,36 +159,36 @@ module _ (ls : List Line) (s : Survey) (v : Surveyed ls s) where
   draws d e = e ∙ drawn_is
 
   -- its words
-  held_few : (p : ℕ) → p < cells → held_in s p ≤ length ls
+  held_few : (p : ℕ) → p < cells → held_in s p ≤ length all
   unfolding held_in
   held_few p h =
       let b : slot_in s p < slots = s.within (p / page_paragraphs) (omega arith) in
       by (ltb (p / page_paragraphs) s.pages) (v.cells_are.few.each (paragraphs * (slot_in s p % layers) + paragraph_in s p) (omega arith))
     where
-      by : (b : Bool) {n : ℕ} → n ≤ length ls → cond b n 0 ≤ length ls
+      by : (b : Bool) {n : ℕ} → n ≤ length all → cond b n 0 ≤ length all
       by true l = l
       by false l = omega arith
 
   held_starts : (p : ℕ) → p < cells → (held_in s p ≡ 0 → ⊥)
-      → first (get_or ls (held_in s p - 1) no_line).entry ≤ paragraph_size * paragraph_in s p
+      → first (get_or all (held_in s p - 1) no_line).entry ≤ paragraph_size * paragraph_in s p
   unfolding line_held
   held_starts p h d =
-      let l : line_of ls (held_in s p) ≡ line_held ls p = line_held_lem p h in
-      let e : some (get_or ls (held_in s p - 1) no_line) ≡ line_held ls p = rw (ne_eqb _ _ d) at l in
+      let l : line_of all (held_in s p) ≡ line_held ls p = line_held_lem p h in
+      let e : some (get_or all (held_in s p - 1) no_line) ≡ line_held ls p = rw (ne_eqb _ _ d) at l in
       rw (paragraph_at p h)
       (cases (ltb (p / page_paragraphs) (pages ls))
       (λ q. (within _ (paragraph_size * paragraph_held ls p) (line_here ls (layer_held ls p) (paragraph_size * paragraph_held ls p) _ (sym (rw q at e)))).from)
-      (λ q. let f : some (get_or ls (held_in s p - 1) no_line) ≡ none = rw q at e in let z : ◌≡◌ {A = ℕ} 0 1 = cc in absurd (omega arith)))
+      (λ q. let f : some (get_or all (held_in s p - 1) no_line) ≡ none = rw q at e in let z : ◌≡◌ {A = ℕ} 0 1 = cc in absurd (omega arith)))
 
-  pub begins : Begins ls s
+  pub begins : Begins all s
   begins = record { few = held_few; start = held_starts }
 
-  poured_is : (bin ram : List ℕ) → poured_by bin ls s ram ≡ ram_of bin ls ram
+  poured_is : (bin ram : List ℕ) → poured_by bin all s ram ≡ ram_of bin ls ram
   unfolding poured_by ram_of written_in
   poured_is bin ram =
-      laid_same 0 (paragraph_size * min (page_paragraphs * s.pages) (length ram / paragraph_size)) (written_in bin ls s) (word_at bin ls) ram
+      laid_same 0 (paragraph_size * min (page_paragraphs * s.pages) (length ram / paragraph_size)) (written_in bin all s) (word_at bin ls) ram
       (λ i h. let b : i / paragraph_size < cells = omega (arith, s.few) in rw (line_held_lem (i / paragraph_size) b, paragraph_at (i / paragraph_size) b))
       ∙ rw v.pages_are
 
-  pub pours : (bin ram after : List ℕ) → after ≡ poured_by bin ls s ram → after ≡ ram_of bin ls ram
+  pub pours : (bin ram after : List ℕ) → after ≡ poured_by bin all s ram → after ≡ ram_of bin ls ram
   pours bin ram after e = e ∙ poured_is bin ram

@@ -88,12 +88,12 @@ module _ (u : List Bool) (r : Numbered) (e : r ≡ numbered_of u) where
 
 -- as the code comes to it
 pub surveyed :
-    (ls : List Line) (o v : List ℕ) (u p d : List Bool) (r : Numbered) → Cells ls ls o → v ≡ table paragraphs (kind_in ls o)
+    (all ls : List Line) (o v : List ℕ) (u p d : List Bool) (r : Numbered) → Cells all ls o → v ≡ table paragraphs (kind_in all o)
     → u ≡ table slots (λ s. used_in o (s / layers) (s % layers)) → p ≡ table chapters (paged_in u) → d ≡ table chapters (under_in v) → r ≡ numbered_of u
     → (few : r.pages ≤ slots) (small : (s : ℕ) → s < slots → get_or r.page s 0 ≤ slots) (within : (n : ℕ) → n < slots → get_or r.slot n 0 < slots)
-    → Surveyed ls
+    → Surveyed all ls
     (record { cells = o; kinds = v; used = u; paged = p; under = d; page = r.page; slot = r.slot; pages = r.pages; few = few; small = small; within = within })
-surveyed ls o v u p d r w ev eu ep ed er few small within =
+surveyed all ls o v u p d r w ev eu ep ed er few small within =
     record {
       cells_are = w;
       kinds_are = kinds_are;
@@ -106,7 +106,7 @@ surveyed ls o v u p d r w ev eu ep ed er few small within =
     }
   where
     kinds_are : v ≡ table paragraphs (kind_at ls)
-    kinds_are = ev ∙ table_same 0 paragraphs (kind_in ls o) (kind_at ls) (λ i h. kind_by_lem w i h)
+    kinds_are = ev ∙ table_same 0 paragraphs (kind_in all o) (kind_at ls) (λ i h. kind_by_lem w i h)
 
     used_are : u ≡ table slots (used ls)
     used_are = eu ∙ table_same false slots (λ s. used_in o (s / layers) (s % layers)) (used ls) (λ s h. used_by w s h)
