@@ -1,7 +1,7 @@
 -- `load::load` meets its contract: one law for the answer and one for the RAM, for each way out.
 use mathlib.Core.Path.{sym, ◌∙◌}
 use Rattle.std.proofs.lemmas.Result.{err_from_is_err_and}
-use Rattle.load.proofs.Theorems.Passes.{front_answers, front_keeps, header_enough, loads_tabled, done_answer, done_ram}
+use Rattle.load.proofs.Theorems.Passes.{front_answers, front_keeps, checked_enough, checked_tabled, done_answer, done_ram}
 use Rattle.load.proofs.load.Goals as goal
 
 pub returns-in_err-found : goal.returns-in_err-found
@@ -12,7 +12,7 @@ returns-in_err-found c =
     rw (p.1, p.2) (rw (← m) (front_answers _ _ _ e _), front_keeps _ _ _ e _ _ m)
 
 pub finish-requires : goal.finish-requires
-finish-requires c = let e = sym c.check.ensures ∙ c.in_ok-found.was in (header_enough _ _ _ e, loads_tabled _ _ _ e)
+finish-requires c = let e = sym c.check.ensures ∙ c.in_ok-found.was in (checked_enough _ _ _ e, checked_tabled _ _ _ e)
 
 pub returns : goal.returns
 returns c =
