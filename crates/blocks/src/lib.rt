@@ -3,7 +3,7 @@
 
 ghost use Rattle.std.specs.Prelude.{◌≡◌, not, ◌+◌, ◌≤◌, length, get_or, drop, eqb};
 ghost use Rattle.sums.specs.Crc.{c324_poly, crc324_of};
-ghost use Rattle.sums.specs.Tables.{tables_of};
+ghost use Rattle.sums.specs.Tables.{tables_of, by_tables};
 ghost use Rattle.hunk.specs.Hunk.{check_hunk};
 ghost use Rattle.blocks.specs.Blocks.{frame_of, put_frame, payload_in, sum_said};
 ghost use Rattle.blocks.specs.Frames.{frame_at};
@@ -78,10 +78,10 @@ pub fn payload_of(x: &[u8]) -> &[u8]
     &x[FRAME_SIZE.min(x.len())..]
 }
 
-// Returns CRC32/4 of a block's payload, by its own tables.
+// Returns the sum of a block's payload by lent tables: CRC32/4 where the tables are those of CRC32/4.
 pub fn payload_sum(c324: &[u32; TABLE_ENTRIES], x: &[u8]) -> u32
-    requires { c324.now ≡ tables_of c324_poly }
-    ensures { result ≡ crc324_of (payload_in x.now) }
+    ensures { (result ≡ by_tables c324.now 0 (payload_in x.now))
+        × (c324.now ≡ tables_of c324_poly → result ≡ crc324_of (payload_in x.now)) }
 {
     sums::sum_by(c324, 0, payload_of(x))
 }

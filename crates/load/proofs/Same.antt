@@ -19,4 +19,4 @@ pub one_lay_hunks : OneLent lay-hunks.Learnt (λ κs e. e.1.0.now)
 one_lay_hunks κs a y z e f = same
 
 pub one_judge : OneAnswer judge.Learnt
-one_judge κs a y z e f = same
+one_judge κs a y z e f p q = same p.0 q.0

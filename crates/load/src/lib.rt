@@ -5,10 +5,11 @@ ghost use Rattle.std.specs.Prelude.{◌≡◌, ◌≤◌, length};
 ghost use Rattle.basics.specs.Refusals.{passed};
 ghost use Rattle.places.specs.Limits.{lent};
 ghost use Rattle.sums.specs.Crc.{c324_poly};
-ghost use Rattle.sums.specs.Tables.{tables_of};
+ghost use Rattle.sums.specs.Tables.{tables_of, by_tables};
 ghost use Rattle.header.specs.Header.{header_size, flags_of};
 ghost use Rattle.tables.specs.Tables.{jlp_of, cartridge_of, flash_words};
-ghost use Rattle.blocks.specs.Judged.{verdict};
+ghost use Rattle.blocks.specs.Blocks.{payload_in};
+ghost use Rattle.blocks.specs.Judged.{verdict, judged_of};
 ghost use Rattle.blocks.specs.Images.{blocks_in};
 ghost use Rattle.load.specs.Load.{refusal_by_size, load_answer, loading_of, load_ram_of, hunks_laid};
 ghost use Rattle.load.specs.Code.Passes.{judgement_of, tables_after, step_of, ended_at, found_of, checked_of, tables_at, Tabled, end_refusal, finished_of, block_stored, finished_ram_of};
@@ -45,15 +46,16 @@ pub struct Loaded {
     pub words: usize,
 }
 
-// Judges the block x by itself, with its payload's own checksum, for m words of RAM: a place counts from its first byte.
+// Judges the block x by itself, with its payload's sum by lent tables, for m words of RAM: a place counts from its first byte. The tables of
+// CRC32/4 give the payload's own checksum.
 pub fn judge(
     x: &[u8],
     c324: &[u32; TABLE_ENTRIES],
     m: usize,
     earlier: bool,
 ) -> Result<usize, Refusal>
-    requires { c324.now ≡ tables_of c324_poly }
-    ensures { result ≡ verdict (judgement_of m earlier 0 x.now) }
+    ensures { (result ≡ verdict (judged_of m earlier 0 (by_tables c324.now 0 (payload_in x.now)) x.now))
+        × (c324.now ≡ tables_of c324_poly → result ≡ verdict (judgement_of m earlier 0 x.now)) }
 {
     blocks::judge(x, blocks::payload_sum(c324, x), m, earlier)
 }

@@ -13,7 +13,7 @@ pub slice_bounds-judge-end : goal.slice_bounds-judge-end
 slice_bounds-judge-end c = search (rules, frame_inside)
 
 pub overflow_add-p : goal.overflow_add-p
-overflow_add-p c = search (rules, place_fits)
+overflow_add-p c = let own = c.judge.ensures.1 c.requires in search (rules, place_fits)
 
 pub returns-in-Over : goal.returns-in-Over
 returns-in-Over c = search (rules, steps)
@@ -22,7 +22,7 @@ pub returns-in-Cut : goal.returns-in-Cut
 returns-in-Cut c = search (rules, steps)
 
 pub returns-in-Err : goal.returns-in-Err
-returns-in-Err c = search (rules, steps)
+returns-in-Err c = let own = c.judge.ensures.1 c.requires in search (rules, steps)
 
 pub returns-in-Ok : goal.returns-in-Ok
-returns-in-Ok c = search (rules, steps)
+returns-in-Ok c = let own = c.judge.ensures.1 c.requires in search (rules, steps)

@@ -4,7 +4,7 @@ use borrow.Author.Rules.{rules}
 use Rattle.recovery.proofs.is_left_out.Goals as goal
 
 pub returns-then-byte_at-eq-HUNK_TYPE : goal.returns-then-byte_at-eq-HUNK_TYPE
-returns-then-byte_at-eq-HUNK_TYPE c = search (rules, out_hunk)
+returns-then-byte_at-eq-HUNK_TYPE c = let own = c.judge.ensures.1 c.requires in search (rules, out_hunk)
 
 pub returns-else-byte_at-eq-HUNK_TYPE : goal.returns-else-byte_at-eq-HUNK_TYPE
 returns-else-byte_at-eq-HUNK_TYPE c = search (rules, out_other)

@@ -2,4 +2,4 @@
 use Rattle.save.proofs.frame.Goals as goal
 
 pub returns : goal.returns
-returns c = cc
+returns c = let own = c.payload_sum-sum.ensures.1 c.requires in cc
