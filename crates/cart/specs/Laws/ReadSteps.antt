@@ -15,6 +15,7 @@ use Rattle.cart.specs.declared.Cell.{Cell}
 use Rattle.cart.specs.declared.Source.{Source}
 use Rattle.cart.specs.declared.Source.TheVariants.{Nobody, Latched, Ram}
 use Rattle.cart.specs.Cells.{cell_at, window_cell}
+use Rattle.cart.specs.Laws.Reads.{fetch_shut}
 use Rattle.cart.specs.Reads.{silent, fetched, register_source, window_source, mapped_source, source_of}
 
 -- past the n words that are lent; open
@@ -27,6 +28,8 @@ module _ (c : Cell) (ram : List ℕ) where
     pub fetch_open : c.location.0 < n → Some (slice_index ram c.location.0) ≡ fetched c ram
     unfolding fetched
     fetch_open l = rw (not-false c.rights.read r, ← h, lt-ltb _ _ l)
+
+pub ruleset fetches = (fetch_shut, fetch_past, fetch_open)
 
 -- the word of JLP RAM as it is put together; and a register that answers
 pub window_is : (at : Console) (l : Locutus) (r : Rights) → l ≡ ram_location at → r ≡ record { read = true; write = true; narrow = false }
@@ -52,6 +55,8 @@ module _ (a : Active) (at : Console) (b : Bool) (e : b ≡ silent at) where
   pub mapped_cell : (c : Cell) → b ≡ false → c ≡ cell_at a at → Ram c ≡ mapped_source a at
   mapped_cell c t h = rw (← e, t, h)
 
+pub ruleset mapped = (mapped_silent, mapped_cell)
+
 -- off; on, and outside of the window; on, and in it
 module _ (j : Jlp) (a : Active) (at : Console) (s : Source) where
   pub source_off : not j.on ≡ true → s ≡ mapped_source a at → s ≡ source_of j a at
@@ -64,3 +69,5 @@ module _ (j : Jlp) (a : Active) (at : Console) (s : Source) where
     pub source_inside : not b ≡ false → s ≡ window_source j at → s ≡ source_of j a at
     source_inside n h =
         h ∙ sym (cond_true (j.on && in_window at) (window_source j at) (mapped_source a at) (and_true j.on (in_window at) (not-false j.on o) (sym e ∙ not-false b n)))
+
+pub ruleset sources = (source_off, source_outside, source_inside)

@@ -16,6 +16,7 @@ use Rattle.cart.specs.declared.Taker.{Taker}
 use Rattle.cart.specs.declared.Taker.TheVariants.{Accelerators, Bank, Flip, Ram}
 use Rattle.cart.specs.Cells.{cell_at, window_cell}
 use Rattle.cart.specs.Code.Takers.{banked_only, acting_only}
+use Rattle.cart.specs.Laws.Writes.{store_shut}
 use Rattle.cart.specs.Writes.{stored_word, stored, window_taker, bank_taker, flip_taker, mapped_taker, taker_of, left_by, assigned_by, readable_by}
 
 -- past the n words that are lent; open, to the word w
@@ -29,6 +30,8 @@ module _ (c : Cell) (ram : List ℕ) (v : ℕ) where
     unfolding stored
     store_open w l e = rw (not-false c.rights.write r, ← h, lt-ltb _ _ l, e)
 
+pub ruleset stores = (store_shut, store_past, store_open)
+
 -- a register whose half-page may be switched, may not, and none
 module _ (permissions : List ℕ) (r q : Option ℕ) (e : r ≡ q) where
   pub bank_may : (h : ℕ) (b : Bool) → r ≡ Some h → b ≡ banked permissions h → b ≡ true → Some h ≡ banked_only permissions q
@@ -40,6 +43,8 @@ module _ (permissions : List ℕ) (r q : Option ℕ) (e : r ≡ q) where
   pub bank_none : r ≡ None → None ≡ banked_only permissions q
   bank_none f = rw (← e, f)
 
+pub ruleset banks = (bank_may, bank_not, bank_none)
+
 -- a request whose entry acts, does not, and none
 module _ (flips : List ℕ) (r q : Option ℕ) (e : r ≡ q) where
   pub flip_may : (n : ℕ) (b : Bool) → r ≡ Some n → b ≡ acts flips n → b ≡ true → Some n ≡ acting_only flips q
@@ -50,6 +55,8 @@ module _ (flips : List ℕ) (r q : Option ℕ) (e : r ≡ q) where
 
   pub flip_none : r ≡ None → None ≡ acting_only flips q
   flip_none f = rw (← e, f)
+
+pub ruleset flips_asked = (flip_may, flip_not, flip_none)
 
 -- so the taker
 flip_by : (flips : List ℕ) (r : Option ℕ) (next : Taker) (q : Option ℕ) → q ≡ acting_only flips r → (n : ℕ) → q ≡ Some n → Flip n ≡ flip_taker flips r next
@@ -87,6 +94,8 @@ module _ (a : Active) (flips : List ℕ) (at : Console) (v : ℕ) where
     pub bank_passes : (t : Taker) → q ≡ None → t ≡ flip_taker flips (asks at v) (Ram (cell_at a at)) → t ≡ mapped_taker a flips at v
     bank_passes t f g = g ∙ bank_past a.permissions (register_at at) v _ q e f
 
+pub ruleset takers = (flip_takes, flip_passes, bank_takes, bank_passes)
+
 -- in the window, the RAM and the registers
 module _ (at : Console) (b : Bool) (e : b ≡ in_ram at) where
   pub window_ram : (c : Cell) → b ≡ true → c ≡ window_cell at → Ram c ≡ window_taker at
@@ -116,3 +125,5 @@ module _ (t w : Taker) (e : t ≡ w) where
 
   pub shift_permissions : (a : Active) (flips x : List ℕ) → x ≡ (left_by w a flips).permissions → x ≡ (left_by t a flips).permissions
   shift_permissions a flips x g = rw e g
+
+pub ruleset shifts = (shift_assigned, shift_readable, shift_mapping, shift_permissions)
