@@ -1,7 +1,7 @@
-// Reading a file whole: its end is told apart from an error, and a file that is longer than the buffer fills it.
+// Reading a file whole: its end is told apart from an error, and a file that is longer than the buffer apart from both.
 ghost use Rattle.std.specs.Prelude.{◌+◌, ◌<◌, ◌≤◌, ◌≡◌, length, IfOk, IfSome};
 ghost use Rattle.files.specs.Counts.{IsPrefixLen};
-ghost use Rattle.files.specs.Reads.{meaning_of, count_in};
+ghost use Rattle.files.specs.Reads.{meaning_of, count_in, ending_of};
 ghost use Rattle.files.specs.Stops.{stop_of};
 
 use crate::arguments::Argument;
@@ -12,6 +12,20 @@ use crate::{names, sight};
 use std::fs::File;
 use std::io::Read;
 use std::os::fd::AsRawFd;
+
+// How the reading of a file that did not fail ended: the buffer has all of it, or more stands after a full buffer.
+#[derive(Clone, Copy)]
+pub enum Ending {
+    Whole,
+    Longer,
+}
+
+// What a reading to the end brought: how many bytes stand at the buffer's front, and how it ended.
+#[derive(Clone, Copy)]
+pub struct Taken {
+    pub ending: Ending,
+    pub n: usize,
+}
 
 // What was read of a file: how many bytes stand at the buffer's front, and which file it was. Of a longer one the buffer is full.
 // It is a count, as std's `read` answers, and no slice, so that the caller may fill the buffer again.
@@ -47,30 +61,53 @@ fn read_from<R: Read>(source: &mut R, buf: &mut [u8], n: usize) -> Result<Option
     meaning(source.read(&mut buf[n..]).map_err(Errno::from), room)
 }
 
-// Reads to the end, or until the buffer is full; answers how many bytes that were.
-pub fn read_all<R: Read>(source: &mut R, buf: &mut [u8]) -> Result<usize, Errno>
-    ensures { IfOk result (λ n. IsPrefixLen n buf.new) }
+// What one more read says of a file that has filled its buffer: more stands after it, or the file is whole.
+fn ending_of(more: Option<usize>) -> Ending
+    ensures { result ≡ ending_of more }
+{
+    match more {
+        Some(_) => Ending::Longer,
+        None => Ending::Whole,
+    }
+}
+
+// Reads to the end, or until the buffer is full and one read more has told whether the file is longer.
+pub fn read_all<R: Read>(source: &mut R, buf: &mut [u8]) -> Result<Taken, Errno>
+    ensures { IfOk result (λ taken. IsPrefixLen taken.n buf.new) }
 {
     let mut n = 0;
     while n < buf.len() {
         match read_from(source, buf, n)? {
             Some(k) => n += k,
-            None => return Ok(n),
+            None => {
+                return Ok(Taken {
+                    ending: Ending::Whole,
+                    n,
+                });
+            }
         }
     }
-    // What stands behind a full buffer is one byte more, the end or a failure, and only the last matters.
-    read_from(source, &mut [0], 0)?;
-    Ok(n)
+    let more = read_from(source, &mut [0], 0)?;
+    Ok(Taken {
+        ending: ending_of(more),
+        n,
+    })
 }
 
-// What a reading that ended so is to a program: one that failed stops it, and a longer file does not.
-pub fn stop_of(ended: Result<usize, Errno>) -> Result<usize, Stop>
+// What a reading that ended so is to a program: one that failed stops it. A longer file does not, since its buffer has all that there is room for.
+pub fn stop_of(ended: Result<Taken, Errno>) -> Result<usize, Stop>
     ensures { result ≡ stop_of ended }
 {
-    ended.map_err(|error| Stop {
-        why: Why::Read,
-        error: Some(error),
-    })
+    match ended {
+        Ok(taken) => match taken.ending {
+            Ending::Whole => Ok(taken.n),
+            Ending::Longer => Ok(taken.n),
+        },
+        Err(error) => Err(Stop {
+            why: Why::Read,
+            error: Some(error),
+        }),
+    }
 }
 
 // What an open file reads, to its end, and which file it is.
