@@ -516,10 +516,13 @@ pub fn write(
 pub fn reset(c: Cartridge) -> Cartridge
     ensures { result ≡ reset_of c }
 {
+    // The tables go through variables: a count over a field in its place has the compiler lay the whole cartridge out first.
+    let mapping = c.initial_mapping;
+    let initial = c.initial_permissions;
     Cartridge {
-        mapping: c.initial_mapping,
-        permissions: c.initial_permissions,
-        readable: readable_of(&c.initial_permissions),
+        mapping,
+        permissions: initial,
+        readable: readable_of(&initial),
         jlp: jlp::reset(c.jlp),
         ..c
     }

@@ -50,14 +50,20 @@ fn state_of(c: Cartridge) -> State
 fn cartridge_from(s: State) -> Cartridge
     ensures { result ≡ cartridge_from s }
 {
+    let initial_mapping = s.initial_mapping;
+    let initial_permissions = s.initial_permissions;
+    let mapping = s.mapping;
+    let permissions = s.permissions;
+    let flips = s.flips;
+    let words = s.accelerators;
     Cartridge {
-        initial_mapping: s.initial_mapping,
-        initial_permissions: s.initial_permissions,
-        mapping: s.mapping,
-        permissions: s.permissions,
-        flips: s.flips,
+        initial_mapping,
+        initial_permissions,
+        mapping,
+        permissions,
+        flips,
         readable: s.readable,
-        jlp: jlp_from(&s.accelerators),
+        jlp: jlp_from(&words),
     }
 }
 
@@ -79,13 +85,10 @@ pub extern "C" fn luigi_state<'a>(
 pub extern "C" fn luigi_read_by_value(state: State, ram: &[u16], at: u16) -> u32
     ensures { result ≡ heard (read_of (cartridge_from state) ram.now (console at)) }
 {
-    direct::read(
-        &state.mapping,
-        &state.permissions,
-        &state.accelerators,
-        ram,
-        Console(at),
-    )
+    let mapping = state.mapping;
+    let permissions = state.permissions;
+    let accelerators = state.accelerators;
+    direct::read(&mapping, &permissions, &accelerators, ram, Console(at))
 }
 
 // The state that a write leaves, and how many mapping entries it has assigned.
@@ -129,12 +132,13 @@ pub extern "C" fn luigi_write_by_value(
 {
     let mut m = state.mapping;
     let mut p = state.permissions;
+    let flips = state.flips;
     let mut readable = state.readable;
     let mut words = state.accelerators;
     let assigned = direct::write(
         &mut m,
         &mut p,
-        &state.flips,
+        &flips,
         &mut readable,
         &mut words,
         ram,
