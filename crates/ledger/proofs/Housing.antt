@@ -8,9 +8,9 @@ use native.Mathlib.Omega.{arith}
 use native.Mathlib.Numerals.{add-one}
 use lib.Dec.{eqb}
 use lib.ListN.{get_or}
-use borrow.Author.Tests.{eq-eqb, ne_eqb}
-use Rattle.basics.specs.Counts.{any, count}
-use Rattle.basics.specs.Laws.Counts.{any_miss, any_missed, any_of, count_last}
+use Rattle.basics.specs.Counts.{count}
+use Rattle.basics.specs.Laws.Counts.{count_last}
+use Rattle.basics.specs.Laws.Joined.{Somewhere, somewhere_all}
 use Rattle.places.specs.Limits.{chapter_pages, chapter_paragraphs, chapters, layers, page_paragraphs, paragraph_size}
 use Rattle.switches.specs.Flips.{first_k}
 use Rattle.plan.specs.Image.{base, holds_ram, page_at, ram_covered_of, size}
@@ -23,17 +23,10 @@ use Rattle.ledger.specs.Held.{plan_in}
 abbrev pub plain : List ℕ → ℕ → ℕ → Bool
 plain ks x i = not (eqb (get_or ks (chapter_paragraphs * x + i) 0) 0)
 
-module _ (ks : List ℕ) (ps : List Bool) (x k : ℕ) where
-  pub plains_one : k < chapter_paragraphs → (get_or ks (chapter_paragraphs * x + k) 0 ≡ 0 → ⊥) → true ≡ has_plain (plan_in ks ps x)
-  unfolding has_plain
-  plains_one h n = sym (any_of chapter_paragraphs (plain ks x) k h (rw (ne_eqb (get_or ks (chapter_paragraphs * x + k) 0) 0 n)))
-
-  pub plains_miss : any k (plain ks x) ≡ false → get_or ks (chapter_paragraphs * x + k) 0 ≡ 0 → any (k + 1) (plain ks x) ≡ false
-  plains_miss c e = any_miss (plain ks x) k c (rw e)
-
-  pub plains_none : any k (plain ks x) ≡ false → k ≤ chapter_paragraphs → chapter_paragraphs ≤ k → false ≡ has_plain (plan_in ks ps x)
-  unfolding has_plain
-  plains_none c u h = any_missed (plain ks x) chapter_paragraphs k u h c
+pub plains_all : (ks : List ℕ) (ps : List Bool) (x : ℕ) (r : Bool) (k : ℕ) → Somewhere chapter_paragraphs (plain ks x) k r → chapter_paragraphs ≤ k
+    → r ≡ has_plain (plan_in ks ps x)
+unfolding has_plain
+plains_all ks ps x r k c h = somewhere_all chapter_paragraphs (plain ks x) k r c h
 
 -- a flag as a number
 byte_is : (b : Bool) → (bool_byte b ≡ cond b 1 0) × (bool_byte b ≤ 1)
@@ -104,19 +97,10 @@ module _ (ks : List ℕ) (ps : List Bool) (p : ℕ) where
   abbrev pub ram_in : ℕ → Bool
   ram_in x = holds_ram (plan_in ks ps x) (base (plan_in ks ps) x) p
 
-  module _ (x : ℕ) (k : Bool) (ek : k ≡ is_ram_kind (get_or ks (16 * x + p % 16) 0)) where
-    pub ram_by_place : k ≡ true → (b : ℕ) → b ≡ base (plan_in ks ps) x → eqb (p / chapter_paragraphs) b ≡ ram_in x
-    unfolding holds_ram
-    ram_by_place h b eb = rw (← eb, ← ek, h) (sym (and_same (eqb (p / chapter_paragraphs) b)))
-      where
-        and_same : (a : Bool) → (a && true) ≡ a
-        and_same true = refl
-        and_same false = refl
+  pub ram_in_lem : (x b : ℕ) (k r : Bool) → b ≡ base (plan_in ks ps) x → k ≡ is_ram_kind (get_or ks (16 * x + p % 16) 0) → r ≡ (eqb (p / 16) b && k)
+      → r ≡ ram_in x
+  unfolding holds_ram
+  ram_in_lem x b k r eb ek er = er ∙ rw (eb, ek)
 
-    pub ram_other : k ≡ false → false ≡ ram_in x
-    unfolding holds_ram
-    ram_other h = rw (← ek, h) (sym (none (eqb (p / chapter_paragraphs) (base (plan_in ks ps) x))))
-      where
-        none : (a : Bool) → (a && false) ≡ false
-        none true = refl
-        none false = refl
+  pub rams_all : (r : Bool) (x : ℕ) → Somewhere chapters ram_in x r → chapters ≤ x → r ≡ ram_covered_of (plan_in ks ps) p
+  rams_all r x c h = somewhere_all chapters ram_in x r c h

@@ -19,13 +19,13 @@ impl Sketch {
         requires { x < chapters }
         ensures { result ≡ has_plain (sketched self.now x) }
     {
-        // A chain here, and one in `pages_below`, made an image's way back to its BIN several times slower.
+        // A chain here, and one in `pages_below`, made an image's way back to its BIN several times slower. All sixteen kinds are looked at, since a
+        // way out at the first that is plain keeps the compiler from looking at them together.
+        let mut plain = false;
         for k in 0..CHAPTER_PARAGRAPHS {
-            if self.kinds[CHAPTER_PARAGRAPHS * x + k] != 0 {
-                return true;
-            }
+            plain = (self.kinds[CHAPTER_PARAGRAPHS * x + k] != 0) | plain;
         }
-        false
+        plain
     }
 
     // Returns how many pages chapter x has below page y.
@@ -86,15 +86,20 @@ impl Sketch {
         requires { x < chapters }
         ensures { result ≡ holds_ram (sketched self.now x) (base (sketched self.now) x) p }
     {
-        // The kind comes first, as it is found much faster.
-        is_ram_kind(self.kinds[CHAPTER_PARAGRAPHS * x + p % CHAPTER_PARAGRAPHS])
-            && p / CHAPTER_PARAGRAPHS == self.base_of(x)
+        // Both tests are made: the base is the same for all paragraphs, so the compiler finds it once for those that are asked one after the other.
+        let base = self.base_of(x);
+        (p / CHAPTER_PARAGRAPHS == base)
+            & is_ram_kind(self.kinds[CHAPTER_PARAGRAPHS * x + p % CHAPTER_PARAGRAPHS])
     }
 
     // Whether Locutus paragraph p holds RAM of some chapter.
     pub fn holds_ram(&self, p: usize) -> bool
         ensures { result ≡ ram_covered_of (sketched self.now) p }
     {
-        (0..CHAPTERS).any(|x| self.in_ram(x, p))
+        let mut held = false;
+        for x in 0..CHAPTERS {
+            held = self.in_ram(x, p) | held;
+        }
+        held
     }
 }

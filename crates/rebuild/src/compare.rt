@@ -17,7 +17,12 @@ fn is_unnamed(zeros: &[u16], ones: &[u16], p: usize) -> bool
     requires { p < locutus_paragraphs }
     ensures { result ≡ unnamed_in zeros.now ones.now p }
 {
-    (PARAGRAPH_SIZE * p..PARAGRAPH_SIZE * (p + 1)).all(|at| word_of(zeros, at) != word_of(ones, at))
+    let mut unnamed = true;
+    for i in 0..PARAGRAPH_SIZE {
+        let at = PARAGRAPH_SIZE * p + i;
+        unnamed = (word_of(zeros, at) != word_of(ones, at)) & unnamed;
+    }
+    unnamed
 }
 
 // The words that are named are those of the drawn paragraphs, where it is known which paragraphs are named: a paragraph that is drawn is named, whole;
@@ -45,7 +50,11 @@ fn is_blank(ram: &[u16], p: usize) -> bool
     requires { p < locutus_paragraphs }
     ensures { result ≡ blank_in (words_in ram.now) p }
 {
-    (PARAGRAPH_SIZE * p..PARAGRAPH_SIZE * (p + 1)).all(|at| word_of(ram, at) == 0)
+    let mut blank = true;
+    for i in 0..PARAGRAPH_SIZE {
+        blank = (word_of(ram, PARAGRAPH_SIZE * p + i) == 0) & blank;
+    }
+    blank
 }
 
 // The plan's RAM is all zeros: a paragraph is not the plan's RAM, or it is blank.

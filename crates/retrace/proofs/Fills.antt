@@ -2,10 +2,13 @@
 use Prim.Native.Nat.{◌%◌, ◌*◌, ◌+◌, ◌/◌, ◌<◌, ◌≤◌, ℕ}
 use mathlib.Core.List.{List, []}
 use mathlib.Core.Path.{◌∙◌, ◌≡◌, ap, refl}
-use mathlib.Core.Bool.{Bool, false}
+use mathlib.Core.Bool.{Bool, ◌&&◌, false, true}
 use native.Mathlib.Omega.{arith}
 use native.Mathlib.Numerals.{add-one}
+use lib.Dec.{eqb}
 use lib.ListN.{get_or, length, length-replicate, replicate, set}
+use Rattle.basics.specs.Counts.{all}
+use Rattle.basics.specs.Laws.Counts.{all_more, all_none}
 use Rattle.basics.specs.Laws.Tables.{Filled, filled_all, filled_more, filled_none, get_d_table}
 use Rattle.basics.specs.Tables.{table}
 use Rattle.places.specs.Limits.{chapters, flip_entries, layers, paragraphs, slots}
@@ -13,6 +16,7 @@ use Rattle.tables.specs.Tables.{tables}
 use Rattle.plan.specs.Image.{size}
 use Rattle.plan.specs.Plan.{Chapter, has_page, kinds}
 use Rattle.behind.specs.Behind.{base_behind}
+use Rattle.retrace.specs.Code.Named.{named_in, word_named}
 use Rattle.retrace.specs.Code.Shown.{chapter_of, marked_in, plan_from, shown_at, shown_behind, sketch_of}
 use Rattle.retrace.specs.Laws.Behind.{chapter_behind_lem}
 use Rattle.retrace.specs.declared.row.Shown.{Shown}
@@ -77,3 +81,20 @@ module _ (ps fs : List ℕ) (ms : List Bool) where
   pub sketch_is : (ks : List ℕ) (gs : List Bool) → ks ≡ table paragraphs (kinds (plan_from ps fs ms)) → gs ≡ table flip_entries (has_page (plan_from ps fs ms))
       → ◌≡◌ {A = Sketch} (record { kinds = ks; pages = gs }) (sketch_of (plan_from ps fs ms))
   sketch_is ks gs ek eg = rw (ek, eg)
+
+-- the words of a paragraph, of which the first i were looked at
+module _ (zs os : List ℕ) where
+  pub record Words (p : ℕ) (r : Bool) (i : ℕ) : Type 0 where
+    pub up : i ≤ 256
+    pub is : r ≡ all i (λ j. word_named zs os (256 * p + j))
+
+  pub words_none : (p : ℕ) → Words p true 0
+  words_none p = record { up = omega arith; is = all_none (λ j. word_named zs os (256 * p + j)) }
+
+  pub words_more : (p : ℕ) (r : Bool) (i : ℕ) (v : Bool) (a b : ℕ) → Words p r i → i < 256 → a ≡ get_or zs (256 * p + i) 0 → b ≡ get_or os (256 * p + i) 0
+      → v ≡ (eqb a b && r) → Words p v (i + 1)
+  words_more p r i v a b c h ea eb ev =
+      record { up = omega arith; is = all_more (λ j. word_named zs os (256 * p + j)) i (eqb a b) r v c.is (rw (ea, eb)) ev }
+
+  pub words_all : (p : ℕ) (r : Bool) (i : ℕ) → Words p r i → 256 ≤ i → r ≡ named_in zs os p
+  words_all p r i c h = let z : i ≡ 256 = omega (arith, c.up) in c.is ∙ ap (λ (m : ℕ). all m (λ j. word_named zs os (256 * p + j))) z

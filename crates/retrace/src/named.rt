@@ -8,12 +8,18 @@ use ledger::word_of;
 use places::{LOCUTUS_PARAGRAPHS, PARAGRAPH_SIZE};
 use std::array;
 
-// All words of paragraph p are named.
+// All words of paragraph p are named. Each is looked at, here and in `rebuild::is_unnamed` and `is_blank`: a way out at the first that differs keeps the
+// compiler from comparing several at once.
 fn is_named(zeros: &[u16], ones: &[u16], p: usize) -> bool
     requires { p < locutus_paragraphs }
     ensures { result ≡ named_in zeros.now ones.now p }
 {
-    (PARAGRAPH_SIZE * p..PARAGRAPH_SIZE * (p + 1)).all(|at| word_of(zeros, at) == word_of(ones, at))
+    let mut named = true;
+    for i in 0..PARAGRAPH_SIZE {
+        let at = PARAGRAPH_SIZE * p + i;
+        named = (word_of(zeros, at) == word_of(ones, at)) & named;
+    }
+    named
 }
 
 // A mark for each Locutus paragraph that is named.

@@ -1,11 +1,14 @@
--- `ledger::Sketch::holds_ram` meets its contract.
-use Rattle.std.proofs.Common.{rules, arith, refl}
-use Rattle.std.proofs.lemmas.Iterator.{YieldsList-from_range}
-use Rattle.basics.specs.Laws.Ranges.{any_below}
-use Rattle.ledger.proofs.Housing.{ram_in}
+-- `ledger::Sketch::holds_ram` meets its contract. The loop's invariant: it is known whether one of the first x chapters has RAM there.
+use borrow.Author.Rules.{rules}
+use Rattle.basics.specs.Laws.Joined.{somewhere_none, somewhere_by}
+use Rattle.ledger.proofs.Housing.{rams_all}
 use Rattle.ledger.proofs.Sketch.holds_ram.Goals as goal
 
+pub loop-x-init : goal.loop-x-init
+loop-x-init c = search (rules, somewhere_none)
+
+pub loop-x-preserved : goal.loop-x-preserved
+loop-x-preserved c = search (rules, somewhere_by)
+
 pub returns : goal.returns
-returns c =
-    any_below (ram_in c.args.self.now.kinds c.args.self.now.pages c.args.p) _ _ _ c.any.ensures.ran (YieldsList-from_range 0 _ 16 refl (omega arith))
-    (λ x b q k. search rules)
+returns c = search (rules, rams_all)

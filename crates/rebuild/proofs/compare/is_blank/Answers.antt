@@ -1,12 +1,14 @@
--- `rebuild::compare::is_blank` meets its contract.
-use Rattle.std.proofs.Common.{rules, arith, refl}
-use Rattle.std.proofs.lemmas.Iterator.{YieldsList-from_range}
-use Rattle.std.specs.Prelude.{eqb}
-use Rattle.basics.specs.Laws.Ranges.{all_from_range}
-use Rattle.ledger.specs.Held.{words_in}
+-- `rebuild::compare::is_blank` meets its contract. The loop's invariant: it is known whether the first i words are zeros.
+use borrow.Author.Rules.{rules}
+use Rattle.basics.specs.Laws.Joined.{everywhere_none, everywhere_by, everywhere_all}
+use Rattle.rebuild.proofs.Loops.{blank_is}
 use Rattle.rebuild.proofs.compare.is_blank.Goals as goal
 
+pub loop-i-init : goal.loop-i-init
+loop-i-init c = search (rules, everywhere_none)
+
+pub loop-i-preserved : goal.loop-i-preserved
+loop-i-preserved c = search (rules, everywhere_by, blank_is)
+
 pub returns : goal.returns
-returns c =
-    all_from_range (λ at. eqb (words_in c.args.ram.now at) 0) _ _ _ _ c.all.ensures.ran (YieldsList-from_range _ _ 256 refl (omega arith))
-    (λ x b q k. search rules)
+returns c = search (rules, everywhere_all)

@@ -1,12 +1,13 @@
--- `rebuild::compare::is_unnamed` meets its contract: its closure asks `word_named`.
-use Rattle.std.proofs.Common.{rules, arith, refl}
-use Rattle.std.proofs.lemmas.Iterator.{YieldsList-from_range}
-use Rattle.std.specs.Prelude.{not}
-use Rattle.basics.specs.Laws.Ranges.{all_from_range}
-use Rattle.retrace.specs.Code.Named.{word_named}
+-- `rebuild::compare::is_unnamed` meets its contract. The loop's invariant: it is known whether none of the first i words is named.
+use borrow.Author.Rules.{rules}
+use Rattle.rebuild.proofs.Loops.{unnamed_none, unnamed_more, unnamed_all}
 use Rattle.rebuild.proofs.compare.is_unnamed.Goals as goal
 
+pub loop-i-init : goal.loop-i-init
+loop-i-init c = search (rules, unnamed_none)
+
+pub loop-i-preserved : goal.loop-i-preserved
+loop-i-preserved c = search (rules, unnamed_more)
+
 pub returns : goal.returns
-returns c =
-    all_from_range (λ at. not (word_named c.args.zeros.now c.args.ones.now at)) _ _ _ _ c.all.ensures.ran
-    (YieldsList-from_range _ _ 256 refl (omega arith)) (λ x b q k. search rules)
+returns c = search (rules, unnamed_all)

@@ -1,11 +1,13 @@
--- `retrace::named::is_named` meets its contract: its closure asks `word_named`.
-use Rattle.std.proofs.Common.{rules, arith, refl}
-use Rattle.std.proofs.lemmas.Iterator.{YieldsList-from_range}
-use Rattle.basics.specs.Laws.Ranges.{all_from_range}
-use Rattle.retrace.specs.Code.Named.{word_named}
+-- `retrace::named::is_named` meets its contract. The loop's invariant: it is known whether the first i words are named.
+use borrow.Author.Rules.{rules}
+use Rattle.retrace.proofs.Fills.{words_none, words_more, words_all}
 use Rattle.retrace.proofs.named.is_named.Goals as goal
 
+pub loop-i-init : goal.loop-i-init
+loop-i-init c = search (rules, words_none)
+
+pub loop-i-preserved : goal.loop-i-preserved
+loop-i-preserved c = search (rules, words_more)
+
 pub returns : goal.returns
-returns c =
-    all_from_range (word_named c.args.zeros.now c.args.ones.now) _ _ _ _ c.all.ensures.ran (YieldsList-from_range _ _ 256 refl (omega arith))
-    (λ x b q k. search rules)
+returns c = search (rules, words_all)
