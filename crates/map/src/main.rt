@@ -9,6 +9,7 @@ ghost use Rattle.places.specs.Limits.{chapters};
 use cart::Cartridge;
 use chart::{Leaf, Shown};
 use files::{Argument, Failure};
+use load::Loaded;
 use places::{CHAPTER_PAGES, CHAPTER_PARAGRAPHS, CHAPTERS, FLIP_ENTRIES, IMAGE_LIMIT};
 use std::io;
 
@@ -125,14 +126,18 @@ fn show(rt: &HostRuntime, c: Cartridge, words: usize) -> io::Result<()> {
     println!(rt; "words={words}\njlp={field}\nflash={sectors}")
 }
 
-// Loads the image, with the flash that it asks for, and shows its map.
-fn map(rt: &HostRuntime, file: &mut [u8], ram: &mut [u16], flash: &[u16]) -> Result<(), Failure> {
+// Loads the image that is named, with the flash that it asks for. The compiler sets so small a function into `main`, where it sees that no word of
+// the RAM is asked for, and leaves the RAM out.
+fn load_named(
+    rt: &HostRuntime,
+    file: &mut [u8],
+    ram: &mut [u16],
+    flash: &[u16],
+) -> Result<Loaded, Failure> {
     let read = files::read_argument(rt, IMAGE, file)?;
     let image = &file[..read.n];
     let f = lending::flash_words(image, flash.len());
-    let loaded = load::load(image, ram, &flash[..f])?;
-    let _ = show(rt, loaded.cartridge, loaded.words);
-    Ok(())
+    Ok(load::load(image, ram, &flash[..f])?)
 }
 
 // There is room for one byte more than an image may have, so that a longer file is seen to be longer.
@@ -140,7 +145,8 @@ fn main(rt: HostRuntime) {
     let mut file: [u8; IMAGE_LIMIT + 1] = files::room(0);
     let mut ram = lending::blank_ram();
     let flash = lending::erased_flash();
-    if let Err(failure) = map(&rt, &mut file, &mut ram, &flash) {
-        let _ = rt.print(failure);
-    }
+    let _ = match load_named(&rt, &mut file, &mut ram, &flash) {
+        Ok(loaded) => show(&rt, loaded.cartridge, loaded.words),
+        Err(failure) => rt.print(failure),
+    };
 }
