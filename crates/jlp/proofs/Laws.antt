@@ -4,7 +4,9 @@ use mathlib.Core.Bool.{Bool, true, false, not, ◌&&◌}
 use mathlib.Core.Path.{◌≡◌, refl, sym, ◌∙◌}
 use native.Mathlib.Omega.{arith}
 use native.Mathlib.Nat.{mul-le-mul_left, le_of_lt}
-use lib.Bits.{bit_xor}
+use lib.Bits.{bit_xor, xor_lt}
+use Rattle.std.proofs.Common.{lit<}
+use Rattle.sums.specs.Laws.Crc.{bits_lt}
 use lib.Dec.{eqb, ltb}
 use borrow.Author.Tests.{eq-eqb, ne_eqb}
 use Rattle.basics.specs.Laws.Tests.{cases, not-true, not-false, true_is_not_false, and_false, or_right, cond_true}
@@ -73,10 +75,14 @@ pub divide_some : (s : Bool) (a b : ℕ) (old r : Results) (x y : Number)
 unfolding divided
 divide_some s a b old r x y h e f g = rw (ne_eqb _ _ h, ← e, ← f) g
 
--- all sixteen bits of a word have gone by
-pub word_done : (c w n x : ℕ) → n ≤ 16 → 16 ≤ n → x ≡ crc_bits jlp_poly n (bit_xor c w) → x ≡ crc_word c w
-unfolding crc_word
-word_done c w n x a b f = let e : n ≡ 16 = omega arith in rw e at f
+-- sixteen bits of the sum with the word merged in, which has sixteen bits
+module _ (c w p x r : ℕ) (e : p ≡ jlp_poly) (f : x ≡ bit_xor c w) (g : r ≡ crc_bits p 16 x) where
+  pub word_fits : c < 0x10000 → w < 0x10000 → r < 0x10000
+  word_fits h k = rw (g, e, f) (bits_lt jlp_poly 16 (lit< tt) 16 (bit_xor c w) (xor_lt 16 c w h k))
+
+  pub word_is : r ≡ crc_word c w
+  unfolding crc_word
+  word_is = rw (← e, ← f) g
 
 -- a function by its number: the four products, by which of their factors are signed, and the two quotients
 pub product_row : (n a b : ℕ) (old r : Results) → n < 4 → r ≡ multiplied (ltb n 2) (eqb (n % 2) 0) a b → r ≡ function_of n a b old

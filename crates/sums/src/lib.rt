@@ -17,13 +17,16 @@ pub const IEEE: u32 = 0xEDB8_8320;
 pub const TABLE_ENTRIES: usize = 2048;
 
 // One bit.
+#[inline(always)]
 fn bit(p: u32, c: u32) -> u32
     ensures { result ≡ crc_bit p c }
 {
     if c % 2 == 1 { (c >> 1) ^ p } else { c >> 1 }
 }
 
-// Returns what n bits make of the sum c.
+// Returns what n bits make of the sum c. This and `bit` are set into their callers, because the compiler makes a table of the loop only where it sees which
+// polynomial and how many bits it has, as in JLP's CRC.
+#[inline(always)]
 pub fn bits(p: u32, n: usize, c: u32) -> u32
     ensures { result ≡ crc_bits p n c }
 {

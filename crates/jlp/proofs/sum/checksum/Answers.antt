@@ -1,17 +1,10 @@
--- `jlp::sum::checksum` meets its contract. The invariant: x is what k bits make of the sum with the word merged in.
-use mathlib.Core.Path.{refl}
+-- `jlp::sum::checksum` meets its contract: sixteen bits of the sum with the word merged in.
 use borrow.Author.Rules.{rules}
-use Rattle.sums.specs.Crc.{crc_bits}
-use Rattle.sums.specs.Laws.Crc.{bits_next}
-use Rattle.jlp.proofs.Laws.{word_done}
+use Rattle.jlp.proofs.Laws.{word_fits, word_is}
 use Rattle.jlp.proofs.sum.checksum.Goals as goal
 
-pub loop-k-init : goal.loop-k-init
-unfolding crc_bits
-loop-k-init c = (search rules, refl)
-
-pub loop-k-preserved : goal.loop-k-preserved
-loop-k-preserved c = search (rules, bits_next)
+pub overflow_cast-result : goal.overflow_cast-result
+overflow_cast-result c = search (rules, word_fits)
 
 pub returns : goal.returns
-returns c = search (rules, word_done)
+returns c = search (rules, word_is)
