@@ -484,31 +484,33 @@ pub fn fresh(
     }
 }
 
-pub fn write(
-    mut c: Cartridge,
-    ram: &mut [u16],
-    flash: &mut [u16],
-    at: Console,
-    value: u16,
-) -> Written
+pub fn write(c: Cartridge, ram: &mut [u16], flash: &mut [u16], at: Console, value: u16) -> Written
     ensures { (result ≡ written_of c at value)
         × (ram.new ≡ write_ram_of c flash.old ram.old at value)
         × (flash.new ≡ write_flash_of c flash.old ram.old at value) }
 {
+    let mut mapping = c.mapping;
+    let mut permissions = c.permissions;
+    let mut readable = c.readable;
     let assigned = write_by(
-        &mut c.mapping,
-        &mut c.permissions,
+        &mut mapping,
+        &mut permissions,
         &c.flips,
-        &mut c.readable,
+        &mut readable,
         c.jlp,
         ram,
         flash,
         at,
         value,
     );
-    c.jlp = jlp::write(c.jlp, at, value);
     Written {
-        cartridge: c,
+        cartridge: Cartridge {
+            mapping,
+            permissions,
+            readable,
+            jlp: jlp::write(c.jlp, at, value),
+            ..c
+        },
         assigned,
     }
 }
