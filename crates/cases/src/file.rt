@@ -17,6 +17,9 @@ pub fn read_family(rt: &HostRuntime, name: &mut [u8], k: usize, file: &mut [u8])
             n: read.n,
             whole: read.n != file.len(),
         },
-        Err(_) => FileRead { n: 0, whole: false },
+        Err(broken) => FileRead {
+            n: broken.n,
+            whole: false,
+        },
     }
 }

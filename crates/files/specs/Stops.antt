@@ -4,6 +4,7 @@ use Rattle.files.specs.declared.errors.Errno.{Errno}
 use Rattle.files.specs.declared.errors.Stop.{Stop}
 use Rattle.files.specs.declared.errors.Why.{Why}
 use Rattle.files.specs.declared.errors.Why.TheVariants.{Read}
+use Rattle.files.specs.declared.reading.Broken.{Broken}
 use Rattle.files.specs.declared.reading.Ending.{Ending}
 use Rattle.files.specs.declared.reading.Ending.TheVariants.{Whole, Longer}
 use Rattle.files.specs.declared.reading.Taken.{Taken}
@@ -12,10 +13,10 @@ abbrev pub stop_by : Why → Errno → Stop
 stop_by why error = record { why = why; error = Some error }
 
 -- a reading that ended goes on with what it brought, of a whole file and of a longer one
-abbrev pub goes_on : Ending → ℕ → Result ℕ Stop
+abbrev pub goes_on : Ending → ℕ → Result ℕ (Broken Stop)
 goes_on Whole n = Ok n
 goes_on Longer n = Ok n
 
-abbrev pub stop_of : Result Taken Errno → Result ℕ Stop
+abbrev pub stop_of : Result Taken (Broken Errno) → Result ℕ (Broken Stop)
 stop_of (Ok taken) = goes_on taken.ending taken.n
-stop_of (Err error) = Err (stop_by Read error)
+stop_of (Err broken) = Err (record { error = stop_by Read broken.error; n = broken.n })

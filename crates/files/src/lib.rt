@@ -15,7 +15,8 @@ pub use arguments::Argument;
 pub use errors::{At, Errno, Failure, Stop, Stopped, Why};
 pub use names::{folder, is_name, part_name};
 pub use reading::{
-    Ending, Reading, Taken, meaning, read_all, read_argument, read_file, read_given, room, stop_of,
+    Broken, Ending, Reading, Taken, meaning, read_all, read_argument, read_file, read_given, room,
+    stop_of,
 };
 pub use rule::{is_input, kind_of, same_file, verdict};
 pub use saying::answer;

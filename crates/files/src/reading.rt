@@ -1,11 +1,11 @@
 // Reading a file whole: its end is told apart from an error, and a file that is longer than the buffer apart from both.
-ghost use Rattle.std.specs.Prelude.{◌+◌, ◌<◌, ◌≤◌, ◌≡◌, length, IfOk, IfSome};
+ghost use Rattle.std.specs.Prelude.{◌+◌, ◌<◌, ◌≤◌, ◌≡◌, length, Ok, Err, IfOk, IfErr, IfSome};
 ghost use Rattle.files.specs.Counts.{IsPrefixLen};
 ghost use Rattle.files.specs.Reads.{meaning_of, count_in, ending_of};
 ghost use Rattle.files.specs.Stops.{stop_of};
 
 use crate::arguments::Argument;
-use crate::errors::{At, Errno, Stop, Stopped, Why};
+use crate::errors::{At, Errno, Failure, Stop, Stopped, Why};
 use crate::names::PATH_MAX;
 use crate::sight::Seen;
 use crate::{names, sight};
@@ -33,6 +33,54 @@ pub struct Taken {
 pub struct Reading {
     pub n: usize,
     pub seen: Seen,
+}
+
+// A reading that failed: why, and how many bytes stand at the buffer's front all the same.
+#[derive(Clone, Copy)]
+pub struct Broken<E> {
+    pub error: E,
+    pub n: usize,
+}
+
+impl Broken<Stop> {
+    // The stop of a program at one of its files, which the desk knows by a word.
+    pub fn of(self, file: &'static str) -> Broken<Stopped>
+        ensures { result.n ≡ self.n }
+    {
+        Broken {
+            error: self.error.of(file),
+            n: self.n,
+        }
+    }
+}
+
+impl From<Broken<Stopped>> for Stopped {
+    fn from(broken: Broken<Stopped>) -> Stopped {
+        broken.error
+    }
+}
+
+impl From<Broken<Stopped>> for Failure {
+    fn from(broken: Broken<Stopped>) -> Failure {
+        Failure::Stopped(broken.error)
+    }
+}
+
+// What failed is said to have failed after so many bytes.
+trait After<T, E> {
+    fn after(self, n: usize) -> Result<T, Broken<E>>;
+}
+
+impl<T, E> After<T, E> for Result<T, E> {
+    fn after(self, n: usize) -> Result<T, Broken<E>>
+        ensures { (IfOk result (λ value. self ≡ Ok value))
+            × (IfErr result (λ broken. (self ≡ Err broken.error) × (broken.n ≡ n))) }
+    {
+        match self {
+            Ok(value) => Ok(value),
+            Err(error) => Err(Broken { error, n }),
+        }
+    }
 }
 
 // Room for N elements. Its length is known without counting them, which a proof about an array as long as a file must not do.
@@ -72,12 +120,13 @@ fn ending_of(more: Option<usize>) -> Ending
 }
 
 // Reads to the end, or until the buffer is full and one read more has told whether the file is longer.
-pub fn read_all<R: Read>(source: &mut R, buf: &mut [u8]) -> Result<Taken, Errno>
-    ensures { IfOk result (λ taken. IsPrefixLen taken.n buf.new) }
+pub fn read_all<R: Read>(source: &mut R, buf: &mut [u8]) -> Result<Taken, Broken<Errno>>
+    ensures { (IfOk result (λ taken. IsPrefixLen taken.n buf.new))
+        × (IfErr result (λ broken. IsPrefixLen broken.n buf.new)) }
 {
     let mut n = 0;
     while n < buf.len() {
-        match read_from(source, buf, n)? {
+        match read_from(source, buf, n).after(n)? {
             Some(k) => n += k,
             None => {
                 return Ok(Taken {
@@ -87,7 +136,7 @@ pub fn read_all<R: Read>(source: &mut R, buf: &mut [u8]) -> Result<Taken, Errno>
             }
         }
     }
-    let more = read_from(source, &mut [0], 0)?;
+    let more = read_from(source, &mut [0], 0).after(n)?;
     Ok(Taken {
         ending: ending_of(more),
         n,
@@ -95,7 +144,7 @@ pub fn read_all<R: Read>(source: &mut R, buf: &mut [u8]) -> Result<Taken, Errno>
 }
 
 // What a reading that ended so is to a program: one that failed stops it. A longer file does not, since its buffer has all that there is room for.
-pub fn stop_of(ended: Result<Taken, Errno>) -> Result<usize, Stop>
+pub fn stop_of(ended: Result<Taken, Broken<Errno>>) -> Result<usize, Broken<Stop>>
     ensures { result ≡ stop_of ended }
 {
     match ended {
@@ -103,18 +152,22 @@ pub fn stop_of(ended: Result<Taken, Errno>) -> Result<usize, Stop>
             Ending::Whole => Ok(taken.n),
             Ending::Longer => Ok(taken.n),
         },
-        Err(error) => Err(Stop {
-            why: Why::Read,
-            error: Some(error),
+        Err(broken) => Err(Broken {
+            error: Stop {
+                why: Why::Read,
+                error: Some(broken.error),
+            },
+            n: broken.n,
         }),
     }
 }
 
 // What an open file reads, to its end, and which file it is.
-fn read_open(file: &mut File, buf: &mut [u8]) -> Result<Reading, Stop>
-    ensures { IfOk result (λ reading. IsPrefixLen reading.n buf.new) }
+fn read_open(file: &mut File, buf: &mut [u8]) -> Result<Reading, Broken<Stop>>
+    ensures { (IfOk result (λ reading. IsPrefixLen reading.n buf.new))
+        × (IfErr result (λ broken. IsPrefixLen broken.n buf.new)) }
 {
-    let seen = sight::open_file(file).at(Why::Look)?;
+    let seen = sight::open_file(file).at(Why::Look).after(0)?;
     let n = stop_of(read_all(file, buf))?;
     Ok(Reading { n, seen })
 }
@@ -130,12 +183,16 @@ pub fn open(rt: &HostRuntime, name: &[u8]) -> Result<File, Errno> {
 }
 
 // The file of a name, at the front of a buffer.
-pub fn read_file(rt: &HostRuntime, name: &[u8], buf: &mut [u8]) -> Result<Reading, Stop>
-    ensures { IfOk result (λ reading. IsPrefixLen reading.n buf.new) }
+pub fn read_file(rt: &HostRuntime, name: &[u8], buf: &mut [u8]) -> Result<Reading, Broken<Stop>>
+    ensures { (IfOk result (λ reading. IsPrefixLen reading.n buf.new))
+        × (IfErr result (λ broken. IsPrefixLen broken.n buf.new)) }
 {
-    let mut file = open(rt, name).at(Why::Open)?;
+    let mut file = open(rt, name).at(Why::Open).after(0)?;
     if stands_in(&file) {
-        return Err(Stop::by_rule(Why::Closed));
+        return Err(Broken {
+            error: Stop::by_rule(Why::Closed),
+            n: 0,
+        });
     }
     read_open(&mut file, buf)
 }
@@ -145,12 +202,13 @@ pub fn read_argument(
     rt: &HostRuntime,
     argument: Argument,
     buf: &mut [u8],
-) -> Result<Reading, Stopped>
-    ensures { IfOk result (λ reading. IsPrefixLen reading.n buf.new) }
+) -> Result<Reading, Broken<Stopped>>
+    ensures { (IfOk result (λ reading. IsPrefixLen reading.n buf.new))
+        × (IfErr result (λ broken. IsPrefixLen broken.n buf.new)) }
 {
     let mut name = [0; PATH_MAX];
-    let k = argument.put(rt, &mut name)?;
-    read_file(rt, &name[..k], buf).map_err(|stop| stop.of(argument.word))
+    let k = argument.put(rt, &mut name).after(0)?;
+    read_file(rt, &name[..k], buf).map_err(|broken| broken.of(argument.word))
 }
 
 // The file that an argument names, where it is given.
@@ -158,8 +216,9 @@ pub fn read_given(
     rt: &HostRuntime,
     argument: Argument,
     buf: &mut [u8],
-) -> Result<Option<Reading>, Stopped>
-    ensures { IfOk result (λ given. IfSome given (λ reading. IsPrefixLen reading.n buf.new)) }
+) -> Result<Option<Reading>, Broken<Stopped>>
+    ensures { (IfOk result (λ given. IfSome given (λ reading. IsPrefixLen reading.n buf.new)))
+        × (IfErr result (λ broken. IsPrefixLen broken.n buf.new)) }
 {
     if !argument.is_given(rt) {
         return Ok(None);

@@ -5,7 +5,7 @@
 
 use basics::Refusal;
 use blocks::PAYLOAD_LIMIT;
-use files::{Argument, Failure, Seen, Stopped};
+use files::{Argument, Broken, Failure, Seen, Stopped};
 use places::{BIN_LIMIT, CFG_LIMIT, IMAGE_LIMIT};
 use std::fmt;
 
@@ -56,6 +56,12 @@ impl From<Stopped> for Unbuilt {
             failure: Failure::Stopped(stopped),
             with: None,
         }
+    }
+}
+
+impl From<Broken<Stopped>> for Unbuilt {
+    fn from(broken: Broken<Stopped>) -> Unbuilt {
+        Unbuilt::from(broken.error)
     }
 }
 

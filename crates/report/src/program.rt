@@ -15,7 +15,7 @@ impl fmt::Display for Counts {
 fn load(rt: &HostRuntime) -> Result<Counts, Failure> {
     let mut file: [u8; CARD_LIMIT + 1] = files::room(0);
     let mut ram: [u16; CARD_WORDS] = files::room(0);
-    let n = files::stop_of(files::read_all(&mut rt.stdin(), &mut file)).map_err(|stop| stop.of(
+    let n = files::stop_of(files::read_all(&mut rt.stdin(), &mut file)).map_err(|broken| broken.of(
         "IMAGE",
     ))?;
     Ok(crate::answer(&file[..n], &mut ram)?)
