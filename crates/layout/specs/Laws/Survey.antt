@@ -110,3 +110,24 @@ surveyed all ls o v u p d r w ev eu ep ed er few small within =
 
     used_are : u ≡ table slots (used ls)
     used_are = eu ∙ table_same false slots (λ s. used_in o (s / layers) (s % layers)) (used ls) (λ s h. used_by w s h)
+
+-- the same where only the arrays are told: what a survey's type asks for follows from the numbering
+pub surveyed_alone :
+    (all ls : List Line) (o v : List ℕ) (u p d : List Bool) (r : Numbered) → Cells all ls o → v ≡ table paragraphs (kind_in all o)
+    → u ≡ table slots (λ s. used_in o (s / layers) (s % layers)) → p ≡ table chapters (paged_in u) → d ≡ table chapters (under_in v)
+    → (e : r ≡ numbered_of u) → Surveyed all ls
+    (record {
+      cells = o;
+      kinds = v;
+      used = u;
+      paged = p;
+      under = d;
+      page = r.page;
+      slot = r.slot;
+      pages = r.pages;
+      few = numbered_few u r e;
+      small = numbered_small u r e;
+      within = numbered_within u r e;
+    })
+surveyed_alone all ls o v u p d r w ev eu ep ed e =
+    surveyed all ls o v u p d r w ev eu ep ed e (numbered_few u r e) (numbered_small u r e) (numbered_within u r e)
