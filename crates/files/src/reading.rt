@@ -43,7 +43,7 @@ pub struct Broken<E> {
 }
 
 impl Broken<Stop> {
-    // The stop of a program at one of its files, which the desk knows by a word.
+    // The same failure, as the stop of a program at one of its files, which the desk knows by a word.
     pub fn of(self, file: &'static str) -> Broken<Stopped>
         ensures { result.n ≡ self.n }
     {
@@ -66,7 +66,7 @@ impl From<Broken<Stopped>> for Failure {
     }
 }
 
-// What failed is said to have failed after so many bytes.
+// Adds to a failure how many bytes the reading had brought by then.
 trait After<T, E> {
     fn after(self, n: usize) -> Result<T, Broken<E>>;
 }
